@@ -1,0 +1,32 @@
+-- The calls that are made of an object in memory.
+use Rattle.std.specs.Prelude.{ℕ, ◌+◌, ◌-◌, ◌^◌, ◌==◌, Bool, List, min, if◌then◌else◌}
+use Rattle.std.specs.List.{list_any}
+
+-- The numbers, from 0, of the calls that fail, how many calls were made, and how many faults were counted.
+pub record Calls : Type 0 where
+  pub failing : List ℕ
+  pub made : ℕ
+  pub faults : ℕ
+
+-- one more, where the count doesn't stand at its type's end
+abbrev pub one_more : ℕ → ℕ
+one_more n = min (n + 1) (2 ^ 64 - 1)
+
+-- the next call is among those that fail
+abbrev pub next_fails : Calls → Bool
+next_fails calls = list_any (λ number. number == calls.made) calls.failing
+
+-- after one more call, which failed or didn't
+abbrev pub called : Bool → Calls → Calls
+called failed calls = record calls {
+  made = one_more calls.made;
+  faults = if failed then one_more calls.faults else calls.faults;
+}
+
+-- after an object with so many faults was given back
+abbrev pub took_back : ℕ → Calls → Calls
+took_back faults calls = record calls { faults = if faults == 0 then calls.faults else one_more calls.faults }
+
+-- no call was made, and these will fail
+abbrev pub uncalled : List ℕ → Calls
+uncalled failing = record { failing = failing; made = 0; faults = 0 }

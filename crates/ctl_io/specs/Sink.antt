@@ -1,0 +1,29 @@
+-- What a sink was given.
+use Rattle.std.specs.Prelude.{◌≡◌, IfSome, ℕ, [], ◌<◌, ◌≤◌, List, ◌++◌, length, take, Option, Some, None}
+use Rattle.ctl_io.specs.declared.sink.Write.{Write}
+use Rattle.ctl_io.specs.declared.sink.Write.TheVariants.{Took, Failed}
+
+-- how many bytes a write appended
+abbrev pub took : Write → ℕ
+took (Took n) = n
+took Failed = 0
+
+-- A write that takes bytes takes at least one, and no more than it was given.
+abbrev pub IsWithin : Write → ℕ → Type 0
+IsWithin (Took n) given = (0 < n) × (n ≤ given)
+IsWithin Failed given = Unit {0}
+
+-- what a sink tells that it was given, with these bytes behind it
+abbrev pub appended : Option (List ℕ) → List ℕ → Option (List ℕ)
+appended None bytes = None
+appended (Some before) bytes = Some (before ++ bytes)
+
+-- Where a sink tells what it was given, that is nothing.
+abbrev pub IsEmpty : Option (List ℕ) → Type 0
+IsEmpty written = IfSome written (λ all. all ≡ [])
+
+-- A front of the bytes was appended that is shorter than they are.
+pub record AppendsPart (bytes : List ℕ) (before now : Option (List ℕ)) : Type 0 where
+  pub count : ℕ
+  pub shorter : count < length bytes
+  pub appends : now ≡ appended before (take count bytes)

@@ -1,0 +1,15 @@
+//! Objects in memory: they tell their bytes, and fail at the calls that their lists name.
+
+mod calls;
+mod dropped;
+mod mem_files;
+mod mem_sink;
+mod mem_source;
+mod named;
+mod named_source;
+
+pub use dropped::Dropped;
+pub use mem_files::MemFiles;
+pub use mem_sink::MemSink;
+pub use mem_source::MemSource;
+pub use named_source::NamedSource;

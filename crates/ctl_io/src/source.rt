@@ -1,0 +1,33 @@
+ghost use Rattle.std.specs.Prelude.{◌≡◌, ◌<◌, ℕ, List, Option, length};
+ghost use Rattle.ctl_io.specs.Faults.{Rose, IsCount};
+ghost use Rattle.ctl_io.specs.Source.{IsWithin, AreNext, IsAtEnd, got, behind};
+
+/// What a read answers.
+#[derive(Clone, Copy, Debug, PartialEq, Eq)]
+pub enum Read {
+    /// So many bytes were given, at least one.
+    Got(usize),
+    /// Nothing is left.
+    End,
+    /// The read failed and gave nothing.
+    Failed,
+}
+
+/// Bytes that come from outside, in order.
+pub trait Source {
+    /// The bytes that are left, where the source tells them.
+    ghost left: { Self → Option (List ℕ) };
+
+    /// How often a read failed. Only the source's own calls raise it.
+    ghost faults: { Self → ℕ };
+
+    /// Reads the next bytes into the front of `into`, which isn't empty.
+    fn read(&mut self, into: &mut [u8]) -> Read
+        requires { 0 < length into.old }
+        ensures within { IsWithin result (length into.old) }
+        ensures bytes { AreNext (got result) into.new (left self.old) }
+        ensures left { left self.new ≡ behind (got result) (left self.old) }
+        ensures end { result ≡ Read.End → IsAtEnd (left self.old) }
+        ensures failed { result ≡ Read.Failed → Rose (faults self.old) (faults self.new) }
+        ensures count { IsCount (faults self.old) (faults self.new) };
+}

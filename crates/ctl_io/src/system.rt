@@ -1,0 +1,11 @@
+//! The adapters over the operating system: they tell no bytes, and count each error.
+
+mod file_sink;
+mod file_source;
+mod std_files;
+mod std_out;
+
+pub use file_sink::FileSink;
+pub use file_source::FileSource;
+pub use std_files::StdFiles;
+pub use std_out::StdOut;
