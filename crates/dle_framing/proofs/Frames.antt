@@ -1,0 +1,132 @@
+-- A frame spells one body, a good body is that of some DATA, and how long a frame is.
+use Rattle.std.proofs.Common.{◌≡◌, ℕ, zero, suc, ◌+◌, ◌-◌, ◌*◌, ◌%◌, ◌≤◌, ◌<◌, true, List, [], ◌∷◌, ◌++◌, length, take, drop, sum, get_or, refl, sym, ap, ◌∙◌, subst, arith}
+use Rattle.std.proofs.lemmas.Bool.{and_parts, and_from, leb-true, le-leb, eqb-true, eq-eqb}
+use Rattle.std.proofs.lemmas.List.{length-append, length_push, length-take-le, take_all, take_at, take_more, take-append-le, get_or_at, get_or_append_left, same_from_push}
+use Rattle.std.proofs.lemmas.List.Sums.{sum_by_push}
+use Rattle.dle_framing.specs.Frame.{IsData, doubled, check_byte, counted, body, enclosed, frame}
+use Rattle.dle_framing.specs.Items.{Run, longest_run, is_good}
+use Rattle.dle_framing.specs.declared.control.TheConstants.{DLE, STX, ETX, MIN_BODY, MAX_BODY}
+use Rattle.dle_framing.proofs.Runs.{at_byte, doubled-byte, doubled-longest_run, body-enclosed}
+
+-- one body has a text
+pub one_body : (a b : List ℕ) → enclosed a ≡ enclosed b → a ≡ b
+one_body a b same = sym (ap (λ (run : Run). run.spelled) (body-enclosed a)) ∙ ap (λ (text : List ℕ). (longest_run (drop 2 text)).spelled) same ∙ ap (λ (run : Run). run.spelled) (body-enclosed b)
+
+-- Two DATA with one frame are equal.
+pub one_frame : (a b : List ℕ) → frame a ≡ frame b → a ≡ b
+one_frame a b same = (same_from_push a b _ _ (same_from_push (counted a) (counted b) _ _ (one_body (body a) (body b) same)).0).0
+
+pub length-doubled : (bytes : List ℕ) → length (doubled bytes) ≤ 2 * length bytes
+length-doubled [] = omega arith
+length-doubled (a ∷ bytes) =
+    at_byte DLE (λ a. length (doubled (a ∷ bytes)) ≤ 2 * length (a ∷ bytes)) a
+    (omega (arith, length-doubled bytes))
+    (λ h. omega (arith, length-doubled bytes, ap (length {A = ℕ}) (doubled-byte a bytes h)))
+
+pub length-body : (bytes : List ℕ) → length (body bytes) ≡ length bytes + 2
+length-body bytes = omega (arith, length_push (counted bytes) (check_byte (counted bytes)), length_push bytes (length bytes))
+
+-- the room that a frame wants at most
+pub length-frame : (bytes : List ℕ) → length (frame bytes) ≤ 2 * length bytes + 8
+length-frame bytes = omega (arith, length-append (doubled (body bytes)) (DLE ∷ ETX ∷ []), length-doubled (body bytes), length-body bytes)
+
+sum-push : (bytes : List ℕ) (byte : ℕ) → sum (bytes ++ byte ∷ []) ≡ sum bytes + byte
+sum-push bytes byte = sum_by_push (λ x. x) bytes byte
+
+-- The body of DATA has their bytes in front, and then their length.
+pub data-body : (bytes : List ℕ) → take (length (body bytes) - 2) (body bytes) ≡ bytes
+data-body bytes =
+    let count : length (body bytes) - 2 ≡ length bytes = omega (arith, length-body bytes) in
+    ap (λ (n : ℕ). take n (body bytes)) count
+    ∙ take-append-le (length bytes) (counted bytes) (check_byte (counted bytes) ∷ []) (omega (arith, length_push bytes (length bytes)))
+    ∙ take_at bytes (length bytes ∷ []) (length bytes) refl
+
+count-body : (bytes : List ℕ) → get_or (body bytes) (length (body bytes) - 2) 0 ≡ length (body bytes) - 2
+count-body bytes =
+    let count : length (body bytes) - 2 ≡ length bytes = omega (arith, length-body bytes) in
+    ap (λ (n : ℕ). get_or (body bytes) n 0) count
+    ∙ get_or_append_left (counted bytes) (check_byte (counted bytes) ∷ []) 0 (length bytes) (omega (arith, length_push bytes (length bytes)))
+    ∙ get_or_at bytes (length bytes) [] 0 (length bytes) refl
+    ∙ sym count
+
+sum-body : (bytes : List ℕ) → sum (body bytes) % 256 ≡ 0
+sum-body bytes = omega (arith, sum-push (counted bytes) (check_byte (counted bytes)))
+
+-- the body of DATA is good
+pub good-body : (bytes : List ℕ) → IsData bytes → is_good (body bytes) ≡ true
+good-body bytes is_data =
+    and_from _ _
+    (and_from _ _
+    (and_from _ _ (le-leb MIN_BODY (length (body bytes)) (omega (arith, length-body bytes, is_data.0))) (le-leb (length (body bytes)) MAX_BODY (omega (arith, length-body bytes, is_data.1))))
+    (eq-eqb (get_or (body bytes) (length (body bytes) - 2) 0) (length (body bytes) - 2) (count-body bytes)))
+    (eq-eqb (sum (body bytes) % 256) 0 (sum-body bytes))
+
+-- a list by its two last bytes
+last_two : (bytes : List ℕ) (k : ℕ) → length bytes ≡ k + 2 → bytes ≡ take k bytes ++ get_or bytes k 0 ∷ [] ++ get_or bytes (k + 1) 0 ∷ []
+last_two bytes k h =
+    sym (take_all (k + 1 + 1) bytes (omega arith))
+    ∙ take_more bytes (k + 1) 0 (omega arith)
+    ∙ ap (λ (front : List ℕ). front ++ get_or bytes (k + 1) 0 ∷ []) (take_more bytes k 0 (omega arith))
+
+-- what a good body is
+record IsGood (bytes : List ℕ) : Type 0 where
+  long : MIN_BODY ≤ length bytes
+  short : length bytes ≤ MAX_BODY
+  count : get_or bytes (length bytes - 2) 0 ≡ length bytes - 2
+  check : sum bytes % 256 ≡ 0
+
+good_parts : (bytes : List ℕ) → is_good bytes ≡ true → IsGood bytes
+good_parts bytes good =
+    let checked = and_parts _ _ good in
+    let counted_right = and_parts _ _ checked.0 in
+    let sized = and_parts _ _ counted_right.0 in
+    record {
+      long = leb-true MIN_BODY (length bytes) sized.0;
+      short = leb-true (length bytes) MAX_BODY sized.1;
+      count = eqb-true (get_or bytes (length bytes - 2) 0) (length bytes - 2) counted_right.1;
+      check = eqb-true (sum bytes % 256) 0 checked.1;
+    }
+
+-- the two last bytes of a good body are the length of its DATA and their check byte
+body_from_parts : (bytes front : List ℕ) (n c : ℕ) → bytes ≡ front ++ n ∷ [] ++ c ∷ [] → n ≡ length front → c < 256 → sum bytes % 256 ≡ 0 → bytes ≡ body front
+body_from_parts bytes front n c split count small check =
+    let counts : front ++ n ∷ [] ≡ counted front = ap (λ (k : ℕ). front ++ k ∷ []) count in
+    let total : sum bytes ≡ sum (counted front) + c = ap sum split ∙ sum-push (front ++ n ∷ []) c ∙ ap (λ (text : List ℕ). sum text + c) counts in
+    let checks : c ≡ check_byte (counted front) = omega arith in
+    split ∙ ap (λ (text : List ℕ). text ++ c ∷ []) counts ∙ ap (λ (k : ℕ). counted front ++ k ∷ []) checks
+
+-- a good body is that of its DATA
+pub body-data : (bytes : List ℕ) → is_good bytes ≡ true → ((i : ℕ) → get_or bytes i 0 < 256) → (bytes ≡ body (take (length bytes - 2) bytes)) × IsData (take (length bytes - 2) bytes)
+body-data bytes good small =
+    let parts = good_parts bytes good in
+    let k : ℕ = length bytes - 2 in
+    let len : length (take k bytes) ≡ k = length-take-le k bytes (omega (arith, parts.long)) in (
+      body_from_parts bytes (take k bytes) (get_or bytes k 0) (get_or bytes (k + 1) 0) (last_two bytes k (omega (arith, parts.long))) (parts.count ∙ sym len) (small (k + 1)) parts.check,
+      (omega (arith, parts.long, len), omega (arith, parts.short, len)),
+    )
+
+-- what is behind the start of a text that encloses a body
+pub enclosed-run : (text inner body : List ℕ) → text ≡ DLE ∷ STX ∷ inner → text ≡ enclosed body → longest_run inner ≡ record { spelled = body; behind = DLE ∷ ETX ∷ [] }
+enclosed-run text inner body starts encloses = ap (λ (text : List ℕ). longest_run (drop 2 text)) (sym starts ∙ encloses) ∙ body-enclosed body
+
+-- a text whose longest run ends at its end encloses what the run spells
+pub run-enclosed : (text inner : List ℕ) → text ≡ DLE ∷ STX ∷ inner → (longest_run inner).behind ≡ DLE ∷ ETX ∷ [] → text ≡ enclosed (longest_run inner).spelled
+run-enclosed text inner starts ends =
+    starts ∙ ap (λ (text : List ℕ). DLE ∷ STX ∷ text) (sym (doubled-longest_run inner) ∙ ap (λ (behind : List ℕ). doubled (longest_run inner).spelled ++ behind) ends)
+
+-- the bytes of a body are among those of the text that spells it
+small-doubled : (bytes tail : List ℕ) → ((i : ℕ) → get_or (doubled bytes ++ tail) i 0 < 256) → (i : ℕ) → get_or bytes i 0 < 256
+small-doubled [] tail = λ small i. omega arith
+small-doubled (a ∷ bytes) tail =
+    at_byte DLE (λ a. ((i : ℕ) → get_or (doubled (a ∷ bytes) ++ tail) i 0 < 256) → (i : ℕ) → get_or (a ∷ bytes) i 0 < 256) a
+    (λ small i. elim i as (λ i. get_or (DLE ∷ bytes) i 0 < 256) [ zero ↦ small 0 | suc j ↦ small-doubled bytes tail (λ k. small (suc (suc k))) j ])
+    (λ h small i.
+    let P : List ℕ → Type 0 = λ text. (i : ℕ) → get_or (text ++ tail) i 0 < 256 in
+    let small' : (i : ℕ) → get_or (a ∷ doubled bytes ++ tail) i 0 < 256 = subst P (doubled-byte a bytes h) small in
+    elim i as (λ i. get_or (a ∷ bytes) i 0 < 256) [ zero ↦ small' 0 | suc j ↦ small-doubled bytes tail (λ k. small' (suc k)) j ])
+
+pub small-body : (text bytes : List ℕ) → text ≡ enclosed bytes → ((i : ℕ) → get_or text i 0 < 256) → (i : ℕ) → get_or bytes i 0 < 256
+small-body text bytes encloses small =
+    let P : List ℕ → Type 0 = λ text. (i : ℕ) → get_or text i 0 < 256 in
+    let small' = subst P encloses small in
+    small-doubled bytes (DLE ∷ ETX ∷ []) (λ i. small' (suc (suc i)))

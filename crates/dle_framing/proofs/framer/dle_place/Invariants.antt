@@ -1,0 +1,7 @@
+use Rattle.std.proofs.Common.{◌≡◌, [], take}
+use Rattle.dle_framing.specs.Items.{only_rest, reading}
+use Rattle.dle_framing.proofs.framer.dle_place.Given as goal
+
+-- what was looked at is noise
+abbrev pub invariant-loop-place : goal.invariant-loop-place
+invariant-loop-place l = reading (take l.place l.text) ≡ only_rest []

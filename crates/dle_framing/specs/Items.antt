@@ -1,0 +1,89 @@
+-- The items of a stream of bytes: what it says, read as a whole text.
+use Rattle.std.specs.Prelude.{ℕ, zero, suc, ◌-◌, ◌%◌, ◌==◌, ◌&&◌, nat_le, Bool, if◌then◌else◌, List, [], ◌∷◌, length, take, sum, slice_index}
+use Rattle.dle_framing.specs.declared.control.TheConstants.{DLE, STX, ETX, ACK, NAK, MIN_BODY, MAX_BODY}
+use Rattle.dle_framing.specs.declared.item.Item.{Item}
+use Rattle.dle_framing.specs.declared.item.Item.TheVariants.{Good, Bad, Ack, Nak}
+
+-- A body is good where it has 3 to 257 bytes, its last byte but one is its length less 2, and its bytes sum to zero
+-- modulo 256.
+abbrev pub is_good : List ℕ → Bool
+is_good body =
+    nat_le MIN_BODY (length body) && nat_le (length body) MAX_BODY
+    && (slice_index body (length body - 2) == length body - 2) && (sum body % 256 == 0)
+
+-- the item of a complete frame: its DATA is the body without the length and the check byte
+abbrev pub item_of : List ℕ → Item (List ℕ)
+item_of body = if is_good body then Good (take (length body - 2) body) else Bad
+
+-- The longest run of pieces at the start of a text, a piece being a byte other than DLE, or a pair of DLE. `spelled` has
+-- each pair made one byte, and `behind` is the text behind the run.
+pub record Run : Type 0 where
+  pub spelled : List ℕ
+  pub behind : List ℕ
+
+abbrev pub with_piece : ℕ → Run → Run
+with_piece byte run = record run { spelled = byte ∷ run.spelled }
+
+abbrev pub longest_run : List ℕ → Run
+longest_run [] = record { spelled = []; behind = [] }
+longest_run (a ∷ []) =
+    if a == DLE then record { spelled = []; behind = a ∷ [] }
+    else record { spelled = a ∷ []; behind = [] }
+longest_run (a ∷ b ∷ text) =
+    if a == DLE then (if b == DLE then with_piece DLE (longest_run text) else record { spelled = []; behind = a ∷ b ∷ text })
+    else with_piece a (longest_run (b ∷ text))
+
+-- what a text says: its items, and the rest that is no whole item yet
+pub record Reading : Type 0 where
+  pub items : List (Item (List ℕ))
+  pub rest : List ℕ
+
+abbrev pub only_rest : List ℕ → Reading
+only_rest text = record { items = []; rest = text }
+
+abbrev pub with_item : Item (List ℕ) → Reading → Reading
+with_item item reading = record reading { items = item ∷ reading.items }
+
+-- Behind DLE STX and a run of pieces: DLE ETX ends the frame and DLE STX starts the next one, where DLE and any other
+-- byte abandon it. Where nothing or a lone DLE follows the run, all from DLE STX on is the rest.
+abbrev pub in_frame : (List ℕ → Reading) → List ℕ → Run → Reading
+in_frame goes_on text run = elim run.behind [
+  | [] ↦ only_rest (DLE ∷ STX ∷ text)
+  | (a ∷ behind) ↦ elim behind [
+    | [] ↦ only_rest (DLE ∷ STX ∷ text)
+    | (b ∷ more) ↦
+        if b == ETX then with_item (item_of run.spelled) (goes_on more)
+        else if b == STX then goes_on (a ∷ b ∷ more)
+        else goes_on more
+  ]
+]
+
+-- The reading of a text by cases on its start, where `goes_on` is the reading of what is behind that start. A byte that
+-- starts none of ACK, NAK and a frame is noise by itself.
+abbrev pub by_start : (List ℕ → Reading) → List ℕ → Reading
+by_start goes_on [] = only_rest []
+by_start goes_on (a ∷ []) = if a == DLE then only_rest (a ∷ []) else only_rest []
+by_start goes_on (a ∷ b ∷ text) =
+    if a == DLE then (
+    if b == ACK then with_item Ack (goes_on text)
+    else if b == NAK then with_item Nak (goes_on text)
+    else if b == STX then in_frame goes_on text (longest_run text)
+    else goes_on (b ∷ text)
+    ) else goes_on (b ∷ text)
+
+-- Reading goes on at a shorter text each time, so as many steps as the text has bytes are enough.
+abbrev pub reading_within : ℕ → List ℕ → Reading
+reading_within zero text = only_rest text
+reading_within (suc steps) text = by_start (reading_within steps) text
+
+-- The reading of a text. It is `by_start reading`, a law that `reads_by_start` states; the steps only show that it ends.
+unfoldable pub reading : List ℕ → Reading
+reading text = reading_within (length text) text
+
+-- the items of a text
+abbrev pub items : List ℕ → List (Item (List ℕ))
+items text = (reading text).items
+
+-- the rest of a text that is no whole item yet
+abbrev pub rest : List ℕ → List ℕ
+rest text = (reading text).rest

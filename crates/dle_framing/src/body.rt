@@ -1,0 +1,27 @@
+ghost use Rattle.std.specs.Prelude.{◌≡◌, ◌%◌, sum};
+ghost use Rattle.dle_framing.specs.Items.{is_good};
+
+use crate::control::{MAX_BODY, MIN_BODY};
+
+// Whether a frame with this body is good.
+pub(crate) fn is_good_body(body: &[u8]) -> bool
+    ensures { result ≡ is_good body.now }
+{
+    let len = body.len();
+    if len < MIN_BODY || len > MAX_BODY {
+        return false;
+    }
+    let data_len = len - 2;
+    body[data_len] as usize == data_len && byte_sum(body) == 0
+}
+
+// The sum of the bytes modulo 256.
+fn byte_sum(bytes: &[u8]) -> u8
+    ensures { result ≡ sum bytes.now % 256 }
+{
+    let mut total: u8 = 0;
+    for byte in bytes {
+        total = total.wrapping_add(*byte);
+    }
+    total
+}
