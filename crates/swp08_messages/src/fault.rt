@@ -1,0 +1,17 @@
+use thiserror::Error;
+
+/// Why DATA is no message: the first of these faults. The commands and their lengths are those of the SW-P-08 General
+/// Remote Control Protocol; that DATA is refused, with which fault, is this project's profile.
+#[derive(Clone, Copy, Debug, PartialEq, Eq, Error)]
+pub enum ReadFault {
+    /// No message has this command byte.
+    #[error("command {0} is unknown")]
+    UnknownCommand(u8),
+    /// So many bytes were found, and so many are wanted, the command being one of them. Of no bytes at all, 1 is wanted.
+    #[error("{0} bytes of DATA, where {1} are wanted")]
+    WrongLength(usize, usize),
+    /// The byte at this place, counted from the command at 0, is no value of its field: the low part of a destination
+    /// or a source is above 127. A matrix with its level, and a multiplier, have no bad value.
+    #[error("byte {1} at place {0} is no value of its field")]
+    BadField(usize, u8),
+}

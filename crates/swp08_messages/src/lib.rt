@@ -1,0 +1,20 @@
+//! Messages of the SW-P-08 General Remote Control Protocol: what the DATA bytes of a frame say, both ways. Each message
+//! has one canonical DATA, and what is read is what it spells. The crate knows nothing of frames and of plants.
+#![tactic(auto)]
+
+mod command;
+mod fault;
+mod fields;
+mod laws;
+mod message;
+mod point;
+mod reading;
+mod writing;
+
+pub use fault::ReadFault;
+pub use laws::{one_message, text_bytes};
+pub use message::{Message, MessageKind};
+pub use point::{PARKED, Point};
+
+#[cfg(test)]
+mod tests;
