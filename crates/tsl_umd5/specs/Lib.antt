@@ -1,0 +1,4 @@
+pub mod Lamp
+pub mod Packet
+pub mod Reading
+pub mod Refusal

@@ -1,0 +1,66 @@
+-- Which rule bytes break first, said by the texts of packets: what stands before the fault is as in a packet.
+use Rattle.std.specs.Prelude.{◌≡◌, ◌≢◌, ℕ, ◌+◌, ◌^◌, ◌<◌, ◌≤◌, ◌⊎◌, List, ◌∷◌, ◌++◌, length}
+use Rattle.std.specs.List.{AllByRecursion}
+use Rattle.tsl_umd5.specs.declared.fault.TslFault.{TslFault}
+use Rattle.tsl_umd5.specs.declared.fault.TslFault.TheVariants.{TooLong, Short, WrongCount, Version, Flags, ReservedBits, NotAscii}
+use Rattle.tsl_umd5.specs.declared.layout.TheConstants.{VERSION, FLAGS, MAX_PACKET, PACKET_HEAD, MESSAGE_HEAD}
+use Rattle.tsl_umd5.specs.Packet.{Display, Message, IsMessage, IsDisplay, IsPrintable, word, message_text, messages_text, with_count, counted_text}
+
+-- a message stands at the front of the bytes
+pub record BeginsWith (bytes : List ℕ) (m : Message) : Type 0 where
+  pub rest : List ℕ
+  pub fits : IsMessage m
+  pub parts : bytes ≡ message_text m ++ rest
+
+-- there are bytes, and no message stands at their front: its head or its text goes past the end
+pub record IsCutOff (bytes : List ℕ) : Type 0 where
+  pub some : 0 < length bytes
+  pub never : (m : Message) → BeginsWith bytes m → ⊥
+
+-- the first byte of a text that is not printable stands at an offset
+pub record FirstUnprintable (text : List ℕ) (offset : ℕ) : Type 0 where
+  pub good : List ℕ
+  pub bad : ℕ
+  pub rest : List ℕ
+  pub parts : text ≡ good ++ bad ∷ rest
+  pub printable : AllByRecursion IsPrintable good
+  pub unprintable : IsPrintable bad → ⊥
+  pub at : length good ≡ offset
+
+-- what is wrong with a message that begins at a place
+abbrev pub IsWrong : ℕ → Message → TslFault → Type 0
+IsWrong place m (ReservedBits index) = (256 ≤ m.control) × (index ≡ m.index)
+IsWrong place m (NotAscii at) =
+    (m.control < 256) × (offset : ℕ) × FirstUnprintable m.text offset × (at ≡ place + MESSAGE_HEAD + offset)
+IsWrong place m fault = ⊥
+
+-- what is wrong at the front of bytes that begin at a place
+abbrev pub IsBad : ℕ → List ℕ → TslFault → Type 0
+IsBad place bytes (Short n) = (n ≡ place) × IsCutOff bytes
+IsBad place bytes fault = (m : Message) × BeginsWith bytes m × IsWrong place m fault
+
+-- the packet is right up to a message that is wrong: in front of it stand the messages of displays
+pub record HasBadMessage (bytes : List ℕ) (fault : TslFault) : Type 0 where
+  pub screen : ℕ
+  pub displays : List Display
+  pub rest : List ℕ
+  pub screen_fits : screen < 2 ^ 16
+  pub displays_fit : AllByRecursion IsDisplay displays
+  pub size : length bytes ≤ MAX_PACKET
+  pub parts : bytes ≡ with_count (counted_text screen (messages_text displays ++ rest))
+  pub bad : IsBad (PACKET_HEAD + length (messages_text displays)) rest fault
+
+-- neither too many bytes for a packet nor too few for its head
+abbrev pub IsSized : List ℕ → Type 0
+IsSized bytes = (PACKET_HEAD ≤ length bytes) × (length bytes ≤ MAX_PACKET)
+
+-- The first rule that the bytes break. In the last line are the faults of messages: `ReservedBits` and `NotAscii`.
+abbrev pub IsRefused : List ℕ → TslFault → Type 0
+IsRefused bytes (TooLong n) = (n ≡ length bytes) × (MAX_PACKET < n)
+IsRefused bytes (Short n) = ((n ≡ length bytes) × (n < PACKET_HEAD)) ⊎ HasBadMessage bytes (Short n)
+IsRefused bytes (WrongCount found wanted) =
+    IsSized bytes × (behind : List ℕ) × (wanted < 2 ^ 16) × (bytes ≡ word wanted ++ behind)
+    × (found ≡ length behind) × (found ≢ wanted)
+IsRefused bytes (Version v) = IsSized bytes × (behind : List ℕ) × (bytes ≡ with_count (v ∷ behind)) × (v ≢ VERSION)
+IsRefused bytes (Flags f) = IsSized bytes × (behind : List ℕ) × (bytes ≡ with_count (VERSION ∷ f ∷ behind)) × (f ≢ FLAGS)
+IsRefused bytes fault = HasBadMessage bytes fault
