@@ -1,0 +1,5 @@
+pub mod Found
+pub mod Numbering
+pub mod Places
+pub mod Order
+mod Worked

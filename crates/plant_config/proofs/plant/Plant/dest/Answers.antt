@@ -1,0 +1,8 @@
+use Rattle.std.proofs.Common.{sym, arith}
+use Rattle.plant_config.proofs.Places.{dests_within}
+use Rattle.plant_config.proofs.plant.Plant.dest.Goals as goal
+
+pub overflow_add-at : goal.overflow_add-at
+overflow_add-at c =
+    let within = dests_within c.args.self.now c.level_at.ensures.plant _ c.in_ok-at.at (sym c.in_ok-at.ensures.at) in
+    omega (arith, within, c.level_at.ensures.plant.destinations)

@@ -1,0 +1,3 @@
+pub mod Plant
+pub mod Bench
+pub mod Laws
