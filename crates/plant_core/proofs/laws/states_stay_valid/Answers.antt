@@ -1,0 +1,12 @@
+use Rattle.plant_core.proofs.Validity.{IsValid-start}
+use Rattle.plant_core.proofs.Steps.{IsValid-step, plant-step}
+use Rattle.plant_core.proofs.laws.states_stay_valid.Goals as goal
+
+pub returns-clause-first : goal.returns-clause-first
+returns-clause-first c = IsValid-start
+
+pub returns-clause-stays : goal.returns-clause-stays
+returns-clause-stays c = IsValid-step
+
+pub returns-clause-plant : goal.returns-clause-plant
+returns-clause-plant c = plant-step

@@ -1,0 +1,8 @@
+use swp08_messages::Message;
+
+/// One answer to an event.
+#[derive(Clone, Copy, Debug, PartialEq, Eq)]
+pub enum Answer {
+    /// This message is sent.
+    Say(Message),
+}

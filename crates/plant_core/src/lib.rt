@@ -1,0 +1,17 @@
+//! The one-thread plant: a state, and what each event of a panel does to it and is answered. The state is plain data,
+//! and a step is a function of the state and the event, by which all that is promised above is said. A step takes no
+//! memory.
+#![tactic(auto)]
+
+mod answer;
+mod laws;
+mod request;
+mod rows;
+mod state;
+#[cfg(test)]
+mod tests;
+
+pub use answer::Answer;
+pub use laws::{connects_are_seen, states_stay_valid};
+pub use request::Request;
+pub use state::PlantState;
