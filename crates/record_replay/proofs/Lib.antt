@@ -1,0 +1,5 @@
+pub mod Lines
+pub mod Messages
+pub mod Oneness
+pub mod Telling
+pub mod Working
