@@ -33,6 +33,16 @@ const ROWS: &[(&[u8], &[Item<&[u8]>])] = &[
         b"\x10\x02\x01\x10\x07\x10\x02\x01\x00\x00\x05\x04\xF6\x10\x03",
         &[Item::Good(INTERROGATE_DATA)],
     ),
+    // Behind a DLE of noise.
+    (
+        b"\x10\x10\x02\x01\x00\x00\x05\x04\xF6\x10\x03",
+        &[Item::Good(INTERROGATE_DATA)],
+    ),
+    // An ACK's bytes in a frame abandon it, and are no ACK.
+    (
+        b"\x10\x02\x01\x10\x06\x10\x02\x01\x00\x00\x05\x04\xF6\x10\x03",
+        &[Item::Good(INTERROGATE_DATA)],
+    ),
     (b"\x10", &[]),
     // Bodies of no byte and of two.
     (b"\x10\x02\x10\x03", &[Item::Bad]),
