@@ -47,6 +47,14 @@ pub record RefusesLength (told : Told) (before now : Option (List ℕ)) : Type 0
   pub too_long : IfTold told (λ script. MAX_SCRIPT < length script)
   pub appends : now ≡ appended before script_too_long
 
+-- A script is refused where it is too long or has a line without a form.
+abbrev pub IsRefused : List ℕ → Type 0
+IsRefused script = (MAX_SCRIPT < length script) ⊎ ((number : ℕ) × IsFirstBad script number)
+
+-- A script is accepted where it isn't too long and each of its lines tells a message.
+abbrev pub IsAccepted : List ℕ → Type 0
+IsAccepted script = (length script ≤ MAX_SCRIPT) × ((output : List ℕ) × IsReplay bench script output)
+
 -- A front of the script's replay text, or nothing.
 abbrev pub IsFront : List ℕ → List ℕ → Type 0
 IsFront script part = (part ≡ []) ⊎ ((output : List ℕ) × (count : ℕ) × IsReplay bench script output × (part ≡ take count output))

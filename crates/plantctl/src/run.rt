@@ -5,7 +5,7 @@ ghost use Rattle.ctl_io.specs.Faults.{Rose, KeepsCount};
 ghost use Rattle.ctl_io.specs.Sink.{appended};
 ghost use Rattle.plantctl.specs.Words.{HasNoForm, AsksReplay, texts};
 ghost use Rattle.plantctl.specs.Lines.{usage};
-ghost use Rattle.plantctl.specs.Run.{ForReplay, Replays, EndsAtFile, RefusesLine, RefusesLength, RunsOutOfMemory, IsGivenBack, ReplayEnds, RunEnds};
+ghost use Rattle.plantctl.specs.Run.{ForReplay, Replays, EndsAtFile, RefusesLine, RefusesLength, RunsOutOfMemory, IsRefused, IsAccepted, IsGivenBack, ReplayEnds, RunEnds};
 
 use crate::file::{FileFault, read_file};
 use crate::report::{NO_MEMORY, Status, report, report_file, report_line};
@@ -49,6 +49,11 @@ pub fn run_quiet<F: Files, K: Sink>(
     // 5: a line has no form, or the script is too long.
     ensures script { result ≡ 5 → ForReplay (texts words.now) (λ name.
         RefusesLine (F.told files.old name) (K.written out.old) (K.written out.new) ⊎ RefusesLength (F.told files.old name) (K.written out.old) (K.written out.new)) }
+    // A script that is refused is never replayed, and one that is accepted is never refused.
+    ensures refused { (name script : List ℕ) → AsksReplay (texts words.now) name → F.told files.old name ≡ Some (Some script) → IsRefused script
+        → (result ≡ 1) ⊎ (result ≡ 3) ⊎ (result ≡ 5) ⊎ (result ≡ 7) }
+    ensures accepted { (name script : List ℕ) → AsksReplay (texts words.now) name → F.told files.old name ≡ Some (Some script) → IsAccepted script
+        → (result ≡ 0) ⊎ (result ≡ 1) ⊎ (result ≡ 3) ⊎ (result ≡ 7) }
     // 7: a write of the output failed.
     ensures output { result ≡ 7 → Rose (K.faults out.old) (K.faults out.new) }
 
