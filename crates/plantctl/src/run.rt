@@ -4,7 +4,7 @@ ghost use Rattle.std.specs.Prelude.{◌≡◌, ◌⊎◌, List, ℕ, Some, None}
 ghost use Rattle.ctl_io.specs.Faults.{Rose, KeepsCount};
 ghost use Rattle.ctl_io.specs.Sink.{appended};
 ghost use Rattle.plantctl.specs.Words.{HasNoForm, AsksReplay, texts};
-ghost use Rattle.plantctl.specs.Lines.{usage};
+ghost use Rattle.plantctl.specs.Lines.{usage, no_memory};
 ghost use Rattle.plantctl.specs.Run.{ForReplay, Replays, EndsAtFile, RefusesLine, RefusesLength, RunsOutOfMemory, IsRefused, IsAccepted, IsGivenBack, ReplayEnds, RunEnds};
 
 use crate::file::{FileFault, read_file};
@@ -64,9 +64,10 @@ pub fn run_quiet<F: Files, K: Sink>(
     run(alloc, words, files, out) as u8
 }
 
-/// Ends a run that never began, for want of memory.
+/// Ends a run that never began, for want of memory: the exit status, behind its line.
 pub(crate) fn out_of_memory<K: Sink>(out: &mut K) -> u8
-    ensures { (result ≡ 1) ⊎ (result ≡ 7) }
+    ensures { ((result ≡ 1) × (K.written out.new ≡ appended (K.written out.old) no_memory))
+        ⊎ ((result ≡ 7) × Rose (K.faults out.old) (K.faults out.new)) }
 {
     report(out, Status::NoMemory, NO_MEMORY) as u8
 }
