@@ -13,7 +13,7 @@ use std::alloc::{AllocError, Global};
 use swp08_messages::Message;
 
 /// The most bytes of a message's DATA.
-const MAX_TEXT: usize = 8;
+pub(crate) const MAX_TEXT: usize = 8;
 /// The most bytes of a reply: the acknowledgement and one frame of a message.
 const MAX_REPLY: usize = 2 + 2 * MAX_TEXT + 8;
 

@@ -1,26 +1,32 @@
 //! What a line of a script tells.
 
-ghost use Rattle.std.specs.Prelude.{◌≡◌, List, ℕ, IfOk, MatchOption};
+ghost use Rattle.std.specs.Prelude.{◌≡◌, ◌==◌, List, ℕ, not, filter, IfOk, MatchOption};
 ghost use Rattle.swp08_messages.specs.declared.message.Message.{Message};
 ghost use Rattle.swp08_messages.specs.Text.{text};
 ghost use Rattle.dle_framing.specs.Frame.{frame};
 ghost use Rattle.record_replay.specs.Script.{Asks, Tells, SpellsBytes};
 
+use crate::answer::MAX_TEXT;
 use crate::script::{MAX_LINE, SPACE};
 use dle_framing::{MAX_BODY, read_frame};
 use hex::FromHexError;
 use std::alloc::{AllocError, Global};
 use swp08_messages::{Message, MessageKind};
 
+/// A text without its spaces.
+fn without_spaces(alloc: Global, text: &[u8]) -> Result<Vec<u8>, AllocError>
+    ensures { IfOk result (λ rest. rest.items ≡ filter (λ byte. not (byte == SPACE)) text.now) }
+{
+    let mut rest = Vec::from_slice(alloc, text)?;
+    rest.retain(|byte| *byte != SPACE);
+    Ok(rest)
+}
+
 /// The bytes that a text in hexadecimal spells, `None` where it spells none.
 fn read_hex(alloc: Global, text: &[u8]) -> Result<Option<Vec<u8>>, AllocError>
     ensures { IfOk result (λ found. MatchOption found ((bytes : List ℕ) → SpellsBytes text.now bytes → ⊥) (λ bytes. SpellsBytes text.now bytes.items)) }
 {
-    let digits: Vec<u8> = text
-        .iter()
-        .copied()
-        .filter(|byte| *byte != SPACE)
-        .collect(alloc)?;
+    let digits = without_spaces(alloc, text)?;
     match hex::decode(alloc, digits.as_slice()) {
         Ok(bytes) => Ok(Some(bytes)),
         Err(FromHexError::OutOfMemory) => Err(AllocError),
@@ -40,7 +46,7 @@ fn read_canonical(alloc: Global, data: &[u8]) -> Result<Option<Message>, AllocEr
     if message.kind() != MessageKind::Plant {
         return Ok(None);
     }
-    let mut canonical = Vec::with_capacity(alloc, 8)?;
+    let mut canonical = Vec::with_capacity(alloc, MAX_TEXT)?;
     message.write(&mut canonical);
     if canonical.as_slice() == data {
         Ok(Some(message))
