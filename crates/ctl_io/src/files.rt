@@ -1,7 +1,7 @@
-ghost use Rattle.std.specs.Prelude.{◌≡◌, ◌≢◌, ◌<◌, ℕ, List, None, Some};
+ghost use Rattle.std.specs.Prelude.{◌≡◌, ◌≢◌, ◌<◌, ℕ, List};
 ghost use Rattle.ctl_io.specs.Faults.{Rose, IsCount};
 ghost use Rattle.ctl_io.specs.Sink.{IsEmpty};
-ghost use Rattle.ctl_io.specs.Files.{Told, Custody, SourceEnd, SinkEnd, CountsFaulty, IsToldLeft, MayBeMissing, IfFound, IfMade, source_lent, sink_lent, source_returned, sink_returned};
+ghost use Rattle.ctl_io.specs.Files.{Told, Custody, CountsFaulty, IsToldLeft, MayBeMissing, IfFound, IfMade, source_lent, sink_lent, source_returned, sink_returned};
 
 use crate::{Sink, Source};
 

@@ -1,8 +1,8 @@
-ghost use Rattle.std.specs.Prelude.{◌≡◌, ℕ, ◌+◌, ◌<◌, ◌≤◌, ◌∷◌, [], List, length, IfOk, OnOk, OnErr, IsErrOf, IfSome};
+ghost use Rattle.std.specs.Prelude.{◌≡◌, ◌+◌, ◌<◌, ◌≤◌, [], length, IfOk, OnOk, OnErr, IsErrOf, IfSome};
 ghost use Rattle.std.specs.Bool.{OnFalse, OnTrue};
 ghost use Rattle.ctl_io.specs.Faults.{Rose, IsCount, KeepsCount};
 ghost use Rattle.ctl_io.specs.Sink.{appended, AppendsPart};
-ghost use Rattle.ctl_io.specs.Source.{got, behind, IsWithin, IsAtEnd, Takes, TakesAtMost, TakesPiece};
+ghost use Rattle.ctl_io.specs.Source.{got, IsWithin, IsAtEnd, TakesAtMost, TakesPiece};
 ghost use Rattle.ctl_io.specs.declared.transfer.WholeFault.TheVariants.{NoMemory};
 
 use crate::{Read, Sink, Source, Write};

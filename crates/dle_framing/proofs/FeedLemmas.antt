@@ -21,11 +21,6 @@ take-add n m bytes =
     ∙ ap (λ (front : List ℕ). front ++ drop n (take (n + m) bytes)) (take-take n (n + m) bytes (omega arith))
     ∙ ap (λ (back : List ℕ). take n bytes ++ back) (drop-take n m bytes)
 
-pub passes_none : (framer : Framer) → PassesOver [] framer framer
-passes_none framer text stands =
-    let P : List ℕ → Type 0 = λ same. (items same ≡ items text) × StandsFor framer same in
-    subst P (sym (append-nil text)) (refl, stands)
-
 pub passes_append : (first second : List ℕ) (a b c : Framer) → PassesOver first a b → PassesOver second b c → PassesOver (first ++ second) a c
 passes_append first second a b c before behind text stands =
     let there = before text stands in

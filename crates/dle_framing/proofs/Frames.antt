@@ -1,7 +1,7 @@
 -- A frame spells one body, a good body is that of some DATA, and how long a frame is.
-use Rattle.std.proofs.Common.{◌≡◌, ℕ, zero, suc, ◌+◌, ◌-◌, ◌*◌, ◌%◌, ◌≤◌, ◌<◌, true, List, [], ◌∷◌, ◌++◌, length, take, drop, sum, get_or, refl, sym, ap, ◌∙◌, subst, arith}
+use Rattle.std.proofs.Common.{◌≡◌, ℕ, zero, suc, ◌+◌, ◌-◌, ◌%◌, ◌≤◌, ◌<◌, true, List, [], ◌∷◌, ◌++◌, length, take, drop, sum, get_or, refl, sym, ap, ◌∙◌, subst, arith}
 use Rattle.std.proofs.lemmas.Bool.{and_parts, and_from, leb-true, le-leb, eqb-true, eq-eqb}
-use Rattle.std.proofs.lemmas.List.{length-append, length_push, length-take-le, take_all, take_at, take_more, take-append-le, get_or_at, get_or_append_left, same_from_push}
+use Rattle.std.proofs.lemmas.List.{length_push, length-take-le, take_all, take_at, take_more, take-append-le, get_or_at, get_or_append_left, same_from_push}
 use Rattle.std.proofs.lemmas.List.Sums.{sum_by_push}
 use Rattle.dle_framing.specs.Frame.{IsData, doubled, check_byte, counted, body, enclosed, frame}
 use Rattle.dle_framing.specs.Items.{Run, longest_run, is_good}
@@ -16,19 +16,8 @@ one_body a b same = sym (ap (λ (run : Run). run.spelled) (body-enclosed a)) ∙
 pub one_frame : (a b : List ℕ) → frame a ≡ frame b → a ≡ b
 one_frame a b same = (same_from_push a b _ _ (same_from_push (counted a) (counted b) _ _ (one_body (body a) (body b) same)).0).0
 
-pub length-doubled : (bytes : List ℕ) → length (doubled bytes) ≤ 2 * length bytes
-length-doubled [] = omega arith
-length-doubled (a ∷ bytes) =
-    at_byte DLE (λ a. length (doubled (a ∷ bytes)) ≤ 2 * length (a ∷ bytes)) a
-    (omega (arith, length-doubled bytes))
-    (λ h. omega (arith, length-doubled bytes, ap (length {A = ℕ}) (doubled-byte a bytes h)))
-
 pub length-body : (bytes : List ℕ) → length (body bytes) ≡ length bytes + 2
 length-body bytes = omega (arith, length_push (counted bytes) (check_byte (counted bytes)), length_push bytes (length bytes))
-
--- the room that a frame wants at most
-pub length-frame : (bytes : List ℕ) → length (frame bytes) ≤ 2 * length bytes + 8
-length-frame bytes = omega (arith, length-append (doubled (body bytes)) (DLE ∷ ETX ∷ []), length-doubled (body bytes), length-body bytes)
 
 sum-push : (bytes : List ℕ) (byte : ℕ) → sum (bytes ++ byte ∷ []) ≡ sum bytes + byte
 sum-push bytes byte = sum_by_push (λ x. x) bytes byte

@@ -2,7 +2,7 @@
 use Rattle.std.proofs.Common.{◌≡◌, ℕ, ◌<◌, nat_eq, false, List, [], ◌∷◌, length, sym, ap, ◌∙◌, arith}
 use Rattle.std.proofs.lemmas.Bool.{cond-false}
 use Rattle.dle_framing.specs.declared.control.TheConstants.{DLE, STX, ETX}
-use Rattle.dle_framing.specs.Items.{longest_run, Reading, only_rest, with_item, item_of, in_frame, reading}
+use Rattle.dle_framing.specs.Items.{longest_run, only_rest, with_item, item_of, in_frame, reading}
 use Rattle.dle_framing.proofs.Readings.{reading-by_start, length-behind}
 
 -- a frame by what is behind its run
@@ -31,10 +31,6 @@ stopped_at behind stopped after both a b k same first second is = sym same ∙ f
 -- a text that is behind a run's end is shorter than the frame
 pub shorter_frame : (text both : List ℕ) (a b : ℕ) → (longest_run text).behind ≡ a ∷ b ∷ both → length both < length {A = ℕ} (DLE ∷ STX ∷ text)
 shorter_frame text both a b stops = omega (arith, length-behind text, ap (length {A = ℕ}) stops)
-
--- a reading, of a text that is known by its start
-pub reading-as : (text is : List ℕ) (reads : Reading) → text ≡ is → reading is ≡ reads → reading text ≡ reads
-reading-as text is reads same known = ap reading same ∙ known
 
 -- the text behind the first bytes
 pub shorter : (text is behind : List ℕ) → text ≡ is → length behind < length is → length behind < length text

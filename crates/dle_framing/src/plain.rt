@@ -1,4 +1,4 @@
-ghost use Rattle.std.specs.Prelude.{◌≡◌, [], ◌∷◌, length, map, MatchOption, IfOk};
+ghost use Rattle.std.specs.Prelude.{◌≡◌, [], ◌∷◌, map, MatchOption, IfOk};
 ghost use Rattle.dle_framing.specs.Items.{item_of, items, longest_run, rest};
 ghost use Rattle.dle_framing.specs.Plain.{StartsSo, owned};
 

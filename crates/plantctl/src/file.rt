@@ -1,6 +1,6 @@
 //! Files that are read whole.
 
-ghost use Rattle.std.specs.Prelude.{◌≡◌, ◌<◌, ◌≤◌, ◌⊎◌, length, Err, IfOk, Some, None};
+ghost use Rattle.std.specs.Prelude.{◌≡◌, ◌<◌, ◌≤◌, length, Err, IfOk};
 ghost use Rattle.ctl_io.specs.Faults.{Rose, KeepsCount};
 ghost use Rattle.ctl_io.specs.Files.{MayBeMissing};
 ghost use Rattle.plantctl.specs.Run.{IfTold, IsGivenBack};

@@ -1,6 +1,6 @@
 //! How a run ends: its status, and the line that goes with it.
 
-ghost use Rattle.std.specs.Prelude.{◌≡◌, ◌≢◌, ◌⊎◌, ◌++◌, codes};
+ghost use Rattle.std.specs.Prelude.{◌≡◌, ◌⊎◌, ◌++◌, codes};
 ghost use Rattle.ctl_io.specs.Faults.{Rose, KeepsCount};
 ghost use Rattle.ctl_io.specs.Sink.{appended};
 ghost use Rattle.plantctl.specs.Lines.{line_refused, no_memory};

@@ -1,8 +1,7 @@
 -- Lines that tell messages, one after the other.
-use Rattle.std.proofs.Common.{◌≡◌, ℕ, ◌+◌, suc, List, [], ◌∷◌, ◌++◌, length, refl, sym, ◌∙◌, ap, subst, append_assoc, arith}
+use Rattle.std.proofs.Common.{◌≡◌, ℕ, ◌+◌, suc, List, [], ◌∷◌, ◌++◌, length, refl, sym, ◌∙◌, ap, append_assoc, arith}
 use Rattle.std.specs.Prelude.{All}
 use Rattle.std.specs.List.{AllByRecursion}
-use Rattle.std.proofs.lemmas.List.{append-nil}
 use Rattle.std.proofs.lemmas.List.Elements.{All-from_recursion}
 use Rattle.swp08_messages.specs.declared.message.Message.{Message}
 use Rattle.record_replay.specs.Script.{lines, Asks, Tells, TellAll, IsFirstBad}
@@ -25,19 +24,12 @@ pub record SoFar (script rest : List ℕ) (messages : List Message) : Type 0 whe
   pub place : lines script ≡ before ++ lines rest
   pub told : TellAll before messages
 
-pub so_far-start : (script : List ℕ) → SoFar script script []
-so_far-start script = record { before = []; place = refl; told = tt }
-
 pub so_far-push : (script rest line after : List ℕ) (messages : List Message) (message : Message) → SoFar script rest messages → lines rest ≡ line ∷ lines after → Tells line message → SoFar script after (messages ++ message ∷ [])
 so_far-push script rest line after messages message so_far split tells = record {
   before = so_far.before ++ line ∷ [];
   place = so_far.place ∙ ap (λ (ls : List (List ℕ)). so_far.before ++ ls) split ∙ sym (append_assoc so_far.before (line ∷ []) (lines after));
   told = TellAll-push so_far.before messages line message so_far.told tells;
 }
-
--- the whole script is told
-pub so_far-end : (script : List ℕ) (messages : List Message) → SoFar script [] messages → TellAll (lines script) messages
-so_far-end script messages so_far = subst (λ (ls : List (List ℕ)). TellAll ls messages) (sym (so_far.place ∙ append-nil so_far.before)) so_far.told
 
 -- the next line is the first bad one
 pub so_far-bad : (script rest line after : List ℕ) (messages : List Message) (number : ℕ) → SoFar script rest messages → lines rest ≡ line ∷ lines after → ((message : Message) → Tells line message → ⊥) → number ≡ length messages + 1 → IsFirstBad script number

@@ -1,10 +1,10 @@
 -- Messages worked one after the other.
-use Rattle.std.proofs.Common.{◌≡◌, ℕ, ◌+◌, ◌<◌, ◌≤◌, List, [], ◌++◌, length, get_or, take, drop, Option, Result, Ok, Err, refl, sym, ◌∙◌, ap, append_assoc, arith}
+use Rattle.std.proofs.Common.{◌≡◌, ℕ, ◌+◌, ◌<◌, List, ◌++◌, length, get_or, take, drop, Option, Result, Ok, Err, sym, ◌∙◌, ap, append_assoc, arith}
 use Rattle.std.proofs.Math.Seq.{take-append_seam, take-append-add}
-use Rattle.std.proofs.lemmas.List.{append-nil, drop_all, drop_more, take-append-le}
+use Rattle.std.proofs.lemmas.List.{drop_more, take-append-le}
 use Rattle.std.specs.Prelude.{OnErr}
 use Rattle.ctl_io.specs.Sink.{appended, AppendsPart}
-use Rattle.ctl_io.proofs.Giving.{appended-nil, appended-appended}
+use Rattle.ctl_io.proofs.Giving.{appended-appended}
 use Rattle.swp08_messages.specs.declared.message.Message.{Message}
 use Rattle.plant_core.specs.State.{State}
 use Rattle.plant_core.specs.Step.{step}
@@ -17,9 +17,6 @@ pub record WrittenSoFar (start now : State) (messages : List Message) (item : �
   pub appends : written ≡ appended before done
   pub goes_on : done ++ replies now item (drop item messages) ≡ replies start 0 messages
   pub plant : now.plant ≡ start.plant
-
-pub begun : (start : State) (messages : List Message) (before : Option (List ℕ)) → WrittenSoFar start start messages 0 before before
-begun start messages before = record { done = []; appends = sym (appended-nil before); goes_on = refl; plant = refl }
 
 -- the output line of the message at this item
 abbrev pub line_at : State → List Message → ℕ → Message → List ℕ
@@ -49,12 +46,6 @@ went_on start now next messages item d before written after line so_far lt is st
       ∙ so_far.goes_on;
   plant = ap (λ (s : State). s.plant) stepped ∙ plant-step now (told_by_panel_0 item (get_or messages item d)) ∙ so_far.plant;
 }
-
--- all of it was written
-pub ended : (start now : State) (messages : List Message) (item : ℕ) (before written : Option (List ℕ)) → WrittenSoFar start now messages item before written → length messages ≤ item → written ≡ appended before (replies start 0 messages)
-ended start now messages item before written so_far le =
-    so_far.appends
-    ∙ ap (appended before) (sym (append-nil so_far.done) ∙ ap (λ (l : List Message). so_far.done ++ replies now item l) (sym (drop_all item messages le)) ∙ so_far.goes_on)
 
 -- A front of the replies was written, after a sink that tells `before`.
 abbrev pub WrittenPart : State → List Message → Option (List ℕ) → Option (List ℕ) → Type 0

@@ -1,6 +1,6 @@
 //! A script is read whole, and then worked.
 
-ghost use Rattle.std.specs.Prelude.{◌≡◌, ◌⊎◌, ◌<◌, Err, List, ℕ, OnOk, OnErr, IfOk, All, take, length};
+ghost use Rattle.std.specs.Prelude.{◌≡◌, ◌⊎◌, ◌<◌, Err, ℕ, OnOk, OnErr, IfOk, All, take, length};
 ghost use Rattle.ctl_io.specs.Faults.{Rose, KeepsCount};
 ghost use Rattle.ctl_io.specs.Sink.{appended};
 ghost use Rattle.record_replay.specs.declared.replay.ReplayFault.TheVariants.{NoMemory};

@@ -1,4 +1,4 @@
-ghost use Rattle.std.specs.Prelude.{◌≡◌, ◌↔◌, IsTrue};
+ghost use Rattle.std.specs.Prelude.{◌↔◌, IsTrue};
 ghost use Rattle.swp08_messages.specs.Text.{IsPoint, IsSource};
 
 /// The number of a source that says 'parked': the destination carries none. It is this project's profile, so the numbers

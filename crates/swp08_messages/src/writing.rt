@@ -1,7 +1,7 @@
 //! The bytes of a message's parts.
 
-ghost use Rattle.std.specs.Prelude.{◌≡◌, List, [], ◌∷◌, ◌++◌, ◌+◌, ◌%◌, ◌<◌, ◌≤◌, length, vec_len, vec_capacity};
-ghost use Rattle.swp08_messages.specs.Text.{IsPoint, IsSource, matrix_level, multiplier, number_of, point_text, crosspoint_text};
+ghost use Rattle.std.specs.Prelude.{◌≡◌, [], ◌∷◌, ◌++◌, ◌+◌, ◌%◌, ◌<◌, ◌≤◌, length, vec_len, vec_capacity};
+ghost use Rattle.swp08_messages.specs.Text.{IsPoint, IsSource, matrix_level, multiplier, point_text, crosspoint_text};
 
 use crate::point::{PARKED, Point};
 

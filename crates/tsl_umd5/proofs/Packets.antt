@@ -91,10 +91,6 @@ abbrev pub Decides : Result (List Display) TslFault → Result (List Display) Ts
 Decides (Ok ds) all = IsOk all
 Decides (Err fault) all = all ≡ Err fault
 
-pub Decides-all : (read : Result (List Display) TslFault) → Decides read read
-Decides-all (Ok ds) = refl
-Decides-all (Err fault) = refl
-
 Decides-step : (d : Display) (read all : Result (List Display) TslFault) → Decides (read >>= λ ds. Ok (d ∷ ds)) all → Decides read all
 Decides-step d (Ok ds) all h = h
 Decides-step d (Err fault) all h = h

@@ -1,6 +1,6 @@
 //! A display message of a packet that is read.
 
-ghost use Rattle.std.specs.Prelude.{◌≡◌, ◌≤◌, ◌<◌, ◌+◌, ◌^◌, Ok, Err, MatchResult, IfSome, length};
+ghost use Rattle.std.specs.Prelude.{◌≡◌, ◌<◌, ◌+◌, ◌^◌, Ok, Err, MatchResult, IfSome, length};
 ghost use Rattle.std.specs.Option.{option_map};
 ghost use Rattle.tsl_umd5.specs.Packet.{view};
 ghost use Rattle.tsl_umd5.specs.Reading.{display_of, fields, front, judged};

@@ -1,6 +1,6 @@
 //! Reading a packet.
 
-ghost use Rattle.std.specs.Prelude.{◌≡◌, ◌≤◌, ◌∷◌, [], List, Ok, Err, ◌↔◌, MatchResult, IsOk, IfOk, IfSome, IfNone, length};
+ghost use Rattle.std.specs.Prelude.{◌≡◌, ◌≤◌, ◌∷◌, [], Ok, Err, ◌↔◌, MatchResult, IsOk, IfOk, IfSome, IfNone, length};
 ghost use Rattle.tsl_umd5.specs.declared.layout.TheConstants.{MAX_PACKET, PACKET_HEAD};
 ghost use Rattle.tsl_umd5.specs.Packet.{Contents, view, IsTextOf, OneText};
 ghost use Rattle.tsl_umd5.specs.Reading.{all_at, reading};
