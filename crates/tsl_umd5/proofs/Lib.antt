@@ -1,7 +1,8 @@
 pub mod Examples
-pub mod Writing
-pub mod Messages
-pub mod Displays
-pub mod Packets
-pub mod Reading
-pub mod Refusals
+pub mod PacketLemmas
+pub mod MessageLemmas
+pub mod AllAtLemmas
+pub mod ReadingInsideLemmas
+pub mod ReadingLemmas
+pub mod BadMessageLemmas
+pub mod RefusalLemmas

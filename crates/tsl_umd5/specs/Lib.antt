@@ -1,4 +1,6 @@
+pub mod Layout
 pub mod Lamp
 pub mod Packet
 pub mod Reading
+pub mod ReadingInside
 pub mod Refusal

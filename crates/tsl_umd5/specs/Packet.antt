@@ -5,7 +5,7 @@ use Rattle.std.specs.List.{flat_map, AllByRecursion}
 use Rattle.std.specs.Int.{w16, to_le_bytes}
 use Rattle.tsl_umd5.specs.declared.lamp.Lamp.{Lamp}
 use Rattle.tsl_umd5.specs.declared.shown.Shown.{Shown}
-use Rattle.tsl_umd5.specs.declared.layout.TheConstants.{VERSION, FLAGS, MAX_BRIGHTNESS, FIRST_PRINTABLE, LAST_PRINTABLE, MAX_PACKET}
+use Rattle.tsl_umd5.specs.Layout.{version, plain_flags, message_head, max_brightness, first_printable, last_printable, max_packet}
 use Rattle.tsl_umd5.specs.Lamp.{lamp_code}
 
 -- a display, without where its text lies in memory
@@ -17,6 +17,7 @@ pub record Display : Type 0 where
   pub brightness : ℕ
   pub text : List ℕ
 
+-- the display that is shown
 abbrev pub view : Shown → Display
 view s = record {
   index = s.index;
@@ -55,8 +56,13 @@ control_of d = lamp_code d.right + 4 * lamp_code d.middle + 16 * lamp_code d.lef
 abbrev pub message_of : Display → Message
 message_of d = record { index = d.index; control = control_of d; text = d.text }
 
+-- the message of a display
 abbrev pub display_text : Display → List ℕ
 display_text d = message_text (message_of d)
+
+-- the bytes of a display's message
+abbrev pub message_length : Display → ℕ
+message_length d = message_head + length d.text
 
 -- the messages of displays, one after another
 unfoldable pub messages_text : List Display → List ℕ
@@ -66,9 +72,9 @@ messages_text ds = flat_map display_text ds
 abbrev pub with_count : List ℕ → List ℕ
 with_count bytes = word (length bytes) ++ bytes
 
--- what PBC counts: VER, FLAGS, SCREEN and the display messages
+-- what PBC counts: VER, plain_flags, SCREEN and the display messages
 abbrev pub counted_text : ℕ → List ℕ → List ℕ
-counted_text screen messages = VERSION ∷ FLAGS ∷ word screen ++ messages
+counted_text screen messages = version ∷ plain_flags ∷ word screen ++ messages
 
 -- the text of a screen and its displays
 unfoldable pub packet_text : ℕ → List Display → List ℕ
@@ -76,19 +82,19 @@ packet_text screen ds = with_count (counted_text screen (messages_text ds))
 
 -- a byte of printable ASCII
 abbrev pub IsPrintable : ℕ → Type 0
-IsPrintable b = (FIRST_PRINTABLE ≤ b) × (b ≤ LAST_PRINTABLE)
+IsPrintable b = (first_printable ≤ b) × (b ≤ last_printable)
 
 -- a display that a message can speak of
 pub record IsDisplay (d : Display) : Type 0 where
   pub index : d.index < 2 ^ 16
-  pub brightness : d.brightness ≤ MAX_BRIGHTNESS
+  pub brightness : d.brightness ≤ max_brightness
   pub text : AllByRecursion IsPrintable d.text
 
--- a screen and displays whose packet has at most `MAX_PACKET` bytes
+-- a screen and displays whose packet isn't too long
 pub record IsPacket (number : ℕ) (ds : List Display) : Type 0 where
   pub screen : number < 2 ^ 16
   pub displays : AllByRecursion IsDisplay ds
-  pub size : length (packet_text number ds) ≤ MAX_PACKET
+  pub size : length (packet_text number ds) ≤ max_packet
 
 -- a screen and its displays
 pub record Contents : Type 0 where

@@ -3,7 +3,7 @@ use Rattle.std.specs.Prelude.{◌≡◌, ◌≢◌, ℕ, ◌+◌, ◌^◌, ◌<�
 use Rattle.std.specs.List.{AllByRecursion}
 use Rattle.tsl_umd5.specs.declared.fault.TslFault.{TslFault}
 use Rattle.tsl_umd5.specs.declared.fault.TslFault.TheVariants.{TooLong, Short, WrongCount, Version, Flags, ReservedBits, NotAscii}
-use Rattle.tsl_umd5.specs.declared.layout.TheConstants.{VERSION, FLAGS, MAX_PACKET, PACKET_HEAD, MESSAGE_HEAD}
+use Rattle.tsl_umd5.specs.Layout.{version, plain_flags, max_packet, packet_head, message_head}
 use Rattle.tsl_umd5.specs.Packet.{Display, Message, IsMessage, IsDisplay, IsPrintable, word, message_text, messages_text, with_count, counted_text}
 
 -- a message stands at the front of the bytes
@@ -25,13 +25,13 @@ pub record FirstUnprintable (text : List ℕ) (offset : ℕ) : Type 0 where
   pub parts : text ≡ good ++ bad ∷ rest
   pub printable : AllByRecursion IsPrintable good
   pub unprintable : IsPrintable bad → ⊥
-  pub at : length good ≡ offset
+  pub is_offset : length good ≡ offset
 
 -- what is wrong with a message that begins at a place
 abbrev pub IsWrong : ℕ → Message → TslFault → Type 0
 IsWrong place m (ReservedBits index) = (256 ≤ m.control) × (index ≡ m.index)
-IsWrong place m (NotAscii at) =
-    (m.control < 256) × (offset : ℕ) × FirstUnprintable m.text offset × (at ≡ place + MESSAGE_HEAD + offset)
+IsWrong place m (NotAscii n) =
+    (m.control < 256) × (offset : ℕ) × FirstUnprintable m.text offset × (n ≡ place + message_head + offset)
 IsWrong place m fault = ⊥
 
 -- what is wrong at the front of bytes that begin at a place
@@ -46,21 +46,21 @@ pub record HasBadMessage (bytes : List ℕ) (fault : TslFault) : Type 0 where
   pub rest : List ℕ
   pub screen_fits : screen < 2 ^ 16
   pub displays_fit : AllByRecursion IsDisplay displays
-  pub size : length bytes ≤ MAX_PACKET
+  pub size : length bytes ≤ max_packet
   pub parts : bytes ≡ with_count (counted_text screen (messages_text displays ++ rest))
-  pub bad : IsBad (PACKET_HEAD + length (messages_text displays)) rest fault
+  pub bad : IsBad (packet_head + length (messages_text displays)) rest fault
 
 -- neither too many bytes for a packet nor too few for its head
 abbrev pub IsSized : List ℕ → Type 0
-IsSized bytes = (PACKET_HEAD ≤ length bytes) × (length bytes ≤ MAX_PACKET)
+IsSized bytes = (packet_head ≤ length bytes) × (length bytes ≤ max_packet)
 
 -- The first rule that the bytes break. In the last line are the faults of messages: `ReservedBits` and `NotAscii`.
 abbrev pub IsRefused : List ℕ → TslFault → Type 0
-IsRefused bytes (TooLong n) = (n ≡ length bytes) × (MAX_PACKET < n)
-IsRefused bytes (Short n) = ((n ≡ length bytes) × (n < PACKET_HEAD)) ⊎ HasBadMessage bytes (Short n)
+IsRefused bytes (TooLong n) = (n ≡ length bytes) × (max_packet < n)
+IsRefused bytes (Short n) = ((n ≡ length bytes) × (n < packet_head)) ⊎ HasBadMessage bytes (Short n)
 IsRefused bytes (WrongCount found wanted) =
     IsSized bytes × (behind : List ℕ) × (wanted < 2 ^ 16) × (bytes ≡ word wanted ++ behind)
     × (found ≡ length behind) × (found ≢ wanted)
-IsRefused bytes (Version v) = IsSized bytes × (behind : List ℕ) × (bytes ≡ with_count (v ∷ behind)) × (v ≢ VERSION)
-IsRefused bytes (Flags f) = IsSized bytes × (behind : List ℕ) × (bytes ≡ with_count (VERSION ∷ f ∷ behind)) × (f ≢ FLAGS)
+IsRefused bytes (Version v) = IsSized bytes × (behind : List ℕ) × (bytes ≡ with_count (v ∷ behind)) × (v ≢ version)
+IsRefused bytes (Flags f) = IsSized bytes × (behind : List ℕ) × (bytes ≡ with_count (version ∷ f ∷ behind)) × (f ≢ plain_flags)
 IsRefused bytes fault = HasBadMessage bytes fault

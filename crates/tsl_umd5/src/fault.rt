@@ -26,6 +26,6 @@ pub enum TslFault {
     #[error("the display of index {0} has a reserved bit set")]
     ReservedBits(u16),
     /// The byte of a text at this place is not from 32 to 126.
-    #[error("byte {0} is no printable ASCII character")]
+    #[error("the byte at place {0} is no printable ASCII character")]
     NotAscii(usize),
 }

@@ -3,11 +3,11 @@
 /// VER: the version byte of the TSL UMD Protocol V5.0.
 pub const VERSION: u8 = 0;
 
-/// FLAGS of a packet of display messages with ASCII texts, the one kind of this profile: bit 0 would announce
-/// UTF-16 texts, and bit 1 screen control data.
+/// FLAGS of a packet of display messages with texts in ASCII, the one kind of this profile: bit 0 would announce
+/// texts in UTF-16, and bit 1 screen control data.
 pub const FLAGS: u8 = 0;
 
-/// The bytes of PBC, which does not count itself.
+// The bytes of PBC, which doesn't count itself.
 pub(crate) const COUNT_BYTES: usize = 2;
 
 /// The bytes of PBC, VER, FLAGS and SCREEN, which begin each packet.

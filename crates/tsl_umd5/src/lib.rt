@@ -9,7 +9,6 @@ mod layout;
 mod message;
 mod read;
 mod shown;
-mod text;
 mod write;
 
 pub use fault::TslFault;
@@ -19,9 +18,10 @@ pub use layout::{
     VERSION,
 };
 pub use read::{Packet, one_text, read_packet};
-pub use shown::Shown;
-pub use text::is_text;
+pub use shown::{Shown, is_text};
 pub use write::{add_display, begin_packet};
 
+#[cfg(test)]
+mod example;
 #[cfg(test)]
 mod tests;

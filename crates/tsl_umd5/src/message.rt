@@ -2,16 +2,17 @@
 
 ghost use Rattle.std.specs.Prelude.{◌≡◌, ◌<◌, ◌+◌, ◌^◌, Ok, Err, MatchResult, IfSome, length};
 ghost use Rattle.std.specs.Option.{option_map};
+ghost use Rattle.tsl_umd5.specs.Layout.{message_head};
 ghost use Rattle.tsl_umd5.specs.Packet.{view};
-ghost use Rattle.tsl_umd5.specs.Reading.{display_of, fields, front, judged};
+ghost use Rattle.tsl_umd5.specs.Reading.{display_of, front, judged};
+ghost use Rattle.tsl_umd5.specs.ReadingInside.{fields};
 
 use crate::fault::TslFault;
 use crate::lamp::Lamp;
 use crate::layout::MESSAGE_HEAD;
-use crate::shown::Shown;
-use crate::text::first_unprintable;
+use crate::shown::{Shown, first_unprintable};
 
-/// The fields of a display message, before they are judged.
+// The fields of a display message, before they are judged.
 #[derive(Clone, Copy)]
 pub(crate) struct Message<'a> {
     pub(crate) index: u16,
@@ -19,12 +20,12 @@ pub(crate) struct Message<'a> {
     pub(crate) text: &'a [u8],
 }
 
-/// The message at the front and the bytes behind it, unless its head or its text goes past the end.
+// The message at the front and the bytes behind it, unless its head or its text goes past the end.
 #[tactic(auto, unfolding(crate::specs::Reading::front))]
 pub(crate) fn front(bytes: &[u8]) -> Option<(Message<'_>, &[u8])>
     ensures found { option_map (λ x. (fields x.0, x.1.now)) result ≡ front bytes.now }
     ensures len { IfSome result
-        (λ x. length bytes.now ≡ MESSAGE_HEAD + length x.0.text.now + length x.1.now) }
+        (λ x. length bytes.now ≡ message_head + length x.0.text.now + length x.1.now) }
 {
     let [i0, i1, c0, c1, n0, n1, rest @ ..] = bytes else {
         return None;
@@ -47,10 +48,10 @@ pub(crate) fn front(bytes: &[u8]) -> Option<(Message<'_>, &[u8])>
 }
 
 impl<'a> Message<'a> {
-    /// What is wrong with the message, which begins at this place of the packet.
+    // What is wrong with the message, which begins at this place of the packet.
     #[tactic(auto, unfolding(crate::specs::Reading::judged))]
     pub(crate) fn judge(&self, place: usize) -> Result<(), TslFault>
-        requires { place + MESSAGE_HEAD + length self.now.text.now < 2 ^ 64 }
+        requires { place + message_head + length self.now.text.now < 2 ^ 64 }
         ensures { MatchResult result
             (λ _. judged place (fields self.now) ≡ Ok (display_of (fields self.now)))
             (λ fault. judged place (fields self.now) ≡ Err fault) }
@@ -59,12 +60,12 @@ impl<'a> Message<'a> {
             return Err(TslFault::ReservedBits(self.index));
         }
         match first_unprintable(self.text) {
-            Some(at) => Err(TslFault::NotAscii(place + MESSAGE_HEAD + at)),
+            Some(offset) => Err(TslFault::NotAscii(place + MESSAGE_HEAD + offset)),
             None => Ok(()),
         }
     }
 
-    /// What the message says of its display.
+    // What the message says of its display.
     pub(crate) fn shown(&self) -> Shown<'a>
         requires { self.now.control < 256 }
         ensures { view result ≡ display_of (fields self.now) }

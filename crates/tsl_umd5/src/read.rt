@@ -1,7 +1,7 @@
 //! Reading a packet.
 
 ghost use Rattle.std.specs.Prelude.{◌≡◌, ◌≤◌, ◌∷◌, [], Ok, Err, ◌↔◌, MatchResult, IsOk, IfOk, IfSome, IfNone, length};
-ghost use Rattle.tsl_umd5.specs.declared.layout.TheConstants.{MAX_PACKET, PACKET_HEAD};
+ghost use Rattle.tsl_umd5.specs.Layout.{max_packet, packet_head};
 ghost use Rattle.tsl_umd5.specs.Packet.{Contents, view, IsTextOf, OneText};
 ghost use Rattle.tsl_umd5.specs.Reading.{all_at, reading};
 ghost use Rattle.tsl_umd5.specs.Refusal.{IsRefused};
@@ -21,7 +21,7 @@ pub struct Packet<'a> {
 
 impl<'a> Model for Packet<'a> {
     ghost use Rattle.tsl_umd5.specs.Packet.{Contents};
-    ghost use Rattle.tsl_umd5.specs.Reading.{displays_in, AreMessages};
+    ghost use Rattle.tsl_umd5.specs.ReadingInside.{displays_in, AreMessages};
 
     ghost Value = { Contents };
 
@@ -38,10 +38,11 @@ impl<'a> Packet<'a> {
         self.screen
     }
 
-    /// Takes the first of the displays that are left, or tells by `None` that none is left. The messages were judged
+    /// Takes the first of the displays that are left; the answer is `None` where none is left. The messages were judged
     /// by `read_packet`, and are not judged again.
     pub fn next(&mut self) -> Option<Shown<'a>>
-        ensures first { IfSome result (λ shown. self.old.displays ≡ view shown ∷ self.new.displays) }
+        ensures first { IfSome result
+            (λ shown. self.old.displays ≡ view shown ∷ self.new.displays) }
         ensures none { IfNone result ((self.old.displays ≡ []) × (self.new.displays ≡ [])) }
         ensures screen { self.new.screen ≡ self.old.screen }
     {
@@ -79,6 +80,7 @@ pub fn one_text()
     ensures { OneText }
 {}
 
+// Reads the head, and has the messages judged.
 #[tactic(auto, unfolding(crate::specs::Reading::reading, crate::specs::Reading::contents))]
 fn packet_of(bytes: &[u8]) -> Result<Packet<'_>, TslFault>
     ensures { result ≡ reading bytes.now }
@@ -105,12 +107,12 @@ fn packet_of(bytes: &[u8]) -> Result<Packet<'_>, TslFault>
     Ok(Packet { screen, messages })
 }
 
-/// Judges display messages one after another, the first of which begins behind the packet's head.
+// Judges display messages one after another, the first of which begins behind the packet's head.
 fn check_messages(messages: &[u8]) -> Result<(), TslFault>
-    requires { length messages.now ≤ MAX_PACKET }
+    requires { length messages.now ≤ max_packet }
     ensures { MatchResult result
-        (λ _. IsOk (all_at PACKET_HEAD messages.now))
-        (λ fault. all_at PACKET_HEAD messages.now ≡ Err fault) }
+        (λ _. IsOk (all_at packet_head messages.now))
+        (λ fault. all_at packet_head messages.now ≡ Err fault) }
 {
     let mut place = PACKET_HEAD;
     let mut rest = messages;

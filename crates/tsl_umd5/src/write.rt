@@ -2,8 +2,8 @@
 
 ghost use Rattle.std.specs.Prelude.{◌≡◌, ℕ, ◌+◌, ◌-◌, ◌<◌, ◌≤◌, ◌^◌, List, [], ◌∷◌, ◌++◌, length, take, drop, vec_len, vec_capacity};
 ghost use Rattle.std.specs.List.{AllByRecursion};
-ghost use Rattle.tsl_umd5.specs.declared.layout.TheConstants.{MAX_BRIGHTNESS, MAX_PACKET, MESSAGE_HEAD};
-ghost use Rattle.tsl_umd5.specs.Packet.{Display, view, word, message_of, message_text, packet_text, IsPrintable, IsPacketText};
+ghost use Rattle.tsl_umd5.specs.Layout.{max_brightness, max_packet, packet_head};
+ghost use Rattle.tsl_umd5.specs.Packet.{Display, view, word, display_text, message_length, packet_text, IsPrintable, IsPacketText};
 
 use crate::layout::{COUNT_BYTES, FLAGS, PACKET_HEAD, VERSION};
 use crate::shown::Shown;
@@ -13,13 +13,13 @@ use crate::shown::Shown;
 /// SCREEN 65535, by which TSL UMD Protocol V5.0 addresses every screen, is a number like any other here.
 #[tactic(auto, unfolding(crate::specs::Packet::packet_text, crate::specs::Packet::messages_text))]
 pub fn begin_packet(screen: u16, out: &mut Vec<u8>)
-    requires { vec_len out.old + PACKET_HEAD ≤ vec_capacity out.old }
+    requires room { vec_len out.old + packet_head ≤ vec_capacity out.old }
     ensures begun { out.new.items ≡ out.old.items ++ packet_text screen [] }
 
     // `add_display` can follow, at the place where `out` ended.
     ensures packet { IsPacketText (drop (vec_len out.old) out.new.items) }
-    ensures len { vec_len out.new ≡ vec_len out.old + PACKET_HEAD }
-    ensures capacity { vec_capacity out.old ≤ vec_capacity out.new }
+    ensures len { vec_len out.new ≡ vec_len out.old + packet_head }
+    ensures room { vec_capacity out.new ≡ vec_capacity out.old }
 {
     let count = (PACKET_HEAD - COUNT_BYTES) as u16;
     append(&count.to_le_bytes(), out);
@@ -28,36 +28,38 @@ pub fn begin_packet(screen: u16, out: &mut Vec<u8>)
 }
 
 /// Puts a display behind the others of the packet that stands from `start` on to the end of `out`. It needs six
-/// spare bytes and those of the text, and takes no memory. The bytes before `start` stay.
+/// spare bytes and those of TEXT, and takes no memory. The bytes before `start` stay.
 pub fn add_display(start: usize, shown: &Shown<'_>, out: &mut Vec<u8>)
     requires packet { IsPacketText (drop start out.old.items) }
-    requires brightness { shown.now.brightness ≤ MAX_BRIGHTNESS }
+    requires brightness { shown.now.brightness ≤ max_brightness }
     requires text { AllByRecursion IsPrintable shown.now.text.now }
-    requires size { vec_len out.old + MESSAGE_HEAD + length shown.now.text.now ≤ start + MAX_PACKET }
-    requires room { vec_len out.old + MESSAGE_HEAD + length shown.now.text.now ≤ vec_capacity out.old }
+    requires size { vec_len out.old + message_length (view shown.now) ≤ start + max_packet }
+    requires room { vec_len out.old + message_length (view shown.now) ≤ vec_capacity out.old }
 
     // Whichever screen and displays the packet was of, this display stands behind them.
-    ensures added { (screen : ℕ) (ds : List Display) → drop start out.old.items ≡ packet_text screen ds
+    ensures added { (screen : ℕ) (ds : List Display)
+        → drop start out.old.items ≡ packet_text screen ds
         → drop start out.new.items ≡ packet_text screen (ds ++ view shown.now ∷ []) }
     ensures before { take start out.new.items ≡ take start out.old.items }
 
     // The next display can follow.
     ensures packet { IsPacketText (drop start out.new.items) }
-    ensures len { vec_len out.new ≡ vec_len out.old + MESSAGE_HEAD + length shown.now.text.now }
-    ensures capacity { vec_capacity out.old ≤ vec_capacity out.new }
+    ensures len { vec_len out.new ≡ vec_len out.old + message_length (view shown.now) }
+    ensures room { vec_capacity out.new ≡ vec_capacity out.old }
 {
     append_message(shown, out);
     set_count(start, out);
 }
 
+// Appends the display message of a display.
 #[tactic(auto, unfolding(crate::specs::Packet::message_text))]
 fn append_message(shown: &Shown<'_>, out: &mut Vec<u8>)
-    requires brightness { shown.now.brightness ≤ MAX_BRIGHTNESS }
+    requires brightness { shown.now.brightness ≤ max_brightness }
     requires length { length shown.now.text.now < 2 ^ 16 }
-    requires room { vec_len out.old + MESSAGE_HEAD + length shown.now.text.now ≤ vec_capacity out.old }
-    ensures appended { out.new.items ≡ out.old.items ++ message_text (message_of (view shown.now)) }
-    ensures len { vec_len out.new ≡ vec_len out.old + MESSAGE_HEAD + length shown.now.text.now }
-    ensures capacity { vec_capacity out.old ≤ vec_capacity out.new }
+    requires room { vec_len out.old + message_length (view shown.now) ≤ vec_capacity out.old }
+    ensures text { out.new.items ≡ out.old.items ++ display_text (view shown.now) }
+    ensures len { vec_len out.new ≡ vec_len out.old + message_length (view shown.now) }
+    ensures room { vec_capacity out.new ≡ vec_capacity out.old }
     ensures index { shown.now.index < 2 ^ 16 }
 {
     append(&shown.index.to_le_bytes(), out);
@@ -66,24 +68,27 @@ fn append_message(shown: &Shown<'_>, out: &mut Vec<u8>)
     append(shown.text, out);
 }
 
-/// Writes PBC anew, behind which a message has been added.
+// Writes PBC anew, behind which a message has been added.
 fn set_count(start: usize, out: &mut Vec<u8>)
     requires within { start + COUNT_BYTES ≤ vec_len out.old }
     requires fits { vec_len out.old - (start + COUNT_BYTES) < 2 ^ 16 }
     ensures set { out.new.items ≡ take start out.old.items
         ++ word (vec_len out.old - (start + COUNT_BYTES)) ++ drop (start + COUNT_BYTES) out.old.items }
     ensures len { vec_len out.new ≡ vec_len out.old }
-    ensures capacity { vec_capacity out.new ≡ vec_capacity out.old }
+    ensures room { vec_capacity out.new ≡ vec_capacity out.old }
 {
     let count = (out.len() - (start + COUNT_BYTES)) as u16;
     out[start..start + COUNT_BYTES].copy_from_slice(&count.to_le_bytes());
 }
 
+// Appends bytes for which there is room.
 fn append(bytes: &[u8], out: &mut Vec<u8>)
-    requires { vec_len out.old + length bytes.now ≤ vec_capacity out.old }
-    ensures appended { out.new.items ≡ out.old.items ++ bytes.now }
+    requires room { vec_len out.old + length bytes.now ≤ vec_capacity out.old }
+    ensures text { out.new.items ≡ out.old.items ++ bytes.now }
     ensures len { vec_len out.new ≡ vec_len out.old + length bytes.now }
-    ensures capacity { vec_capacity out.old ≤ vec_capacity out.new }
+    ensures room { vec_capacity out.new ≡ vec_capacity out.old }
 {
-    out.extend_from_slice(bytes).unwrap();
+    for byte in bytes {
+        out.push_reserved(*byte);
+    }
 }

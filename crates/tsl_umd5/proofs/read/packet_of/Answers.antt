@@ -2,7 +2,7 @@ use Rattle.std.proofs.Common.{◌+◌, ◌-◌, length, take, drop, arith}
 use Rattle.std.proofs.lemmas.Grind.{common_steps}
 use Rattle.std.proofs.lemmas.List.{length-drop, take_rest, get_or-drop}
 use Rattle.tsl_umd5.specs.Reading.{contents, reading}
-use Rattle.tsl_umd5.proofs.Packets.{all_at-displays_in, are_read}
+use Rattle.tsl_umd5.proofs.ReadingInsideLemmas.{all_at-displays_in, are_read}
 use Rattle.tsl_umd5.proofs.read.packet_of.Goals as goal
 
 pub invariant_of-result : goal.invariant_of-result

@@ -1,8 +1,8 @@
 use Rattle.std.proofs.Common.{ap, sym, ◌∙◌, arith}
 use Rattle.tsl_umd5.specs.Reading.{reading}
-use Rattle.tsl_umd5.proofs.Messages.{IsBytes}
-use Rattle.tsl_umd5.proofs.Refusals.{is_refused, is_reading}
-use Rattle.tsl_umd5.proofs.Reading.{is_found, reading_again}
+use Rattle.tsl_umd5.proofs.MessageLemmas.{IsBytes}
+use Rattle.tsl_umd5.proofs.RefusalLemmas.{is_refused, is_reading}
+use Rattle.tsl_umd5.proofs.ReadingLemmas.{is_found, reading_again}
 use Rattle.tsl_umd5.proofs.read.read_packet.Goals as goal
 
 pub returns-clause-found : goal.returns-clause-found

@@ -1,6 +1,6 @@
 use Rattle.std.proofs.Common.{◌≡◌, ℕ, ◌≤◌, List, [], ◌∷◌, ◌++◌, length, take, drop, vec_len, ◌∙◌, arith}
 use Rattle.tsl_umd5.specs.Packet.{Display, view, packet_text, IsDisplay}
-use Rattle.tsl_umd5.proofs.Writing.{packet_text_is_long, display_added, take_behind, drop_behind, packet_grown}
+use Rattle.tsl_umd5.proofs.PacketLemmas.{packet_text_is_long, display_added, take_behind, drop_behind, packet_grown}
 use Rattle.tsl_umd5.proofs.write.add_display.Goals as goal
 
 pub append_message-requires-clause-length : goal.append_message-requires-clause-length
@@ -22,7 +22,7 @@ set_count-requires-clause-fits c =
 whole : (c : goal.After-set_count) (screen : ℕ) (ds : List Display) → drop c.args.start c.args.out.now.items ≡ packet_text screen ds
     → c.set_count.new.out.items ≡ take c.args.start c.args.out.now.items ++ packet_text screen (ds ++ view c.args.shown.now ∷ [])
 whole c screen ds is_text =
-    c.set_count.ensures.set ∙ display_added c.args.start (vec_len c.append_message.new.out) c.args.out.now.items c.append_message.new.out.items screen ds (view c.args.shown.now) (grind arith) is_text c.append_message.ensures.appended
+    c.set_count.ensures.set ∙ display_added c.args.start (vec_len c.append_message.new.out) c.args.out.now.items c.append_message.new.out.items screen ds (view c.args.shown.now) (grind arith) is_text c.append_message.ensures.text
 
 within : (c : goal.After-set_count) → c.args.start ≤ length c.args.out.now.items
 within c = omega (arith, packet_text_is_long c.args.start c.args.out.now.items c.requires.packet)

@@ -1,7 +1,7 @@
 use Rattle.std.proofs.Common.{arith}
 use Rattle.std.proofs.lemmas.Grind.{common_steps}
 use Rattle.tsl_umd5.specs.Packet.{messages_text, packet_text}
-use Rattle.tsl_umd5.proofs.Writing.{packet_begun}
+use Rattle.tsl_umd5.proofs.PacketLemmas.{packet_begun}
 use Rattle.tsl_umd5.proofs.write.begin_packet.Goals as goal
 
 pub returns-clause-begun : goal.returns-clause-begun

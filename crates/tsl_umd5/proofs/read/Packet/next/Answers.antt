@@ -1,9 +1,9 @@
 use Rattle.std.proofs.Common.{◌∷◌, ap, sym, ◌∙◌, arith}
 use Rattle.std.proofs.lemmas.Grind.{common_steps}
 use Rattle.tsl_umd5.specs.Packet.{Display}
-use Rattle.tsl_umd5.specs.Reading.{fields}
-use Rattle.tsl_umd5.specs.Reading.{displays_in}
-use Rattle.tsl_umd5.proofs.Packets.{none_left, is_never_cut, takes}
+use Rattle.tsl_umd5.specs.ReadingInside.{fields}
+use Rattle.tsl_umd5.specs.ReadingInside.{displays_in}
+use Rattle.tsl_umd5.proofs.ReadingInsideLemmas.{none_left, is_never_cut, takes}
 use Rattle.tsl_umd5.proofs.read.Packet.next.Goals as goal
 
 pub returns-then-is_empty-clause-none : goal.returns-then-is_empty-clause-none

@@ -11,7 +11,7 @@ use Rattle.tsl_umd5.specs.declared.fault.TslFault.{TslFault}
 use Rattle.tsl_umd5.specs.declared.fault.TslFault.TheVariants.{ReservedBits, NotAscii}
 use Rattle.tsl_umd5.specs.declared.lamp.Lamp.{Lamp}
 use Rattle.tsl_umd5.specs.declared.lamp.Lamp.TheVariants.{Off, Red, Green, Amber}
-use Rattle.tsl_umd5.specs.declared.layout.TheConstants.{MESSAGE_HEAD}
+use Rattle.tsl_umd5.specs.Layout.{message_head}
 use Rattle.tsl_umd5.specs.Lamp.{lamp_code, lamp_of}
 use Rattle.tsl_umd5.specs.Packet.{Display, Message, IsMessage, word, message_text, control_of, message_of, IsPrintable}
 use Rattle.tsl_umd5.specs.Reading.{number, front, display_of, is_printable, judged}
@@ -62,12 +62,12 @@ front_takes (i₀ ∷ i₁ ∷ c₀ ∷ c₁ ∷ n₀ ∷ n₁ ∷ bytes) x fits
 front_takes bytes x fits e = absurd cc
 
 -- what is behind the front is shorter
-pub length-front : (bytes : List ℕ) (x : Message × List ℕ) → front bytes ≡ Some x → length bytes ≡ MESSAGE_HEAD + length x.0.text + length x.1
+pub length-front : (bytes : List ℕ) (x : Message × List ℕ) → front bytes ≡ Some x → length bytes ≡ message_head + length x.0.text + length x.1
 unfolding front
 length-front (i₀ ∷ i₁ ∷ c₀ ∷ c₁ ∷ n₀ ∷ n₁ ∷ bytes) x e =
     let len = number n₀ n₁ in
     let g = chosen (ltb (length bytes) len) (record { index = number i₀ i₁; control = number c₀ c₁; text = take len bytes }, drop len bytes) x e in
-    subst (λ (y : Message × List ℕ). length (i₀ ∷ i₁ ∷ c₀ ∷ c₁ ∷ n₀ ∷ n₁ ∷ bytes) ≡ MESSAGE_HEAD + length y.0.text + length y.1) g.1 (omega (arith, length-take len bytes, length-drop len bytes, ltb-false _ _ g.0))
+    subst (λ (y : Message × List ℕ). length (i₀ ∷ i₁ ∷ c₀ ∷ c₁ ∷ n₀ ∷ n₁ ∷ bytes) ≡ message_head + length y.0.text + length y.1) g.1 (omega (arith, length-take len bytes, length-drop len bytes, ltb-false _ _ g.0))
 length-front bytes x e = absurd cc
 
 -- ---- what the fields say
@@ -152,8 +152,8 @@ pub record IsGood (m : Message) : Type 0 where
 pub judged_ok : (place : ℕ) (m : Message) (d : Display) → judged place m ≡ Ok d → IsGood m × (display_of m ≡ d)
 unfolding judged
 judged_ok place m d e =
-    let tested = ok_by_test (leb 256 m.control) (ReservedBits m.index) (option_map_or (λ at. Err (NotAscii (place + MESSAGE_HEAD + at))) (position is_unprintable m.text) (Ok (display_of m))) d e in
-    let mapped = ok_by_map (position is_unprintable m.text) (λ at. NotAscii (place + MESSAGE_HEAD + at)) (display_of m) d tested.1 in
+    let tested = ok_by_test (leb 256 m.control) (ReservedBits m.index) (option_map_or (λ at. Err (NotAscii (place + message_head + at))) (position is_unprintable m.text) (Ok (display_of m))) d e in
+    let mapped = ok_by_map (position is_unprintable m.text) (λ at. NotAscii (place + message_head + at)) (display_of m) d tested.1 in
     (record { control = leb-false _ _ tested.0; text = all_from 0 m.text (sym (position_from-zero is_unprintable m.text) ∙ mapped.0) }, mapped.1)
 
 pub judged_again : (place : ℕ) (m : Message) → IsGood m → judged place m ≡ Ok (display_of m)

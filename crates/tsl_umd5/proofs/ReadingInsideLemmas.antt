@@ -6,19 +6,20 @@ use Rattle.std.specs.List.{AllByRecursion}
 use Rattle.std.proofs.lemmas.List.{append-nil}
 use Rattle.tsl_umd5.specs.declared.fault.TslFault.{TslFault}
 use Rattle.tsl_umd5.specs.declared.fault.TslFault.TheVariants.{Short}
-use Rattle.tsl_umd5.specs.declared.layout.TheConstants.{MAX_PACKET, PACKET_HEAD, MESSAGE_HEAD}
+use Rattle.tsl_umd5.specs.Layout.{max_packet, packet_head, message_head}
 use Rattle.tsl_umd5.specs.Packet.{Display, Message, message_of, messages_text, IsDisplay}
-use Rattle.tsl_umd5.specs.Reading.{◌>>=◌, front, display_of, judged, all_at, displays_in, AreMessages}
-use Rattle.tsl_umd5.proofs.Messages.{IsBytes, length-front, control_below, display_again}
-use Rattle.tsl_umd5.proofs.Displays.{messages_text-nil, length-messages_text, all_at-nil, all_at-front, all_at-step, all_at-again, all_at-takes, front_display}
+use Rattle.tsl_umd5.specs.Reading.{◌>>=◌, front, display_of, judged, all_at}
+use Rattle.tsl_umd5.specs.ReadingInside.{displays_in, AreMessages}
+use Rattle.tsl_umd5.proofs.MessageLemmas.{IsBytes, length-front, control_below, display_again}
+use Rattle.tsl_umd5.proofs.AllAtLemmas.{messages_text-nil, length-messages_text, all_at-nil, all_at-front, all_at-step, all_at-again, all_at-takes, front_display}
 
 -- ---- the displays that are left
 
 pub displays_in-messages_text : (ds : List Display) → AllByRecursion IsDisplay ds → length (messages_text ds) < 2 ^ 16 → displays_in (messages_text ds) ≡ ds
 unfolding displays_in
-displays_in-messages_text ds all lt = ap (λ (read : Result (List Display) TslFault). result_unwrap_or read []) (all_at-again PACKET_HEAD ds all lt)
+displays_in-messages_text ds all lt = ap (λ (read : Result (List Display) TslFault). result_unwrap_or read []) (all_at-again packet_head ds all lt)
 
-pub are_messages : (bytes : List ℕ) (ds : List Display) → bytes ≡ messages_text ds → AllByRecursion IsDisplay ds → length bytes ≤ MAX_PACKET → (displays_in bytes ≡ ds) × AreMessages bytes
+pub are_messages : (bytes : List ℕ) (ds : List Display) → bytes ≡ messages_text ds → AllByRecursion IsDisplay ds → length bytes ≤ max_packet → (displays_in bytes ≡ ds) × AreMessages bytes
 are_messages bytes ds is_text all le =
     let same : displays_in bytes ≡ ds = ap displays_in is_text ∙ displays_in-messages_text ds all (omega (arith, ap length is_text)) in
     (same, record { text = is_text ∙ ap messages_text (sym same); displays = subst (AllByRecursion IsDisplay) (sym same) all; size = le })
@@ -27,18 +28,18 @@ ok_read : (read : Result (List Display) TslFault) → IsOk read → read ≡ Ok 
 ok_read (Ok ds) e = refl
 ok_read (Err fault) e = absurd cc
 
-pub all_at-displays_in : (bytes : List ℕ) → IsOk (all_at PACKET_HEAD bytes) → all_at PACKET_HEAD bytes ≡ Ok (displays_in bytes)
+pub all_at-displays_in : (bytes : List ℕ) → IsOk (all_at packet_head bytes) → all_at packet_head bytes ≡ Ok (displays_in bytes)
 unfolding displays_in
-all_at-displays_in bytes is_ok = ok_read (all_at PACKET_HEAD bytes) is_ok
+all_at-displays_in bytes is_ok = ok_read (all_at packet_head bytes) is_ok
 
-pub are_read : (bytes : List ℕ) → IsBytes bytes → length bytes ≤ MAX_PACKET → IsOk (all_at PACKET_HEAD bytes) → AreMessages bytes
+pub are_read : (bytes : List ℕ) → IsBytes bytes → length bytes ≤ max_packet → IsOk (all_at packet_head bytes) → AreMessages bytes
 are_read bytes fits le is_ok =
-    let taken = all_at-takes PACKET_HEAD bytes (displays_in bytes) fits (all_at-displays_in bytes is_ok) in
+    let taken = all_at-takes packet_head bytes (displays_in bytes) fits (all_at-displays_in bytes is_ok) in
     record { text = taken.0; displays = taken.1; size = le }
 
 pub none_left : (bytes : List ℕ) → length bytes ≡ 0 → displays_in bytes ≡ []
 unfolding displays_in
-none_left [] e = ap (λ (read : Result (List Display) TslFault). result_unwrap_or read []) (all_at-nil PACKET_HEAD)
+none_left [] e = ap (λ (read : Result (List Display) TslFault). result_unwrap_or read []) (all_at-nil packet_head)
 none_left (b ∷ bytes) e = absurd (omega arith)
 
 -- the first of the displays that are left, whose message is at the front, and the others
@@ -49,10 +50,10 @@ pub record FirstOf (bytes : List ℕ) (first : Display) : Type 0 where
   pub displays : displays_in bytes ≡ first ∷ displays_in rest
   pub others : AreMessages rest
 
-first_of : (bytes : List ℕ) (ds : List Display) → ds ≡ displays_in bytes → bytes ≡ messages_text ds → AllByRecursion IsDisplay ds → length bytes ≤ MAX_PACKET → 0 < length bytes → (d : Display) × FirstOf bytes d
+first_of : (bytes : List ℕ) (ds : List Display) → ds ≡ displays_in bytes → bytes ≡ messages_text ds → AllByRecursion IsDisplay ds → length bytes ≤ max_packet → 0 < length bytes → (d : Display) × FirstOf bytes d
 first_of bytes [] same is_text all le lt = absurd (omega (arith, ap length (is_text ∙ messages_text-nil)))
 first_of bytes (d ∷ ds) same is_text all le lt =
-    let len : length bytes ≡ MESSAGE_HEAD + length d.text + length (messages_text ds) = ap length is_text ∙ length-messages_text d ds in
+    let len : length bytes ≡ message_head + length d.text + length (messages_text ds) = ap length is_text ∙ length-messages_text d ds in
     let others = are_messages (messages_text ds) ds refl all.1 (omega arith) in
     let at_front : front bytes ≡ Some (message_of d, messages_text ds) = ap front (is_text ∙ sym (append-nil (messages_text (d ∷ ds)))) ∙ front_display d ds [] all.0 (omega arith) ∙ ap (λ (rest : List ℕ). Some (message_of d, rest)) (append-nil (messages_text ds)) in
     (d, record { rest = messages_text ds; at_front = at_front; is_display = all.0; displays = sym same ∙ ap (λ (x : List Display). d ∷ x) (sym others.0); others = others.1 })
@@ -96,8 +97,8 @@ Decides-step d (Ok ds) all h = h
 Decides-step d (Err fault) all h = h
 
 pub goes_on : (place : ℕ) (bytes : List ℕ) (x : Message × List ℕ) (all : Result (List Display) TslFault) → front bytes ≡ Some x → judged place x.0 ≡ Ok (display_of x.0)
-    → Decides (all_at place bytes) all → Decides (all_at (place + (MESSAGE_HEAD + length x.0.text)) x.1) all
-goes_on place bytes x all is_front is_good h = Decides-step (display_of x.0) (all_at (place + (MESSAGE_HEAD + length x.0.text)) x.1) all (subst (λ (read : Result (List Display) TslFault). Decides read all) (all_at-step place bytes x (display_of x.0) is_front is_good) h)
+    → Decides (all_at place bytes) all → Decides (all_at (place + (message_head + length x.0.text)) x.1) all
+goes_on place bytes x all is_front is_good h = Decides-step (display_of x.0) (all_at (place + (message_head + length x.0.text)) x.1) all (subst (λ (read : Result (List Display) TslFault). Decides read all) (all_at-step place bytes x (display_of x.0) is_front is_good) h)
 
 pub from_front_none : (place b : ℕ) (bytes : List ℕ) → front (b ∷ bytes) ≡ None → all_at place (b ∷ bytes) ≡ Err (Short place)
 from_front_none place b bytes e = all_at-front place b bytes ∙ rw e refl

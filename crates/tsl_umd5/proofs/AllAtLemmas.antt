@@ -5,10 +5,10 @@ use Rattle.std.specs.Option.{ok_or}
 use Rattle.std.proofs.lemmas.List.{length-append, append-nil}
 use Rattle.tsl_umd5.specs.declared.fault.TslFault.{TslFault}
 use Rattle.tsl_umd5.specs.declared.fault.TslFault.TheVariants.{Short}
-use Rattle.tsl_umd5.specs.declared.layout.TheConstants.{MESSAGE_HEAD}
+use Rattle.tsl_umd5.specs.Layout.{message_head}
 use Rattle.tsl_umd5.specs.Packet.{Display, Message, IsMessage, message_of, message_text, messages_text, IsDisplay}
 use Rattle.tsl_umd5.specs.Reading.{◌>>=◌, front, display_of, judged, messages_at, all_at}
-use Rattle.tsl_umd5.proofs.Messages.{IsBytes, front_again, front_takes, length-front, control_below, display_again, message_again, judged_ok, judged_again}
+use Rattle.tsl_umd5.proofs.MessageLemmas.{IsBytes, front_again, front_takes, length-front, control_below, display_again, message_again, judged_ok, judged_again}
 
 abbrev done : List Display → Result (List Display) TslFault
 done ds = Ok ds
@@ -30,14 +30,14 @@ then_display d read = read >>= λ ds. Ok (d ∷ ds)
 
 -- what the message at the front comes to, with so many messages behind it at most
 abbrev from_front : ℕ → ℕ → Option (Message × List ℕ) → Result (List Display) TslFault
-from_front most place o = ok_or o (Short place) >>= λ first. judged place first.0 >>= λ display. then_display display (messages_at most (place + (MESSAGE_HEAD + length first.0.text)) first.1)
+from_front most place o = ok_or o (Short place) >>= λ first. judged place first.0 >>= λ display. then_display display (messages_at most (place + (message_head + length first.0.text)) first.1)
 
 -- ---- as many messages as there are bytes are enough
 
 same_from_front : (n m place : ℕ) (o : Option (Message × List ℕ)) → ((x : Message × List ℕ) (p : ℕ) → o ≡ Some x → messages_at n p x.1 ≡ messages_at m p x.1) → from_front n place o ≡ from_front m place o
 same_from_front n m place None same = refl
 same_from_front n m place (Some x) same =
-    ap (λ (read : Result (List Display) TslFault). judged place x.0 >>= λ display. then_display display read) (same x (place + (MESSAGE_HEAD + length x.0.text)) refl)
+    ap (λ (read : Result (List Display) TslFault). judged place x.0 >>= λ display. then_display display read) (same x (place + (message_head + length x.0.text)) refl)
 
 pub messages_at-nil : (most place : ℕ) → messages_at most place [] ≡ Ok []
 unfolding messages_at
@@ -62,16 +62,16 @@ all_at-front place b bytes = refl
 
 -- a good message, and then the others
 pub all_at-step : (place : ℕ) (bytes : List ℕ) (x : Message × List ℕ) (d : Display) → front bytes ≡ Some x → judged place x.0 ≡ Ok d
-    → all_at place bytes ≡ (all_at (place + (MESSAGE_HEAD + length x.0.text)) x.1 >>= λ ds. Ok (d ∷ ds))
+    → all_at place bytes ≡ (all_at (place + (message_head + length x.0.text)) x.1 >>= λ ds. Ok (d ∷ ds))
 unfolding all_at
 all_at-step place [] x d is_front is_good = absurd (omega (arith, length-front [] x is_front))
 all_at-step place (b ∷ bytes) x d is_front is_good =
     let behind = length-front (b ∷ bytes) x is_front in
-    all_at-front place b bytes ∙ rw (is_front, is_good, same_messages (length bytes) (length x.1) (place + (MESSAGE_HEAD + length x.0.text)) x.1 (omega arith) (omega arith)) refl
+    all_at-front place b bytes ∙ rw (is_front, is_good, same_messages (length bytes) (length x.1) (place + (message_head + length x.0.text)) x.1 (omega arith) (omega arith)) refl
 
 -- ---- what was written is read again
 
-length-message_text : (m : Message) → length (message_text m) ≡ MESSAGE_HEAD + length m.text
+length-message_text : (m : Message) → length (message_text m) ≡ message_head + length m.text
 unfolding message_text
 length-message_text m = omega arith
 
@@ -83,7 +83,7 @@ pub messages_text-cons : (d : Display) (ds : List Display) → messages_text (d 
 unfolding messages_text
 messages_text-cons d ds = refl
 
-pub length-messages_text : (d : Display) (ds : List Display) → length (messages_text (d ∷ ds)) ≡ MESSAGE_HEAD + length d.text + length (messages_text ds)
+pub length-messages_text : (d : Display) (ds : List Display) → length (messages_text (d ∷ ds)) ≡ message_head + length d.text + length (messages_text ds)
 length-messages_text d ds = ap length (messages_text-cons d ds) ∙ length-append (message_text (message_of d)) (messages_text ds) ∙ omega (arith, length-message_text (message_of d))
 
 pub fields_of : (d : Display) → IsDisplay d → length d.text < 2 ^ 16 → IsMessage (message_of d)
@@ -113,7 +113,7 @@ pub all_at-append : (place : ℕ) (ds : List Display) (rest : List ℕ) → AllB
 all_at-append place [] rest all lt = rw (messages_text-nil, add-zero) (sym (with_displays-nil (all_at place rest)))
 all_at-append place (d ∷ ds) rest all lt =
     let len = length-messages_text d ds in
-    let next = place + (MESSAGE_HEAD + length d.text) in
+    let next = place + (message_head + length d.text) in
     let step = all_at-step place (messages_text (d ∷ ds) ++ rest) (message_of d, messages_text ds ++ rest) d (front_display d ds rest all.0 (omega arith)) (good place d all.0) in
     let others = all_at-append next ds rest all.1 (omega arith) in
     let behind : next + length (messages_text ds) ≡ place + length (messages_text (d ∷ ds)) = omega arith in
@@ -148,14 +148,14 @@ messages_take most place [] ds fits le e =
     subst (λ (y : List Display). AreOf y []) (ok_is [] ds (sym (messages_at-nil most place) ∙ e)) (sym messages_text-nil, tt)
 messages_take zero place (b ∷ bytes) ds fits le e = absurd (omega arith)
 messages_take (suc most) place (b ∷ bytes) ds fits le e =
-    let f = bind_ok (ok_or (front (b ∷ bytes)) (Short place)) (λ first. judged place first.0 >>= λ display. then_display display (messages_at most (place + (MESSAGE_HEAD + length first.0.text)) first.1)) ds e in
+    let f = bind_ok (ok_or (front (b ∷ bytes)) (Short place)) (λ first. judged place first.0 >>= λ display. then_display display (messages_at most (place + (message_head + length first.0.text)) first.1)) ds e in
     let x = f.0 in
-    let g = bind_ok (judged place x.0) (λ display. then_display display (messages_at most (place + (MESSAGE_HEAD + length x.0.text)) x.1)) ds f.2 in
+    let g = bind_ok (judged place x.0) (λ display. then_display display (messages_at most (place + (message_head + length x.0.text)) x.1)) ds f.2 in
     let d = g.0 in
-    let o = bind_ok (messages_at most (place + (MESSAGE_HEAD + length x.0.text)) x.1) (λ others. Ok (d ∷ others)) ds g.2 in
+    let o = bind_ok (messages_at most (place + (message_head + length x.0.text)) x.1) (λ others. Ok (d ∷ others)) ds g.2 in
     let is_front = front_of_ok (front (b ∷ bytes)) (Short place) x f.1 in
     let first = message_taken place (b ∷ bytes) x d fits is_front g.1 in
-    let others = messages_take most (place + (MESSAGE_HEAD + length x.0.text)) x.1 o.0 first.2 (omega (arith, length-front (b ∷ bytes) x is_front)) o.1 in
+    let others = messages_take most (place + (message_head + length x.0.text)) x.1 o.0 first.2 (omega (arith, length-front (b ∷ bytes) x is_front)) o.1 in
     are_of_both (b ∷ bytes) x.1 d o.0 ds first.0 first.1 others o.2
 
 pub all_at-takes : (place : ℕ) (bytes : List ℕ) (ds : List Display) → IsBytes bytes → all_at place bytes ≡ Ok ds → (bytes ≡ messages_text ds) × AllByRecursion IsDisplay ds

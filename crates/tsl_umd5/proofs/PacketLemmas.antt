@@ -3,7 +3,7 @@ use Rattle.std.proofs.Common.{◌≡◌, ℕ, ◌+◌, ◌-◌, ◌^◌, ◌<◌
 use Rattle.std.specs.List.{flat_map, AllByRecursion}
 use Rattle.std.proofs.lemmas.List.{append-nil, take-append-drop, take-append-le, take_at, drop_at, length-append, length-take-le, length-drop}
 use Rattle.std.proofs.lemmas.List.Concat.{flat_map-append}
-use Rattle.tsl_umd5.specs.declared.layout.TheConstants.{PACKET_HEAD, MAX_PACKET}
+use Rattle.tsl_umd5.specs.Layout.{packet_head, max_packet}
 use Rattle.tsl_umd5.specs.Packet.{Display, word, message_of, message_text, messages_text, counted_text, packet_text, IsDisplay, IsPacket, IsPacketText}
 
 -- one more display is one more message at the end
@@ -31,7 +31,7 @@ display_added start len old mid screen ds d is_len is_packet is_mid =
     append_assoc (take start mid) (word (len - (start + 2))) (drop (start + 2) mid) ∙ cc
 
 -- the text of a packet has its head
-pub packet_text_is_long : (start : ℕ) (bytes : List ℕ) → IsPacketText (drop start bytes) → start + PACKET_HEAD ≤ length bytes
+pub packet_text_is_long : (start : ℕ) (bytes : List ℕ) → IsPacketText (drop start bytes) → start + packet_head ≤ length bytes
 unfolding packet_text
 packet_text_is_long start bytes (p, is) = omega (arith, length-drop start bytes, ap length is.is_text)
 
@@ -52,12 +52,12 @@ take_behind start old new text le e = ap (take start) e ∙ take_at (take start 
 pub drop_behind : (start : ℕ) (old new text : List ℕ) → start ≤ length old → new ≡ take start old ++ text → drop start new ≡ text
 drop_behind start old new text le e = ap (drop start) e ∙ drop_at (take start old) text start (length-take-le start old le)
 
-pub packet_grown : (start : ℕ) (old new : List ℕ) (d : Display) → IsPacketText (drop start old) → IsDisplay d → length new ≤ start + MAX_PACKET
+pub packet_grown : (start : ℕ) (old new : List ℕ) (d : Display) → IsPacketText (drop start old) → IsDisplay d → length new ≤ start + max_packet
     → ((screen : ℕ) (ds : List Display) → drop start old ≡ packet_text screen ds → drop start new ≡ packet_text screen (ds ++ d ∷ []))
     → IsPacketText (drop start new)
 packet_grown start old new d (p, is) is_display size behind =
     let ds = p.displays in
     let text : drop start new ≡ packet_text p.screen (ds ++ d ∷ []) = behind p.screen ds is.is_text in
-    let fits : length (packet_text p.screen (ds ++ d ∷ [])) ≤ MAX_PACKET = omega (arith, ap length text, length-drop start new) in
+    let fits : length (packet_text p.screen (ds ++ d ∷ [])) ≤ max_packet = omega (arith, ap length text, length-drop start new) in
     let is_packet : IsPacket p.screen (ds ++ d ∷ []) = record { screen = is.is_packet.screen; displays = AllByRecursion-push IsDisplay ds d is.is_packet.displays is_display; size = fits } in
     (record { screen = p.screen; displays = ds ++ d ∷ [] }, record { is_packet = is_packet; is_text = text })
