@@ -1,20 +1,18 @@
 -- What is wrong with a message, by its text and by what judging it answers.
-use Rattle.std.proofs.Common.{◌≡◌, ℕ, zero, suc, ◌+◌, ◌^◌, ◌<◌, ◌≤◌, ◌⊎◌, inl, inr, Bool, true, false, cond, not, eqb, ltb, leb, List, [], ◌∷◌, ◌++◌, length, Option, Some, None, Result, Ok, Err, refl, sym, ap, subst, ◌∙◌, append_assoc, eq-eqb, arith}
+use Rattle.std.proofs.Common.{◌≡◌, ℕ, zero, suc, ◌+◌, ◌<◌, ◌≤◌, ◌⊎◌, inl, inr, Bool, true, false, cond, leb, List, [], ◌∷◌, ◌++◌, length, Option, Some, None, Result, Ok, Err, refl, sym, ap, subst, ◌∙◌, append_assoc, arith}
 use Rattle.std.specs.List.{AllByRecursion, position, position_from}
 use Rattle.std.specs.Option.{option_map_or, ok_or}
-use Rattle.std.proofs.lemmas.Bool.{false≢true, not-true, not-false, eqb-true, eqb-false, ne_eqb, cases_Bool, leb-true, leb-false, le-leb, lt-leb, ltb-true, ltb-false, lt-ltb, le-ltb}
+use Rattle.std.proofs.lemmas.Bool.{false≢true, cases_Bool, leb-true, leb-false, le-leb, lt-leb}
 use Rattle.std.proofs.lemmas.Iterator.Adapters.{position_from-zero}
-use Rattle.std.proofs.lemmas.List.{get_or-append-add, length-append}
 use Rattle.tsl_umd5.specs.declared.fault.TslFault.{TslFault}
-use Rattle.tsl_umd5.specs.declared.fault.TslFault.TheVariants.{TooLong, Short, WrongCount, Version, Flags, ReservedBits, NotAscii}
-use Rattle.tsl_umd5.specs.Layout.{version, plain_flags, max_packet, packet_head, message_head}
-use Rattle.tsl_umd5.specs.Packet.{Display, Contents, Message, IsDisplay, IsPrintable, word, message_of, message_text, messages_text, with_count, counted_text}
-use Rattle.tsl_umd5.specs.Reading.{◌>>=◌, number, front, display_of, judged, messages_at, all_at, contents, reading}
-use Rattle.tsl_umd5.specs.Refusal.{BeginsWith, IsCutOff, FirstUnprintable, IsWrong, IsBad, HasBadMessage, IsSized, IsRefused}
-use Rattle.tsl_umd5.proofs.MessageLemmas.{IsBytes, number-word, word-number, number_below, is_unprintable, is_unprintable-false, IsPrintable-from, front_again, front_takes, length-front, judged_ok}
-use Rattle.tsl_umd5.proofs.ReadingLemmas.{with_screen, contents_counted}
+use Rattle.tsl_umd5.specs.declared.fault.TslFault.TheVariants.{Short, ReservedBits, NotAscii}
+use Rattle.tsl_umd5.specs.Layout.{message_head}
+use Rattle.tsl_umd5.specs.Packet.{Display, Message, IsDisplay, IsPrintable, message_of, message_text, messages_text}
+use Rattle.tsl_umd5.specs.Reading.{◌>>=◌, front, display_of, judged, messages_at, all_at}
+use Rattle.tsl_umd5.specs.Refusal.{BeginsWith, IsCutOff, FirstUnprintable, IsWrong, IsBad}
+use Rattle.tsl_umd5.proofs.MessageLemmas.{IsBytes, is_unprintable, is_unprintable-false, IsPrintable-from, front_again, front_takes, length-front, judged_ok}
 use Rattle.tsl_umd5.proofs.ReadingInsideLemmas.{from_front_none, all_at-refused}
-use Rattle.tsl_umd5.proofs.AllAtLemmas.{message_taken, messages_at-nil, front_of_ok, then_display, length-messages_text, all_at-append, with_displays, messages_text-nil, messages_text-cons}
+use Rattle.tsl_umd5.proofs.AllAtLemmas.{message_taken, messages_at-nil, front_of_ok, then_display, length-messages_text, messages_text-nil, messages_text-cons}
 
 -- ---- which test or step failed
 

@@ -61,3 +61,6 @@ packet_grown start old new d (p, is) is_display size behind =
     let fits : length (packet_text p.screen (ds ++ d ∷ [])) ≤ max_packet = omega (arith, ap length text, length-drop start new) in
     let is_packet : IsPacket p.screen (ds ++ d ∷ []) = record { screen = is.is_packet.screen; displays = AllByRecursion-push IsDisplay ds d is.is_packet.displays is_display; size = fits } in
     (record { screen = p.screen; displays = ds ++ d ∷ [] }, record { is_packet = is_packet; is_text = text })
+
+pub three_appended : (a b c d x y z : List ℕ) → b ≡ a ++ x → c ≡ b ++ y → d ≡ c ++ z → d ≡ a ++ (x ++ (y ++ z))
+three_appended a b c d x y z ex ey ez = ez ∙ ap (λ (l : List ℕ). l ++ z) (ey ∙ ap (λ (l : List ℕ). l ++ y) ex) ∙ simp append_assoc

@@ -1,14 +1,14 @@
 -- What a packet holds while it is read, and the laws of whole packets.
-use Rattle.std.proofs.Common.{◌≡◌, ℕ, ◌+◌, ◌^◌, ◌<◌, ◌≤◌, List, [], ◌∷◌, length, Option, Some, None, Result, Ok, Err, refl, sym, ap, subst, ◌∙◌, arith}
+use Rattle.std.proofs.Common.{◌≡◌, ℕ, ◌+◌, ◌-◌, ◌^◌, ◌<◌, ◌≤◌, List, [], ◌∷◌, length, get_or, drop, eq-eqb, Option, Some, None, Result, Ok, Err, refl, sym, ap, subst, ◌∙◌, arith}
 use Rattle.std.specs.Prelude.{IsOk}
 use Rattle.std.specs.Result.{result_unwrap_or}
 use Rattle.std.specs.List.{AllByRecursion}
 use Rattle.std.proofs.lemmas.List.{append-nil}
 use Rattle.tsl_umd5.specs.declared.fault.TslFault.{TslFault}
 use Rattle.tsl_umd5.specs.declared.fault.TslFault.TheVariants.{Short}
-use Rattle.tsl_umd5.specs.Layout.{max_packet, packet_head, message_head}
+use Rattle.tsl_umd5.specs.Layout.{version, plain_flags, packet_head, message_head}
 use Rattle.tsl_umd5.specs.Packet.{Display, Message, message_of, messages_text, IsDisplay}
-use Rattle.tsl_umd5.specs.Reading.{◌>>=◌, front, display_of, judged, all_at}
+use Rattle.tsl_umd5.specs.Reading.{◌>>=◌, number, front, display_of, judged, all_at, contents}
 use Rattle.tsl_umd5.specs.ReadingInside.{displays_in, AreMessages}
 use Rattle.tsl_umd5.proofs.MessageLemmas.{IsBytes, length-front, control_below, display_again}
 use Rattle.tsl_umd5.proofs.AllAtLemmas.{messages_text-nil, length-messages_text, all_at-nil, all_at-front, all_at-step, all_at-again, all_at-takes, front_display}
@@ -19,7 +19,7 @@ pub displays_in-messages_text : (ds : List Display) → AllByRecursion IsDisplay
 unfolding displays_in
 displays_in-messages_text ds all lt = ap (λ (read : Result (List Display) TslFault). result_unwrap_or read []) (all_at-again packet_head ds all lt)
 
-pub are_messages : (bytes : List ℕ) (ds : List Display) → bytes ≡ messages_text ds → AllByRecursion IsDisplay ds → length bytes ≤ max_packet → (displays_in bytes ≡ ds) × AreMessages bytes
+pub are_messages : (bytes : List ℕ) (ds : List Display) → bytes ≡ messages_text ds → AllByRecursion IsDisplay ds → length bytes < 2 ^ 16 → (displays_in bytes ≡ ds) × AreMessages bytes
 are_messages bytes ds is_text all le =
     let same : displays_in bytes ≡ ds = ap displays_in is_text ∙ displays_in-messages_text ds all (omega (arith, ap length is_text)) in
     (same, record { text = is_text ∙ ap messages_text (sym same); displays = subst (AllByRecursion IsDisplay) (sym same) all; size = le })
@@ -32,7 +32,7 @@ pub all_at-displays_in : (bytes : List ℕ) → IsOk (all_at packet_head bytes) 
 unfolding displays_in
 all_at-displays_in bytes is_ok = ok_read (all_at packet_head bytes) is_ok
 
-pub are_read : (bytes : List ℕ) → IsBytes bytes → length bytes ≤ max_packet → IsOk (all_at packet_head bytes) → AreMessages bytes
+pub are_read : (bytes : List ℕ) → IsBytes bytes → length bytes < 2 ^ 16 → IsOk (all_at packet_head bytes) → AreMessages bytes
 are_read bytes fits le is_ok =
     let taken = all_at-takes packet_head bytes (displays_in bytes) fits (all_at-displays_in bytes is_ok) in
     record { text = taken.0; displays = taken.1; size = le }
@@ -50,7 +50,7 @@ pub record FirstOf (bytes : List ℕ) (first : Display) : Type 0 where
   pub displays : displays_in bytes ≡ first ∷ displays_in rest
   pub others : AreMessages rest
 
-first_of : (bytes : List ℕ) (ds : List Display) → ds ≡ displays_in bytes → bytes ≡ messages_text ds → AllByRecursion IsDisplay ds → length bytes ≤ max_packet → 0 < length bytes → (d : Display) × FirstOf bytes d
+first_of : (bytes : List ℕ) (ds : List Display) → ds ≡ displays_in bytes → bytes ≡ messages_text ds → AllByRecursion IsDisplay ds → length bytes < 2 ^ 16 → 0 < length bytes → (d : Display) × FirstOf bytes d
 first_of bytes [] same is_text all le lt = absurd (omega (arith, ap length (is_text ∙ messages_text-nil)))
 first_of bytes (d ∷ ds) same is_text all le lt =
     let len : length bytes ≡ message_head + length d.text + length (messages_text ds) = ap length is_text ∙ length-messages_text d ds in
@@ -117,3 +117,20 @@ refused place bytes x fault all is_front is_bad h = subst (λ (read : Result (Li
 pub all_good : (place : ℕ) (bytes : List ℕ) (all : Result (List Display) TslFault) → length bytes ≡ 0 → Decides (all_at place bytes) all → IsOk all
 all_good place [] all e h = subst (λ (read : Result (List Display) TslFault). Decides read all) (all_at-nil place) h
 all_good place (b ∷ bytes) all e h = absurd (omega arith)
+
+-- a packet whose head is good comes to its screen and the displays of its messages
+pub contents_read : (bytes : List ℕ) (ds : List Display) → packet_head ≤ length bytes → length bytes - 2 ≡ number (get_or bytes 0 0) (get_or bytes 1 0)
+    → get_or bytes 2 0 ≡ version → get_or bytes 3 0 ≡ plain_flags → all_at packet_head (drop packet_head bytes) ≡ Ok ds
+    → contents bytes ≡ Ok (record { screen = number (get_or bytes 4 0) (get_or bytes 5 0); displays = ds })
+unfolding contents
+contents_read (p₀ ∷ p₁ ∷ ver ∷ flags ∷ s₀ ∷ s₁ ∷ bytes) ds le count is_ver is_flags read =
+    let counted : length (ver ∷ flags ∷ s₀ ∷ s₁ ∷ bytes) ≡ number p₀ p₁ = omega arith in
+    rw (eq-eqb (length (ver ∷ flags ∷ s₀ ∷ s₁ ∷ bytes)) (number p₀ p₁) counted, eq-eqb ver version is_ver, eq-eqb flags plain_flags is_flags, read) refl
+contents_read bytes ds le count is_ver is_flags read = absurd (omega arith)
+
+pub contents_is : (bytes messages : List ℕ) (screen : ℕ) → packet_head ≤ length bytes → messages ≡ drop packet_head bytes → screen ≡ number (get_or bytes 4 0) (get_or bytes 5 0)
+    → length bytes - 2 ≡ number (get_or bytes 0 0) (get_or bytes 1 0) → get_or bytes 2 0 ≡ version → get_or bytes 3 0 ≡ plain_flags → IsOk (all_at packet_head messages)
+    → Ok (record { screen = screen; displays = displays_in messages }) ≡ contents bytes
+contents_is bytes messages screen le behind is_screen count is_ver is_flags is_ok =
+    let read : all_at packet_head (drop packet_head bytes) ≡ Ok (displays_in messages) = ap (all_at packet_head) (sym behind) ∙ all_at-displays_in messages is_ok in
+    ap (λ (n : ℕ). Ok (record { screen = n; displays = displays_in messages })) is_screen ∙ sym (contents_read bytes (displays_in messages) le count is_ver is_flags read)

@@ -1,9 +1,9 @@
 //! Reading a packet.
 
-ghost use Rattle.std.specs.Prelude.{◌≡◌, ◌≤◌, ◌∷◌, [], Ok, Err, ◌↔◌, MatchResult, IsOk, IfOk, IfSome, IfNone, length};
-ghost use Rattle.tsl_umd5.specs.Layout.{max_packet, packet_head};
+ghost use Rattle.std.specs.Prelude.{◌≡◌, ◌<◌, ◌^◌, ◌∷◌, [], Ok, Err, ◌↔◌, MatchResult, IsOk, IfOk, IfSome, IfNone, length};
+ghost use Rattle.tsl_umd5.specs.Layout.{packet_head};
 ghost use Rattle.tsl_umd5.specs.Packet.{Contents, view, IsTextOf, OneText};
-ghost use Rattle.tsl_umd5.specs.Reading.{all_at, reading};
+ghost use Rattle.tsl_umd5.specs.Reading.{all_at, contents, reading};
 ghost use Rattle.tsl_umd5.specs.Refusal.{IsRefused};
 
 use crate::fault::TslFault;
@@ -80,14 +80,22 @@ pub fn one_text()
     ensures { OneText }
 {}
 
-// Reads the head, and has the messages judged.
-#[tactic(auto, unfolding(crate::specs::Reading::reading, crate::specs::Reading::contents))]
+// Reads a packet that isn't too long.
+#[tactic(auto, unfolding(crate::specs::Reading::reading))]
 fn packet_of(bytes: &[u8]) -> Result<Packet<'_>, TslFault>
     ensures { result ≡ reading bytes.now }
 {
     if bytes.len() > MAX_PACKET {
         return Err(TslFault::TooLong(bytes.len()));
     }
+    contents_of(bytes)
+}
+
+// Reads the head, and has the messages judged.
+#[tactic(auto, unfolding(crate::specs::Reading::contents))]
+fn contents_of(bytes: &[u8]) -> Result<Packet<'_>, TslFault>
+    ensures { result ≡ contents bytes.now }
+{
     let [p0, p1, version, flags, s0, s1, messages @ ..] = bytes else {
         return Err(TslFault::Short(bytes.len()));
     };
@@ -109,7 +117,7 @@ fn packet_of(bytes: &[u8]) -> Result<Packet<'_>, TslFault>
 
 // Judges display messages one after another, the first of which begins behind the packet's head.
 fn check_messages(messages: &[u8]) -> Result<(), TslFault>
-    requires { length messages.now ≤ max_packet }
+    requires { length messages.now < 2 ^ 16 }
     ensures { MatchResult result
         (λ _. IsOk (all_at packet_head messages.now))
         (λ fault. all_at packet_head messages.now ≡ Err fault) }
