@@ -1,15 +1,15 @@
 -- Sources and sinks in memory by their names.
-use Rattle.std.proofs.Common.{◌≡◌, ◌≢◌, ℕ, ◌+◌, ◌<◌, Bool, true, false, cond, ◌||◌, ◌==◌, List, [], ◌∷◌, ◌++◌, length, get_or, drop, find, filter, Option, Some, None, IfSome, refl, sym, ap, ◌∙◌, subst, inl, inr, add-one}
-use Rattle.std.proofs.lemmas.Bool.{cases_Bool, true≢false}
+use Rattle.std.proofs.Common.{◌≡◌, ◌≢◌, ℕ, ◌+◌, ◌<◌, Bool, true, false, cond, ◌==◌, List, [], ◌∷◌, length, get_or, drop, find, filter, Option, Some, None, IfSome, refl, sym, ap, ◌∙◌, subst, inl, inr, add-one}
+use Rattle.std.proofs.lemmas.Bool.{cases_Bool}
 use Rattle.std.proofs.lemmas.List.{at_drop_more, get_or_default}
 use Rattle.std.proofs.lemmas.Slice.Eq.{bytes_eq-Decides}
 use Rattle.std.specs.List.{slice_get}
 use Rattle.std.specs.Str.{bytes_eq}
 use Rattle.ctl_io.specs.Calls.{next_fails}
 use Rattle.ctl_io.specs.Files.{IfFound, IfMade}
-use Rattle.ctl_io.specs.Held.{Held, Unshown, NoFile, Holds, HasLeft, MayBeMissing, Stays, CountsOn, AfterFound, IsNamed}
+use Rattle.ctl_io.specs.Held.{NoFile, HasLeft, Stays, AfterFound, IsNamed}
 use Rattle.ctl_io.specs.Memory.{IsNewSource, IsNewSink}
-use Rattle.ctl_io.specs.MemFiles.{FilesState, AreNewSources, AreNewSinks, source_has, sink_has, without_first, is_listed, held_by, held_of, lent_source, source_answer, without_source, after_source, lent_sink, sink_answer}
+use Rattle.ctl_io.specs.MemFiles.{FilesState, AreNewSources, AreNewSinks, source_has, sink_has, without_first, is_listed, held_by, held_of, lent_source, source_answer, after_source, lent_sink, sink_answer}
 use Rattle.ctl_io.specs.declared.files.Found.{Found}
 use Rattle.ctl_io.specs.declared.files.Found.TheVariants as found
 use Rattle.ctl_io.specs.declared.files.Made.{Made}

@@ -1,7 +1,7 @@
 -- Bytes that are taken from a source piece by piece.
 use Rattle.std.proofs.Common.{◌≡◌, ℕ, ◌+◌, ◌≤◌, List, length, Option, Some, None, refl, sym, ◌∙◌, ap, arith}
 use Rattle.std.proofs.lemmas.List.{drop-drop, drop_at}
-use Rattle.ctl_io.specs.Source.{behind, TakesAtMost, TakesJust}
+use Rattle.ctl_io.specs.Source.{behind, TakesAtMost}
 use Rattle.ctl_io.specs.SourceInside.{Takes}
 
 -- what is left is behind what was taken
