@@ -1,3 +1,4 @@
-pub mod Giving
-pub mod Named
-pub mod Taking
+pub mod FaultsLemmas
+pub mod MemFilesLemmas
+pub mod SinkLemmas
+pub mod SourceLemmas

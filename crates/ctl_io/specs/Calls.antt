@@ -1,6 +1,7 @@
 -- The calls that are made of an object in memory.
-use Rattle.std.specs.Prelude.{ℕ, ◌+◌, ◌-◌, ◌^◌, ◌==◌, Bool, List, min, if◌then◌else◌}
+use Rattle.std.specs.Prelude.{ℕ, ◌==◌, Bool, List}
 use Rattle.std.specs.List.{list_any}
+use Rattle.ctl_io.specs.Faults.{one_more, counted, is_faulty}
 
 -- The numbers, from 0, of the calls that fail, how many calls were made, and how many faults were counted.
 pub record Calls : Type 0 where
@@ -8,24 +9,17 @@ pub record Calls : Type 0 where
   pub made : ℕ
   pub faults : ℕ
 
--- one more, where the count doesn't stand at its type's end
-abbrev pub one_more : ℕ → ℕ
-one_more n = min (n + 1) (2 ^ 64 - 1)
-
 -- the next call is among those that fail
 abbrev pub next_fails : Calls → Bool
 next_fails calls = list_any (λ number. number == calls.made) calls.failing
 
 -- after one more call, which failed or didn't
 abbrev pub called : Bool → Calls → Calls
-called failed calls = record calls {
-  made = one_more calls.made;
-  faults = if failed then one_more calls.faults else calls.faults;
-}
+called failed calls = record calls { made = one_more calls.made; faults = counted failed calls.faults }
 
--- after an object with so many faults was given back
+-- after an object with such a count of faults was given back
 abbrev pub took_back : ℕ → Calls → Calls
-took_back faults calls = record calls { faults = if faults == 0 then calls.faults else one_more calls.faults }
+took_back faults calls = record calls { faults = counted (is_faulty faults) calls.faults }
 
 -- no call was made, and these will fail
 abbrev pub uncalled : List ℕ → Calls

@@ -1,16 +1,18 @@
--- Counts of faults.
-use Rattle.std.specs.Prelude.{ℕ, ◌+◌, ◌-◌, ◌^◌, ◌<◌, ◌≤◌, min}
+-- Counts of faults: how often the calls of an object of the outside have failed.
+use Rattle.std.specs.Prelude.{ℕ, ◌+◌, ◌-◌, ◌^◌, ◌≤◌, nat_lt, Bool, min, max, if◌then◌else◌}
 
--- A count rose in a call: it is greater than before, or it stands at its type's end.
+-- One more, up to 2^64 - 1, where a count stands still.
+abbrev pub one_more : ℕ → ℕ
+one_more count = max count (min (count + 1) (2 ^ 64 - 1))
+
+-- A count after a call: one more where the call failed, and as it was in every other case.
+abbrev pub counted : Bool → ℕ → ℕ
+counted failed count = if failed then one_more count else count
+
+-- A count rose in a call: it is greater than before, or it stands at 2^64 - 1.
 abbrev pub Rose : ℕ → ℕ → Type 0
 Rose before now = min (before + 1) (2 ^ 64 - 1) ≤ now
 
--- A count never falls, and is at most 2^64 - 1.
-pub record IsCount (before now : ℕ) : Type 0 where
-  pub never_falls : before ≤ now
-  pub within : now < 2 ^ 64
-
--- What any number of calls, none too, make of a count: it never falls, and stays within its type.
-pub record KeepsCount (before now : ℕ) : Type 0 where
-  pub never_falls : before ≤ now
-  pub within : before < 2 ^ 64 → now < 2 ^ 64
+-- An object whose count is so has met a fault.
+abbrev pub is_faulty : ℕ → Bool
+is_faulty count = nat_lt 0 count

@@ -1,7 +1,12 @@
 pub mod Faults
 pub mod Source
+pub mod SourceInside
 pub mod Sink
+pub mod SinkInside
+pub mod Held
+pub mod Custody
 pub mod Files
+pub mod WholeFile
 pub mod Calls
 pub mod Memory
 pub mod MemFiles

@@ -7,20 +7,21 @@ use Rattle.ctl_io.specs.declared.memory.mem_files.MemFiles.TheInside.{Inside}
 abbrev pub files_state : Inside → FilesState
 files_state files = record {
   waiting = files.waiting.items;
-  given = files.given.items;
   sinks = files.sinks.items;
+  names = files.names.items;
   objects = files.objects;
   sources_out = files.sources_out;
   sinks_out = files.sinks_out;
   sources_back = files.sources_back.items;
   sinks_back = files.sinks_back.items;
+  sources_room = vec_capacity files.sources_back;
+  sinks_room = vec_capacity files.sinks_back;
   calls = files.calls;
 }
 
--- What is still to be handed out is new, and there is room for all that may still be given or given back.
+-- What is still to be handed out is new, and there is room for all that may still be given back.
 pub record HasRoom (files : Inside) : Type 0 where
   pub new_sources : AreNewSources files.waiting.items
   pub new_sinks : AreNewSinks files.sinks.items
-  pub names : length files.waiting.items + length files.given.items ≤ vec_capacity files.given
   pub sources : files.objects + files.sources_out + length files.sources_back.items ≤ vec_capacity files.sources_back
   pub sinks : files.objects + files.sinks_out + length files.sinks_back.items ≤ vec_capacity files.sinks_back

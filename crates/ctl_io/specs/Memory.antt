@@ -14,7 +14,9 @@ pub record SourceState : Type 0 where
 
 -- what a read answers where there is so much room
 abbrev pub read_answer : SourceState → ℕ → Read
-read_answer source room = if next_fails source.calls then read.Failed else (if length source.left == 0 then read.End else read.Got (min room (length source.left)))
+read_answer source room =
+    if next_fails source.calls then read.Failed
+    else (if length source.left == 0 then read.End else read.Got (min room (length source.left)))
 
 -- the source after such a read
 abbrev pub after_read : SourceState → ℕ → SourceState
@@ -28,7 +30,7 @@ pub record IsNewSource (source : SourceState) : Type 0 where
   pub uncalled : source.calls.made ≡ 0
   pub no_faults : source.calls.faults ≡ 0
 
--- a sink in memory: the bytes that were appended, and how many it has room for in all
+-- A sink in memory: the bytes that were appended, and how many it has taken the memory for in all.
 pub record SinkState : Type 0 where
   pub written : List ℕ
   pub room : ℕ

@@ -1,5 +1,5 @@
--- What a sink was given.
-use Rattle.std.specs.Prelude.{◌≡◌, IfSome, ℕ, [], ◌<◌, ◌≤◌, List, ◌++◌, length, take, Option, Some, None}
+-- What was written to a sink.
+use Rattle.std.specs.Prelude.{◌≡◌, IfSome, ℕ, [], ◌<◌, ◌≤◌, Bool, true, false, List, ◌++◌, length, take, Option, Some, None}
 use Rattle.ctl_io.specs.declared.sink.Write.{Write}
 use Rattle.ctl_io.specs.declared.sink.Write.TheVariants.{Took, Failed}
 
@@ -8,17 +8,22 @@ abbrev pub took : Write → ℕ
 took (Took n) = n
 took Failed = 0
 
+-- whether a write failed
+abbrev pub write_failed : Write → Bool
+write_failed (Took n) = false
+write_failed Failed = true
+
 -- A write that takes bytes takes at least one, and no more than it was given.
 abbrev pub IsWithin : Write → ℕ → Type 0
 IsWithin (Took n) given = (0 < n) × (n ≤ given)
 IsWithin Failed given = Unit {0}
 
--- what a sink tells that it was given, with these bytes behind it
+-- what a sink shows that was written to it, with these bytes behind it
 abbrev pub appended : Option (List ℕ) → List ℕ → Option (List ℕ)
 appended None bytes = None
 appended (Some before) bytes = Some (before ++ bytes)
 
--- Where a sink tells what it was given, that is nothing.
+-- Where a sink shows what was written to it, that is nothing.
 abbrev pub IsEmpty : Option (List ℕ) → Type 0
 IsEmpty written = IfSome written (λ all. all ≡ [])
 

@@ -1,7 +1,11 @@
-ghost use Rattle.std.specs.Prelude.{◌≡◌, ◌≢◌, ◌<◌, ℕ, List};
-ghost use Rattle.ctl_io.specs.Faults.{Rose, IsCount};
+//! Files by their names, which hand out sources and sinks and take them back.
+
+ghost use Rattle.std.specs.Prelude.{◌≡◌, ◌≢◌, ◌<◌, ℕ, List, Some};
+ghost use Rattle.ctl_io.specs.Faults.{counted, is_faulty};
 ghost use Rattle.ctl_io.specs.Sink.{IsEmpty};
-ghost use Rattle.ctl_io.specs.Files.{Told, Custody, CountsFaulty, IsToldLeft, MayBeMissing, IfFound, IfMade, source_lent, sink_lent, source_returned, sink_returned};
+ghost use Rattle.ctl_io.specs.Held.{Held, HasLeft, MayBeMissing, Stays, AfterFound, IsNamed};
+ghost use Rattle.ctl_io.specs.Custody.{Custody, source_lent, sink_lent, source_returned, sink_returned};
+ghost use Rattle.ctl_io.specs.Files.{IfFound, IfMade, source_failed, sink_failed};
 
 use crate::{Sink, Source};
 
@@ -25,8 +29,8 @@ pub trait Files {
 
     type K: Sink;
 
-    /// What they tell of a name.
-    ghost told: { Self → List ℕ → Told };
+    /// What they hold of a name for each of its openings from now, where they show it.
+    ghost held: { Self → List ℕ → ℕ → Held };
 
     /// What they handed out and took back.
     ghost custody: { Self → Custody };
@@ -36,34 +40,35 @@ pub trait Files {
 
     /// Opens the file of this name for reading.
     fn source(&mut self, name: &str) -> Found<Self::S>
-        ensures here { IfFound result (λ source. IsToldLeft (told self.old name.now) (Self.S.left source) × (Self.S.faults source ≡ 0)) }
-        ensures missing { result ≡ Found.Missing → MayBeMissing (told self.old name.now) }
-        ensures failed { result ≡ Found.Failed → Rose (faults self.old) (faults self.new) }
+        ensures left { IfFound result (λ source. HasLeft (held self.old name.now 0) (Self.S.left source)) }
+        ensures named { IfFound result (λ source. IsNamed name.now (Self.S.name source)) }
+        ensures new { IfFound result (λ source. Self.S.faults source ≡ 0) }
+        ensures missing { result ≡ Found.Missing → MayBeMissing (held self.old name.now 0) }
+        ensures next { AfterFound result (held self.old name.now) (held self.new name.now) }
+        ensures others { (other : List ℕ) → other ≢ name.now → Stays (held self.old other) (held self.new other) }
         ensures lent { custody self.new ≡ source_lent result (custody self.old) }
-        ensures others { (other : List ℕ) → other ≢ name.now → told self.new other ≡ told self.old other }
-        ensures count { IsCount (faults self.old) (faults self.new) };
+        ensures count { faults self.new ≡ counted (source_failed result) (faults self.old) };
 
     /// Makes the file of this name anew, for writing.
     fn sink(&mut self, name: &str) -> Made<Self::K>
-        ensures here { IfMade result (λ sink. IsEmpty (Self.K.written sink) × (Self.K.faults sink ≡ 0)) }
-        ensures failed { result ≡ Made.Failed → Rose (faults self.old) (faults self.new) }
+        ensures empty { IfMade result (λ sink. IsEmpty (Self.K.written sink)) }
+        ensures named { IfMade result (λ sink. IsNamed name.now (Self.K.name sink)) }
+        ensures new { IfMade result (λ sink. Self.K.faults sink ≡ 0) }
+        ensures others { (other : List ℕ) → other ≢ name.now → Stays (held self.old other) (held self.new other) }
         ensures lent { custody self.new ≡ sink_lent result (custody self.old) }
-        ensures others { (other : List ℕ) → other ≢ name.now → told self.new other ≡ told self.old other }
-        ensures count { IsCount (faults self.old) (faults self.new) };
+        ensures count { faults self.new ≡ counted (sink_failed result) (faults self.old) };
 
     /// Takes back a source that these files handed out.
     fn close_source(&mut self, source: Self::S)
         requires { 0 < (custody self.old).sources_out }
-        ensures returned { custody self.new ≡ source_returned (record { left = Self.S.left source; faults = Self.S.faults source }) (custody self.old) }
-        ensures faulty { CountsFaulty (Self.S.faults source) (faults self.old) (faults self.new) }
-        ensures same { (name : List ℕ) → told self.new name ≡ told self.old name }
-        ensures count { IsCount (faults self.old) (faults self.new) };
+        ensures returned { custody self.new ≡ source_returned (record { name = Self.S.name source; left = Self.S.left source; faults = Self.S.faults source }) (custody self.old) }
+        ensures same { (name : List ℕ) → Stays (held self.old name) (held self.new name) }
+        ensures count { faults self.new ≡ counted (is_faulty (Self.S.faults source)) (faults self.old) };
 
-    /// Takes back a sink that these files handed out for this name.
-    fn close_sink(&mut self, name: &str, sink: Self::K)
+    /// Takes back a sink that these files handed out.
+    fn close_sink(&mut self, sink: Self::K)
         requires { 0 < (custody self.old).sinks_out }
-        ensures returned { custody self.new ≡ sink_returned (record { written = Self.K.written sink; faults = Self.K.faults sink }) (custody self.old) }
-        ensures faulty { CountsFaulty (Self.K.faults sink) (faults self.old) (faults self.new) }
-        ensures others { (other : List ℕ) → other ≢ name.now → told self.new other ≡ told self.old other }
-        ensures count { IsCount (faults self.old) (faults self.new) };
+        ensures returned { custody self.new ≡ sink_returned (record { name = Self.K.name sink; written = Self.K.written sink; faults = Self.K.faults sink }) (custody self.old) }
+        ensures others { (other : List ℕ) → Self.K.name sink ≢ Some other → Stays (held self.old other) (held self.new other) }
+        ensures count { faults self.new ≡ counted (is_faulty (Self.K.faults sink)) (faults self.old) };
 }

@@ -1,9 +1,12 @@
 //! The outside of the program, as traits: sources of bytes, sinks for bytes, and files by their names.
-//! An object may tell what it holds, and counts its own faults, so that a contract can say which bytes passed and that
+//! An object may show what it holds, and counts its own faults, so that a contract can say which bytes passed and that
 //! no fault is made up. Each comes in memory, where it fails at listed calls, and as a thin adapter over the system.
 #![tactic(auto)]
 
 mod bytes;
+#[cfg(test)]
+mod example;
+mod faults;
 mod files;
 mod memory;
 mod sink;
@@ -12,11 +15,14 @@ mod system;
 #[cfg(test)]
 mod tests;
 mod transfer;
+mod whole_file;
 
 pub use bytes::Bytes;
+pub use faults::FaultCount;
 pub use files::{Files, Found, Made};
-pub use memory::{Dropped, MemFiles, MemSink, MemSource, NamedSource};
+pub use memory::{Dropped, MemFiles, MemSink, MemSource, NamedSink, NamedSource};
 pub use sink::{Sink, Write};
 pub use source::{Read, Source};
 pub use system::{FileSink, FileSource, StdFiles, StdOut};
 pub use transfer::{WholeFault, read_whole, write_all};
+pub use whole_file::{FileFault, read_file};

@@ -1,4 +1,4 @@
-//! Objects in memory: they tell their bytes, and fail at the calls that their lists name.
+//! Objects in memory: they show their bytes, and fail at the calls that their lists name.
 
 mod calls;
 mod dropped;
@@ -6,10 +6,10 @@ mod mem_files;
 mod mem_sink;
 mod mem_source;
 mod named;
-mod named_source;
+mod named_objects;
 
 pub use dropped::Dropped;
 pub use mem_files::MemFiles;
 pub use mem_sink::MemSink;
 pub use mem_source::MemSource;
-pub use named_source::NamedSource;
+pub use named_objects::{NamedSink, NamedSource};

@@ -1,6 +1,8 @@
-ghost use Rattle.std.specs.Prelude.{◌≡◌, ◌<◌, ℕ, List, Option, length, take};
-ghost use Rattle.ctl_io.specs.Faults.{Rose, IsCount};
-ghost use Rattle.ctl_io.specs.Sink.{IsWithin, took, appended};
+//! Sinks: places outside that bytes are written to, in order.
+
+ghost use Rattle.std.specs.Prelude.{◌≡◌, ◌<◌, ℕ, List, Option, None, length, take};
+ghost use Rattle.ctl_io.specs.Faults.{counted};
+ghost use Rattle.ctl_io.specs.Sink.{IsWithin, took, appended, write_failed};
 
 /// What a write answers.
 #[derive(Clone, Copy, Debug, PartialEq, Eq)]
@@ -11,19 +13,22 @@ pub enum Write {
     Failed,
 }
 
-/// A place outside that bytes are appended to, in order.
-pub trait Sink {
-    /// The bytes that were appended, where the sink tells them.
+/// A place outside that bytes are appended to, in order. It can be moved to another thread.
+pub trait Sink: Send {
+    /// The bytes that were appended, where the sink shows them.
     ghost written: { Self → Option (List ℕ) };
 
     /// How often a write failed. Only the sink's own calls raise it.
     ghost faults: { Self → ℕ };
+
+    /// The name of the file that is written, where the sink shows it.
+    ghost name: { Self → Option (List ℕ) } = { λ _. None };
 
     /// Appends a front of `bytes`, which aren't empty.
     fn write(&mut self, bytes: &[u8]) -> Write
         requires { 0 < length bytes.now }
         ensures within { IsWithin result (length bytes.now) }
         ensures written { written self.new ≡ appended (written self.old) (take (took result) bytes.now) }
-        ensures failed { result ≡ Write.Failed → Rose (faults self.old) (faults self.new) }
-        ensures count { IsCount (faults self.old) (faults self.new) };
+        ensures name { name self.new ≡ name self.old }
+        ensures count { faults self.new ≡ counted (write_failed result) (faults self.old) };
 }

@@ -1,6 +1,8 @@
-ghost use Rattle.std.specs.Prelude.{◌≡◌, ◌<◌, ℕ, List, Option, length};
-ghost use Rattle.ctl_io.specs.Faults.{Rose, IsCount};
-ghost use Rattle.ctl_io.specs.Source.{IsWithin, AreNext, IsAtEnd, got, behind};
+//! Sources: bytes that come from outside, in order.
+
+ghost use Rattle.std.specs.Prelude.{◌≡◌, ◌<◌, ℕ, List, Option, None, length};
+ghost use Rattle.ctl_io.specs.Faults.{counted};
+ghost use Rattle.ctl_io.specs.Source.{IsWithin, AreNext, IsAtEnd, got, behind, read_failed};
 
 /// What a read answers.
 #[derive(Clone, Copy, Debug, PartialEq, Eq)]
@@ -15,11 +17,14 @@ pub enum Read {
 
 /// Bytes that come from outside, in order.
 pub trait Source {
-    /// The bytes that are left, where the source tells them.
+    /// The bytes that are left, where the source shows them.
     ghost left: { Self → Option (List ℕ) };
 
     /// How often a read failed. Only the source's own calls raise it.
     ghost faults: { Self → ℕ };
+
+    /// The name of the file that is read, where the source shows it.
+    ghost name: { Self → Option (List ℕ) } = { λ _. None };
 
     /// Reads the next bytes into the front of `into`, which isn't empty.
     fn read(&mut self, into: &mut [u8]) -> Read
@@ -28,6 +33,6 @@ pub trait Source {
         ensures bytes { AreNext (got result) into.new (left self.old) }
         ensures left { left self.new ≡ behind (got result) (left self.old) }
         ensures end { result ≡ Read.End → IsAtEnd (left self.old) }
-        ensures failed { result ≡ Read.Failed → Rose (faults self.old) (faults self.new) }
-        ensures count { IsCount (faults self.old) (faults self.new) };
+        ensures name { name self.new ≡ name self.old }
+        ensures count { faults self.new ≡ counted (read_failed result) (faults self.old) };
 }

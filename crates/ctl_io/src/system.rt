@@ -1,5 +1,8 @@
-//! The adapters over the operating system: they tell no bytes, and count each error.
+//! The adapters over the operating system: they show no bytes, and count each error but that of an interrupted call,
+//! which is made again.
 
+mod answers;
+mod attempts;
 mod file_sink;
 mod file_source;
 mod std_files;

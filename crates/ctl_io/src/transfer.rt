@@ -1,8 +1,12 @@
-ghost use Rattle.std.specs.Prelude.{◌≡◌, ◌+◌, ◌<◌, ◌≤◌, [], length, IfOk, OnOk, OnErr, IsErrOf, IfSome};
+//! Sinks written and sources read as a whole.
+
+ghost use Rattle.std.specs.Prelude.{◌≡◌, ◌+◌, ◌<◌, ◌≤◌, not, length, IfOk, OnOk, OnErr, IsErrOf, IfSome, vec_capacity};
 ghost use Rattle.std.specs.Bool.{OnFalse, OnTrue};
-ghost use Rattle.ctl_io.specs.Faults.{Rose, IsCount, KeepsCount};
+ghost use Rattle.ctl_io.specs.Faults.{counted};
 ghost use Rattle.ctl_io.specs.Sink.{appended, AppendsPart};
-ghost use Rattle.ctl_io.specs.Source.{got, IsWithin, IsAtEnd, TakesAtMost, TakesPiece};
+ghost use Rattle.ctl_io.specs.Source.{got, read_failed, IsWithin, IsAtEnd, TakesAtMost, TakesJust};
+ghost use Rattle.ctl_io.specs.SourceInside.{TakesPiece};
+ghost use Rattle.ctl_io.specs.WholeFile.{whole_failed};
 ghost use Rattle.ctl_io.specs.declared.transfer.WholeFault.TheVariants.{NoMemory};
 
 use crate::{Read, Sink, Source, Write};
@@ -13,8 +17,8 @@ use std::alloc::{AllocError, Global};
 pub fn write_all<K: Sink>(sink: &mut K, bytes: &[u8]) -> bool
     ensures all { OnTrue result (K.written sink.new ≡ appended (K.written sink.old) bytes.now) }
     ensures part { OnFalse result (AppendsPart bytes.now (K.written sink.old) (K.written sink.new)) }
-    ensures cause { OnFalse result (Rose (K.faults sink.old) (K.faults sink.new)) }
-    ensures count { KeepsCount (K.faults sink.old) (K.faults sink.new) }
+    ensures name { K.name sink.new ≡ K.name sink.old }
+    ensures count { K.faults sink.new ≡ counted (not result) (K.faults sink.old) }
 {
     let mut rest = bytes;
     while !rest.is_empty() {
@@ -47,7 +51,8 @@ impl From<AllocError> for WholeFault {
 // The most bytes that one read of `read_whole` asks for.
 const PIECE: usize = 4096;
 
-/// All the bytes that the source has left, where these are at most `limit`. It takes at most one byte more than that.
+/// All the bytes that the source has left, where these are at most `limit`. Only where it answers `TooLong` it has taken
+/// more than that, and then just one byte more.
 pub fn read_whole<S: Source>(
     alloc: Global,
     source: &mut S,
@@ -56,28 +61,30 @@ pub fn read_whole<S: Source>(
     ensures whole { IfOk result (λ whole. IfSome (S.left source.old) (λ all. whole.items ≡ all)) }
     ensures fits { IfOk result (λ whole. length whole.items ≤ limit) }
     ensures end { OnOk result (IsAtEnd (S.left source.new)) }
-    ensures too_long { IsErrOf result WholeFault.TooLong → IfSome (S.left source.old) (λ all. limit < length all) }
-    ensures failed { IsErrOf result WholeFault.Failed → Rose (S.faults source.old) (S.faults source.new) }
-    ensures taken { TakesAtMost (limit + 1) (S.left source.old) (S.left source.new) }
-    ensures count { IsCount (S.faults source.old) (S.faults source.new) }
+    ensures too_long { IsErrOf result WholeFault.TooLong → TakesJust (limit + 1) (S.left source.old) (S.left source.new) }
+    ensures taken { (IsErrOf result WholeFault.TooLong → ⊥) → TakesAtMost limit (S.left source.old) (S.left source.new) }
+    ensures name { S.name source.new ≡ S.name source.old }
+    ensures count { S.faults source.new ≡ counted (whole_failed result) (S.faults source.old) }
 {
     let mut whole = Vec::new(alloc);
-    loop {
-        // One byte more than there is room for tells a source that is too long from one that just fits.
-        let most = (limit - whole.len()).saturating_add(1);
+    while whole.len() < limit {
+        let most = limit - whole.len();
         match read_piece(source, &mut whole, most)? {
-            Read::Got(_) => {
-                if whole.len() > limit {
-                    return Err(WholeFault::TooLong);
-                }
-            }
+            Read::Got(_) => {}
             Read::End => return Ok(whole),
             Read::Failed => return Err(WholeFault::Failed),
         }
     }
+    // One byte more tells a source that is too long from one that just fits.
+    match source.read(&mut [0]) {
+        Read::Got(_) => Err(WholeFault::TooLong),
+        Read::End => Ok(whole),
+        Read::Failed => Err(WholeFault::Failed),
+    }
 }
 
-// Reads the next bytes, at most so many, to the end of the bytes that were read before.
+// Reads the next bytes, at most so many, to the end of the bytes that were read before. Their room is made first, so
+// that no byte is lost where there is no memory.
 fn read_piece<S: Source>(
     source: &mut S,
     whole: &mut Vec<u8>,
@@ -86,15 +93,16 @@ fn read_piece<S: Source>(
     requires { 0 < most }
     ensures ok { IfOk result (λ read. IsWithin read most × TakesPiece (got read) whole.old.items whole.new.items (S.left source.old) (S.left source.new)) }
     ensures end { IfOk result (λ read. read ≡ Read.End → IsAtEnd (S.left source.new)) }
-    ensures failed { IfOk result (λ read. read ≡ Read.Failed → Rose (S.faults source.old) (S.faults source.new)) }
-    ensures no_memory { OnErr result (TakesAtMost most (S.left source.old) (S.left source.new)) }
-    ensures count { IsCount (S.faults source.old) (S.faults source.new) }
+    ensures no_memory { OnErr result (source.new ≡ source.old) }
+    ensures name { S.name source.new ≡ S.name source.old }
+    ensures count { IfOk result (λ read. S.faults source.new ≡ counted (read_failed read) (S.faults source.old)) }
 {
     let mut buffer = [0; PIECE];
     let into = &mut buffer[..most.min(PIECE)];
+    whole.reserve(into.len())?;
     let read = source.read(into);
     if let Read::Got(n) = read {
-        whole.extend_from_slice(&into[..n])?;
+        whole.extend_from_slice(&into[..n]).unwrap();
     }
     Ok(read)
 }

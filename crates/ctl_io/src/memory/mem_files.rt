@@ -1,31 +1,30 @@
-ghost use Rattle.std.specs.Prelude.{◌≡◌, ◌≢◌, ◌<◌, ℕ, List, Some, IfOk};
-ghost use Rattle.ctl_io.specs.Faults.{Rose, IsCount};
-ghost use Rattle.ctl_io.specs.Files.{CountsFaulty, IsToldLeft, MayBeMissing, IfFound, IfMade, source_lent, sink_lent, source_returned, sink_returned};
+//! Files in memory.
+
+ghost use Rattle.std.specs.Prelude.{◌≡◌, ◌<◌, Some, IfOk};
+ghost use Rattle.ctl_io.specs.Files.{IfFound, IfMade};
 ghost use Rattle.ctl_io.specs.Memory.{IsNewSource, IsNewSink};
-ghost use Rattle.ctl_io.specs.MemFiles.{unasked, AreNewSources, AreNewSinks, first_named, told_of, custody_of, source_end, sink_end, lent_source, source_answer, without_source, after_source, sink_answer, without_sink, after_sink, after_close_source, after_close_sink};
-ghost use Rattle.ctl_io.specs.Sink.{IsEmpty};
+ghost use Rattle.ctl_io.specs.MemFiles.{unasked, AreNewSources, AreNewSinks, held_of, custody_of, source_answer, without_source, after_source, sink_answer, without_sink, after_sink, after_close_source, after_close_sink};
 
 use crate::memory::calls::CallCount;
-use crate::memory::named::{is_given, is_waiting, take_first};
-use crate::{Bytes, Files, Found, Made, MemSink, MemSource, NamedSource};
+use crate::memory::named::{is_listed, names_of, take_first};
+use crate::{Bytes, Files, Found, Made, NamedSink, NamedSource};
 use std::alloc::{AllocError, Global};
 use std::marker::Model;
 
-/// Files in memory. Each source is handed out once, the first of its name first, and the sinks in their order.
-/// What is given back isn't handed out again. Of a name they tell what the first source of that name has left that
-/// wasn't handed out yet, nothing where all were, and that there is none where no source had the name.
+/// Files in memory. Each source and each sink is handed out once, the first of its name first, and what is given back
+/// isn't handed out again.
 #[derive(Debug, Drop)]
 pub struct MemFiles {
     waiting: Vec<NamedSource>,
-    // The names of the sources that were handed out.
-    given: Vec<Bytes>,
-    sinks: Vec<MemSink>,
+    sinks: Vec<NamedSink>,
+    // The names of all sources, also of those that were handed out.
+    names: Vec<Bytes>,
     // So many objects may still be handed out.
     objects: usize,
     sources_out: usize,
     sinks_out: usize,
-    sources_back: Vec<MemSource>,
-    sinks_back: Vec<MemSink>,
+    sources_back: Vec<NamedSource>,
+    sinks_back: Vec<NamedSink>,
     calls: CallCount,
 }
 
@@ -43,12 +42,12 @@ impl Model for MemFiles {
 
 impl MemFiles {
     /// Files of these sources and sinks, which are new. They hand out at most `objects` objects, and take room now to
-    /// take so many of each kind back. `failing` holds the numbers, from 0, of the calls that fail, where the calls of
-    /// `source` and `sink` are numbered together.
+    /// take so many of each kind back, and for the names. `failing` holds the numbers, from 0, of the calls that fail,
+    /// where those that ask for a source or a sink are numbered together.
     pub fn new(
         alloc: Global,
         sources: Vec<NamedSource>,
-        sinks: Vec<MemSink>,
+        sinks: Vec<NamedSink>,
         objects: usize,
         failing: Vec<u64>,
     ) -> Result<MemFiles, AllocError>
@@ -56,13 +55,13 @@ impl MemFiles {
         requires new_sinks { AreNewSinks sinks.items }
         ensures { IfOk result (λ files. files ≡ unasked sources.items sinks.items objects failing.items) }
     {
-        let given = Vec::with_capacity(alloc, sources.len())?;
+        let names = names_of(alloc, &sources)?;
         let sources_back = Vec::with_capacity(alloc, objects)?;
         let sinks_back = Vec::with_capacity(alloc, objects)?;
         Ok(MemFiles {
             waiting: sources,
-            given,
             sinks,
+            names,
             objects,
             sources_out: 0,
             sinks_out: 0,
@@ -72,15 +71,59 @@ impl MemFiles {
         })
     }
 
+    /// Hands out the first source of this name that waits. It fails where the call's number is listed, and for want of
+    /// objects or of such a source; `Missing` is said only of a name that no source ever had.
+    pub fn lend_source(&mut self, name: &str) -> Found<NamedSource>
+        ensures answer { result ≡ source_answer self.old name.now }
+        ensures after { self.new ≡ after_source result name.now self.old }
+        ensures new { IfFound result (λ entry. IsNewSource entry.source) }
+    {
+        let found = self.find_source(name.as_bytes());
+        self.calls.count(matches!(&found, Found::Failed));
+        found
+    }
+
+    /// Hands out the first sink of this name that waits. It fails where the call's number is listed, and for want of
+    /// objects or of such a sink.
+    pub fn lend_sink(&mut self, name: &str) -> Made<NamedSink>
+        ensures answer { result ≡ sink_answer self.old name.now }
+        ensures after { self.new ≡ after_sink result name.now self.old }
+        ensures new { IfMade result (λ entry. IsNewSink entry.sink) }
+    {
+        let made = self.find_sink(name.as_bytes());
+        self.calls.count(matches!(&made, Made::Failed));
+        made
+    }
+
+    /// Keeps a source that these files handed out behind those that were given back before.
+    pub fn take_source(&mut self, source: NamedSource)
+        requires { 0 < self.old.sources_out }
+        ensures { self.new ≡ after_close_source source self.old }
+    {
+        self.calls.take_back(source.source.faults());
+        self.sources_out -= 1;
+        self.sources_back.push_reserved(source);
+    }
+
+    /// Keeps a sink that these files handed out behind those that were given back before.
+    pub fn take_sink(&mut self, sink: NamedSink)
+        requires { 0 < self.old.sinks_out }
+        ensures { self.new ≡ after_close_sink sink self.old }
+    {
+        self.calls.take_back(sink.sink.faults());
+        self.sinks_out -= 1;
+        self.sinks_back.push_reserved(sink);
+    }
+
     /// The sources that were given back, in order.
-    pub fn sources_back(&self) -> &[MemSource]
+    pub fn sources_back(&self) -> &[NamedSource]
         ensures { result.now ≡ self.now.sources_back }
     {
         &self.sources_back
     }
 
     /// The sinks that were given back, in order.
-    pub fn sinks_back(&self) -> &[MemSink]
+    pub fn sinks_back(&self) -> &[NamedSink]
         ensures { result.now ≡ self.now.sinks_back }
     {
         &self.sinks_back
@@ -94,126 +137,74 @@ impl MemFiles {
     }
 
     // Looks for a source, without counting the call.
-    fn find_source(&mut self, name: &[u8]) -> Found<MemSource>
+    fn find_source(&mut self, name: &[u8]) -> Found<NamedSource>
         ensures answer { result ≡ source_answer self.old name.now }
         ensures after { self.new ≡ without_source result name.now self.old }
-        ensures new { IfFound result IsNewSource }
+        ensures new { IfFound result (λ entry. IsNewSource entry.source) }
     {
         if self.calls.next_fails() {
             return Found::Failed;
         }
-        if is_waiting(&self.waiting, name) || is_given(&self.given, name) {
-            return self.lend_source(name);
+        if !is_listed(name, &self.names) {
+            return Found::Missing;
         }
-        Found::Missing
-    }
-
-    // Hands out the first source of this name.
-    fn lend_source(&mut self, name: &[u8]) -> Found<MemSource>
-        ensures answer { result ≡ lent_source self.old.objects (first_named name.now self.old.waiting) }
-        ensures after { self.new ≡ without_source result name.now self.old }
-        ensures new { IfFound result IsNewSource }
-    {
         if self.objects == 0 {
             return Found::Failed;
         }
-        match take_first(&mut self.waiting, name) {
+        match take_first(name, &mut self.waiting) {
             Some(entry) => {
-                let NamedSource { name, source } = entry;
-                self.given.push_reserved(name);
                 self.objects -= 1;
                 self.sources_out += 1;
-                Found::Here(source)
+                Found::Here(entry)
             }
             None => Found::Failed,
         }
     }
 
-    // Hands out the next sink, without counting the call.
-    fn lend_sink(&mut self) -> Made<MemSink>
-        ensures answer { result ≡ sink_answer self.old }
-        ensures after { self.new ≡ without_sink result self.old }
-        ensures new { IfMade result IsNewSink }
+    // Looks for a sink, without counting the call.
+    fn find_sink(&mut self, name: &[u8]) -> Made<NamedSink>
+        ensures answer { result ≡ sink_answer self.old name.now }
+        ensures after { self.new ≡ without_sink result name.now self.old }
+        ensures new { IfMade result (λ entry. IsNewSink entry.sink) }
     {
-        if self.calls.next_fails() || self.objects == 0 || self.sinks.is_empty() {
+        if self.calls.next_fails() || self.objects == 0 {
             return Made::Failed;
         }
-        let sink = self.sinks.remove(0);
-        self.objects -= 1;
-        self.sinks_out += 1;
-        Made::Here(sink)
+        match take_first(name, &mut self.sinks) {
+            Some(entry) => {
+                self.objects -= 1;
+                self.sinks_out += 1;
+                Made::Here(entry)
+            }
+            None => Made::Failed,
+        }
     }
 }
 
 impl Files for MemFiles {
-    type S = MemSource;
+    type S = NamedSource;
 
-    type K = MemSink;
+    type K = NamedSink;
 
-    ghost told = { told_of };
+    ghost held = { held_of };
 
     ghost custody = { custody_of };
 
     ghost faults = { λ f. f.calls.faults };
 
-    fn source(&mut self, name: &str) -> Found<MemSource>
-        // When it fails, when the name is missing, and which source it hands out.
-        ensures answer { result ≡ source_answer self.old name.now }
-        ensures after { self.new ≡ after_source result name.now self.old }
-        ensures new { IfFound result IsNewSource }
-
-        ensures here { IfFound result (λ source. IsToldLeft (told_of self.old name.now) (Some source.left) × (source.calls.faults ≡ 0)) }
-        ensures missing { result ≡ Found.Missing → MayBeMissing (told_of self.old name.now) }
-        ensures failed { result ≡ Found.Failed → Rose self.old.calls.faults self.new.calls.faults }
-        ensures lent { custody_of self.new ≡ source_lent result (custody_of self.old) }
-        ensures others { (other : List ℕ) → other ≢ name.now → told_of self.new other ≡ told_of self.old other }
-        ensures count { IsCount self.old.calls.faults self.new.calls.faults }
-    {
-        let found = self.find_source(name.as_bytes());
-        self.calls.count(matches!(&found, Found::Failed));
-        found
+    fn source(&mut self, name: &str) -> Found<NamedSource> {
+        self.lend_source(name)
     }
 
-    fn sink(&mut self, _name: &str) -> Made<MemSink>
-        // When it fails, and which sink it hands out.
-        ensures answer { result ≡ sink_answer self.old }
-        ensures after { self.new ≡ after_sink result self.old }
-        ensures new { IfMade result IsNewSink }
-
-        ensures here { IfMade result (λ sink. IsEmpty (Some sink.written) × (sink.calls.faults ≡ 0)) }
-        ensures failed { result ≡ Made.Failed → Rose self.old.calls.faults self.new.calls.faults }
-        ensures lent { custody_of self.new ≡ sink_lent result (custody_of self.old) }
-        ensures others { (other : List ℕ) → other ≢ _name.now → told_of self.new other ≡ told_of self.old other }
-        ensures count { IsCount self.old.calls.faults self.new.calls.faults }
-    {
-        let made = self.lend_sink();
-        self.calls.count(matches!(&made, Made::Failed));
-        made
+    fn sink(&mut self, name: &str) -> Made<NamedSink> {
+        self.lend_sink(name)
     }
 
-    fn close_source(&mut self, source: MemSource)
-        requires { 0 < self.old.sources_out }
-        ensures after { self.new ≡ after_close_source source self.old }
-        ensures returned { custody_of self.new ≡ source_returned (source_end source) (custody_of self.old) }
-        ensures faulty { CountsFaulty source.calls.faults self.old.calls.faults self.new.calls.faults }
-        ensures same { (name : List ℕ) → told_of self.new name ≡ told_of self.old name }
-        ensures count { IsCount self.old.calls.faults self.new.calls.faults }
-    {
-        self.calls.take_back(source.faults());
-        self.sources_out -= 1;
-        self.sources_back.push_reserved(source);
+    fn close_source(&mut self, source: NamedSource) {
+        self.take_source(source);
     }
 
-    fn close_sink(&mut self, _name: &str, sink: MemSink)
-        requires { 0 < self.old.sinks_out }
-        ensures after { self.new ≡ after_close_sink sink self.old }
-        ensures returned { custody_of self.new ≡ sink_returned (sink_end sink) (custody_of self.old) }
-        ensures faulty { CountsFaulty sink.calls.faults self.old.calls.faults self.new.calls.faults }
-        ensures others { (other : List ℕ) → other ≢ _name.now → told_of self.new other ≡ told_of self.old other }
-        ensures count { IsCount self.old.calls.faults self.new.calls.faults }
-    {
-        self.calls.take_back(sink.faults());
-        self.sinks_out -= 1;
-        self.sinks_back.push_reserved(sink);
+    fn close_sink(&mut self, sink: NamedSink) {
+        self.take_sink(sink);
     }
 }

@@ -1,7 +1,7 @@
-ghost use Rattle.std.specs.Prelude.{◌≡◌, ◌<◌, ◌≤◌, [], Some, IfOk, length, take};
+//! A sink in memory.
+
+ghost use Rattle.std.specs.Prelude.{◌≡◌, ◌+◌, ◌≤◌, [], ◌++◌, Some, IfOk, length, vec_len, vec_capacity};
 ghost use Rattle.ctl_io.specs.Calls.{uncalled};
-ghost use Rattle.ctl_io.specs.Faults.{Rose, IsCount};
-ghost use Rattle.ctl_io.specs.Sink.{IsWithin, took, appended};
 ghost use Rattle.ctl_io.specs.Memory.{write_answer, after_write};
 
 use crate::memory::calls::CallCount;
@@ -13,19 +13,16 @@ use std::marker::Model;
 #[derive(Debug, Drop)]
 pub struct MemSink {
     written: Vec<u8>,
-    room: usize,
     calls: CallCount,
 }
 
 impl Model for MemSink {
-    ghost use Rattle.std.specs.Prelude.{◌≤◌, length, vec_capacity};
+    ghost use Rattle.std.specs.Prelude.{vec_capacity};
     ghost use Rattle.ctl_io.specs.Memory.{SinkState};
 
     ghost Value = { SinkState };
 
-    ghost view = { λ s. record { written = s.written.items; room = s.room; calls = s.calls } };
-
-    ghost invariant = { λ s. (length s.written.items ≤ s.room) × (s.room ≤ vec_capacity s.written) };
+    ghost view = { λ s. record { written = s.written.items; room = vec_capacity s.written; calls = s.calls } };
 }
 
 impl MemSink {
@@ -36,9 +33,23 @@ impl MemSink {
     {
         Ok(MemSink {
             written: Vec::with_capacity(alloc, room)?,
-            room,
             calls: CallCount::new(failing),
         })
+    }
+
+    /// Appends all the bytes, or fails where the write's number is listed or there isn't room for all.
+    pub fn take(&mut self, bytes: &[u8]) -> Write
+        ensures answer { result ≡ write_answer self.old bytes.now }
+        ensures after { self.new ≡ after_write self.old bytes.now }
+    {
+        let room = self.written.capacity() - self.written.len();
+        let failed = self.calls.next_fails() || bytes.len() > room;
+        self.calls.count(failed);
+        if failed {
+            return Write::Failed;
+        }
+        append(bytes, &mut self.written);
+        Write::Took(bytes.len())
     }
 
     /// The bytes that were appended.
@@ -61,24 +72,18 @@ impl Sink for MemSink {
 
     ghost faults = { λ s. s.calls.faults };
 
-    fn write(&mut self, bytes: &[u8]) -> Write
-        requires { 0 < length bytes.now }
+    fn write(&mut self, bytes: &[u8]) -> Write {
+        self.take(bytes)
+    }
+}
 
-        // When it fails, and that it takes all bytes elsewhere.
-        ensures answer { result ≡ write_answer self.old bytes.now }
-        ensures after { self.new ≡ after_write self.old bytes.now }
-
-        ensures within { IsWithin result (length bytes.now) }
-        ensures written { Some self.new.written ≡ appended (Some self.old.written) (take (took result) bytes.now) }
-        ensures failed { result ≡ Write.Failed → Rose self.old.calls.faults self.new.calls.faults }
-        ensures count { IsCount self.old.calls.faults self.new.calls.faults }
-    {
-        let failed = self.calls.next_fails() || bytes.len() > self.room - self.written.len();
-        self.calls.count(failed);
-        if failed {
-            return Write::Failed;
-        }
-        self.written.extend_from_slice(bytes).unwrap();
-        Write::Took(bytes.len())
+// Appends the bytes in the memory that is there.
+fn append(bytes: &[u8], out: &mut Vec<u8>)
+    requires { vec_len out.old + length bytes.now ≤ vec_capacity out.old }
+    ensures items { out.new.items ≡ out.old.items ++ bytes.now }
+    ensures room { vec_capacity out.new ≡ vec_capacity out.old }
+{
+    for byte in bytes {
+        out.push_reserved(*byte);
     }
 }

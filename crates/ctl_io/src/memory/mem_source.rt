@@ -1,7 +1,8 @@
-ghost use Rattle.std.specs.Prelude.{◌≡◌, ◌<◌, ◌≤◌, Some, IfOk, length, take, min};
+//! A source in memory.
+
+ghost use Rattle.std.specs.Prelude.{◌≡◌, ◌<◌, Some, IfOk, length, take, min};
 ghost use Rattle.ctl_io.specs.Calls.{uncalled};
-ghost use Rattle.ctl_io.specs.Faults.{Rose, IsCount};
-ghost use Rattle.ctl_io.specs.Source.{IsWithin, AreNext, IsAtEnd, got, behind};
+ghost use Rattle.ctl_io.specs.Source.{AreNext, got};
 ghost use Rattle.ctl_io.specs.Memory.{read_answer, after_read};
 
 use crate::memory::calls::CallCount;
@@ -41,6 +42,25 @@ impl MemSource {
         })
     }
 
+    /// Gives the next bytes, as many as there is room for, or fails where the read's number is listed.
+    pub fn give(&mut self, into: &mut [u8]) -> Read
+        ensures answer { result ≡ read_answer self.old (length into.old) }
+        ensures after { self.new ≡ after_read self.old (length into.old) }
+        ensures bytes { AreNext (got result) into.new (Some self.old.left) }
+    {
+        let failed = self.calls.next_fails();
+        self.calls.count(failed);
+        if failed {
+            return Read::Failed;
+        }
+        if self.given == self.bytes.len() {
+            return Read::End;
+        }
+        let n = copy_front(&self.bytes[self.given..], into);
+        self.given += n;
+        Read::Got(n)
+    }
+
     /// How often a read failed. The count stands still at its type's end.
     pub fn faults(&self) -> u64
         ensures { result ≡ self.now.calls.faults }
@@ -61,36 +81,13 @@ impl Source for MemSource {
 
     ghost faults = { λ s. s.calls.faults };
 
-    fn read(&mut self, into: &mut [u8]) -> Read
-        requires { 0 < length into.old }
-
-        // When it fails, when it ends, and how much it gives.
-        ensures answer { result ≡ read_answer self.old (length into.old) }
-        ensures after { self.new ≡ after_read self.old (length into.old) }
-
-        ensures within { IsWithin result (length into.old) }
-        ensures bytes { AreNext (got result) into.new (Some self.old.left) }
-        ensures left { Some self.new.left ≡ behind (got result) (Some self.old.left) }
-        ensures end { result ≡ Read.End → IsAtEnd (Some self.old.left) }
-        ensures failed { result ≡ Read.Failed → Rose self.old.calls.faults self.new.calls.faults }
-        ensures count { IsCount self.old.calls.faults self.new.calls.faults }
-    {
-        let failed = self.calls.next_fails();
-        self.calls.count(failed);
-        if failed {
-            return Read::Failed;
-        }
-        let n = copy_front(into, &self.bytes[self.given..]);
-        if n == 0 {
-            return Read::End;
-        }
-        self.given += n;
-        Read::Got(n)
+    fn read(&mut self, into: &mut [u8]) -> Read {
+        self.give(into)
     }
 }
 
 // Copies as much of the front of `bytes` as there is room for, and answers how much that is.
-fn copy_front(into: &mut [u8], bytes: &[u8]) -> usize
+fn copy_front(bytes: &[u8], into: &mut [u8]) -> usize
     ensures count { result ≡ min (length into.old) (length bytes.now) }
     ensures front { take result into.new ≡ take result bytes.now }
 {

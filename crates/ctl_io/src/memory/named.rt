@@ -1,35 +1,48 @@
-ghost use Rattle.std.specs.Prelude.{◌≡◌, ◌+◌, IfSome, IfNone, OnSome, length};
-ghost use Rattle.std.specs.Option.{option_map};
-ghost use Rattle.ctl_io.specs.MemFiles.{first_named, without_first, is_waiting, is_given};
+//! Looking for a name among objects that have one.
+
+ghost use Rattle.std.specs.Prelude.{◌≡◌, ◌+◌, ℕ, List, find, IfNone, IfOk, OnSome, length, map};
+ghost use Rattle.std.specs.Str.{bytes_eq};
+ghost use Rattle.ctl_io.specs.MemFiles.{without_first, is_listed};
 
 use crate::{Bytes, NamedSource};
+use std::alloc::{AllocError, Global};
 
-/// Whether a source of this name wasn't handed out yet.
-pub fn is_waiting(waiting: &[NamedSource], name: &[u8]) -> bool
-    ensures { result ≡ is_waiting name.now waiting.now }
-{
-    waiting.iter().any(|entry| entry.name.as_slice() == name)
+/// What files have by a name.
+pub(crate) trait Named {
+    ghost name_of: { Self → List ℕ };
+
+    fn name_of(&self) -> &[u8]
+        ensures { result.now ≡ name_of self.now };
 }
 
-/// Whether a source of this name was handed out.
-pub fn is_given(given: &[Bytes], name: &[u8]) -> bool
-    ensures { result ≡ is_given name.now given.now }
-{
-    given.iter().any(|other| other.as_slice() == name)
-}
-
-/// Takes out the first source of this name.
-pub fn take_first(entries: &mut Vec<NamedSource>, name: &[u8]) -> Option<NamedSource>
-    ensures found { option_map (λ entry. entry.source) result ≡ first_named name.now entries.old.items }
-    ensures named { IfSome result (λ entry. entry.name ≡ name.now) }
-    ensures rest { entries.new.items ≡ without_first name.now entries.old.items }
+/// Takes out the first object of this name.
+pub(crate) fn take_first<T: Named>(name: &[u8], entries: &mut Vec<T>) -> Option<T>
+    ensures found { result ≡ find (λ entry. bytes_eq (T.name_of entry) name.now) entries.old.items }
+    ensures rest { entries.new.items ≡ without_first (λ entry. bytes_eq (T.name_of entry) name.now) entries.old.items }
     ensures none { IfNone result (entries.new.items ≡ entries.old.items) }
-    ensures fewer { OnSome result (length entries.new.items + 1 ≡ length entries.old.items) }
 {
     for i in 0..entries.len() {
-        if entries[i].name.as_slice() == name {
+        if entries[i].name_of() == name {
             return Some(entries.remove(i));
         }
     }
     None
+}
+
+/// Whether a name is listed.
+pub(crate) fn is_listed(name: &[u8], names: &[Bytes]) -> bool
+    ensures { result ≡ is_listed name.now names.now }
+{
+    names.iter().any(|other| other.as_slice() == name)
+}
+
+/// The names of the sources.
+pub(crate) fn names_of(alloc: Global, sources: &[NamedSource]) -> Result<Vec<Bytes>, AllocError>
+    ensures { IfOk result (λ names. names.items ≡ map (λ entry. entry.name) sources.now) }
+{
+    let mut names = Vec::with_capacity(alloc, sources.len())?;
+    for entry in sources {
+        names.push(Bytes::of(entry.name.as_slice().to_vec(alloc)?))?;
+    }
+    Ok(names)
 }

@@ -1,64 +1,60 @@
-ghost use Rattle.std.specs.Prelude.{◌<◌, ◌^◌, None};
+//! The adapter over a reader.
 
-use crate::{Read, Source};
+ghost use Rattle.std.specs.Prelude.{◌≡◌, ◌<◌, None, length, take};
+
+use crate::system::answers::read_answer;
+use crate::system::attempts::read_again;
+use crate::{FaultCount, Read, Source};
 use std::io;
 
-/// A source over a file or another reader. It tells no bytes.
+/// A source over a file or another reader. It shows no bytes and no name.
 #[derive(Drop)]
 pub struct FileSource<F> {
     file: F,
-    faults: u64,
-    ghost within: { faults < 2 ^ 64 },
+    faults: FaultCount,
 }
 
 impl<F: io::Read> FileSource<F> {
-    ghost use Rattle.std.specs.Prelude.{◌≡◌};
+    ghost use Rattle.std.specs.Io.KnownBytes.{Consumes, IsAtEnd};
+    ghost use Rattle.ctl_io.specs.Faults.{counted};
+    ghost use Rattle.ctl_io.specs.Source.{IsWithin, got, read_failed};
 
+    /// A source that begins where the reader is.
     pub fn new(file: F) -> FileSource<F>
         ensures { ⟦<FileSource<F> as Source>⟧.faults result ≡ 0 }
     {
-        FileSource { file, faults: 0 }
+        FileSource {
+            file,
+            faults: FaultCount::new(),
+        }
+    }
+
+    /// Gives what one read of the reader gives, which is made again while it is interrupted. Where the reader shows what
+    /// it has left, it gives that, and ends where the reader does.
+    pub fn give(&mut self, into: &mut [u8]) -> Read
+        requires { 0 < length into.old }
+        ensures within { IsWithin result (length into.old) }
+        ensures gave { Consumes (F.remaining self.old.file) (F.remaining self.new.file) (take (got result) into.new) }
+        ensures ended { result ≡ Read.End → IsAtEnd (F.remaining self.new.file) }
+        ensures count { self.new.faults ≡ counted (read_failed result) self.old.faults }
+    {
+        read_answer(read_again(&mut self.file, into), &mut self.faults)
     }
 
     /// How often a read failed. The count stands still at its type's end.
     pub fn faults(&self) -> u64
         ensures { result ≡ ⟦<FileSource<F> as Source>⟧.faults self.now }
     {
-        self.faults
+        self.faults.count()
     }
 }
 
 impl<F: io::Read> Source for FileSource<F> {
-    ghost use Rattle.std.specs.Prelude.{◌≡◌, length, take};
-    ghost use Rattle.std.specs.Io.KnownBytes.{Consumes, IsAtEnd};
-    ghost use Rattle.ctl_io.specs.Faults.{Rose, IsCount};
-    ghost use Rattle.ctl_io.specs.Source.{IsWithin, AreNext, got, behind};
-
     ghost left = { λ _. None };
 
     ghost faults = { λ s. s.faults };
 
-    fn read(&mut self, into: &mut [u8]) -> Read
-        requires { 0 < length into.old }
-
-        // Where the reader tells what it has left, it gives that, and ends where the reader does.
-        ensures gave { Consumes (F.remaining self.old.file) (F.remaining self.new.file) (take (got result) into.new) }
-        ensures ended { result ≡ Read.End → IsAtEnd (F.remaining self.new.file) }
-
-        ensures within { IsWithin result (length into.old) }
-        ensures bytes { AreNext (got result) into.new None }
-        ensures left { None ≡ behind (got result) None }
-        ensures end { result ≡ Read.End → IsAtEnd None }
-        ensures failed { result ≡ Read.Failed → Rose self.old.faults self.new.faults }
-        ensures count { IsCount self.old.faults self.new.faults }
-    {
-        match self.file.read(into) {
-            Ok(0) => Read::End,
-            Ok(n) => Read::Got(n),
-            Err(_) => {
-                self.faults = self.faults.saturating_add(1);
-                Read::Failed
-            }
-        }
+    fn read(&mut self, into: &mut [u8]) -> Read {
+        self.give(into)
     }
 }

@@ -1,50 +1,57 @@
-ghost use Rattle.std.specs.Prelude.{◌<◌, ◌^◌, None};
+//! The adapter over the files of the system.
 
+ghost use Rattle.std.specs.Prelude.{◌≡◌};
+
+use crate::system::answers::{found_answer, made_answer};
+use crate::system::attempts::call_again;
 use crate::system::{FileSink, FileSource};
-use crate::{Files, Found, Made};
-use std::io::ErrorKind;
+use crate::{FaultCount, Files, Found, Made};
 use std::{fs, rt};
 
-/// The files of a runtime, by their paths. They tell no bytes, and keep nothing of what is given back.
+/// The files of a runtime, by their paths. They show no bytes, and keep nothing of what is given back.
 #[derive(Drop)]
 pub struct StdFiles<R> {
     rt: R,
     sources_out: u64,
     sinks_out: u64,
-    faults: u64,
-    ghost within: { faults < 2 ^ 64 },
+    faults: FaultCount,
 }
 
 impl<R: rt::Files> StdFiles<R> {
-    ghost use Rattle.std.specs.Prelude.{◌≡◌};
-    ghost use Rattle.ctl_io.specs.Files.{nothing_out};
-
+    /// Nothing was handed out and nothing has failed.
     pub fn new(rt: R) -> StdFiles<R>
-        ensures custody { ⟦<StdFiles<R> as Files>⟧.custody result ≡ nothing_out }
-        ensures faults { ⟦<StdFiles<R> as Files>⟧.faults result ≡ 0 }
+        ensures sources { result.sources_out ≡ 0 }
+        ensures sinks { result.sinks_out ≡ 0 }
+        ensures faults { result.faults ≡ 0 }
     {
         StdFiles {
             rt,
             sources_out: 0,
             sinks_out: 0,
-            faults: 0,
+            faults: FaultCount::new(),
         }
     }
 
     /// How often a call failed, or an object with faults was given back. The count stands still at its type's end.
     pub fn faults(&self) -> u64
-        ensures { result ≡ ⟦<StdFiles<R> as Files>⟧.faults self.now }
+        ensures { result ≡ self.now.faults }
     {
-        self.faults
+        self.faults.count()
     }
 }
 
-impl<R: rt::Files> Files for StdFiles<R> {
+impl<R: rt::Files> Files for StdFiles<R>
+where
+    R::File: Send,
+{
+    ghost use Rattle.ctl_io.specs.Held.{Unshown};
+    ghost use Rattle.std.specs.Prelude.{None};
+
     type S = FileSource<R::File>;
 
     type K = FileSink<R::File>;
 
-    ghost told = { λ _ _. None };
+    ghost held = { λ _ _ _. Unshown };
 
     ghost custody = { λ f. record { sources_out = f.sources_out; sinks_out = f.sinks_out; sources_back = None; sinks_back = None } };
 
@@ -52,50 +59,46 @@ impl<R: rt::Files> Files for StdFiles<R> {
 
     fn source(&mut self, name: &str) -> Found<FileSource<R::File>> {
         if self.sources_out == u64::MAX {
-            self.faults = self.faults.saturating_add(1);
+            self.faults.raise();
             return Found::Failed;
         }
-        match fs::open(&self.rt, name) {
-            Ok(file) => {
+        let opened = call_again(|| fs::open(&self.rt, name));
+        match found_answer(opened, &mut self.faults) {
+            Found::Here(file) => {
                 self.sources_out += 1;
                 Found::Here(FileSource::new(file))
             }
-            Err(error) if error.kind() == ErrorKind::NotFound => Found::Missing,
-            Err(_) => {
-                self.faults = self.faults.saturating_add(1);
-                Found::Failed
-            }
+            Found::Missing => Found::Missing,
+            Found::Failed => Found::Failed,
         }
     }
 
     fn sink(&mut self, name: &str) -> Made<FileSink<R::File>> {
         if self.sinks_out == u64::MAX {
-            self.faults = self.faults.saturating_add(1);
+            self.faults.raise();
             return Made::Failed;
         }
-        match fs::create(&self.rt, name) {
-            Ok(file) => {
+        let created = call_again(|| fs::create(&self.rt, name));
+        match made_answer(created, &mut self.faults) {
+            Made::Here(file) => {
                 self.sinks_out += 1;
                 Made::Here(FileSink::new(file))
             }
-            Err(_) => {
-                self.faults = self.faults.saturating_add(1);
-                Made::Failed
-            }
+            Made::Failed => Made::Failed,
         }
     }
 
     fn close_source(&mut self, source: FileSource<R::File>) {
         self.sources_out -= 1;
         if source.faults() > 0 {
-            self.faults = self.faults.saturating_add(1);
+            self.faults.raise();
         }
     }
 
-    fn close_sink(&mut self, _name: &str, sink: FileSink<R::File>) {
+    fn close_sink(&mut self, sink: FileSink<R::File>) {
         self.sinks_out -= 1;
         if sink.faults() > 0 {
-            self.faults = self.faults.saturating_add(1);
+            self.faults.raise();
         }
     }
 }

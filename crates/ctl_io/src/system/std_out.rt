@@ -1,45 +1,45 @@
-ghost use Rattle.std.specs.Prelude.{◌<◌, ◌^◌, None};
+//! The adapter over the standard output.
 
-use crate::{Sink, Write};
+ghost use Rattle.std.specs.Prelude.{◌≡◌, ◌<◌, None, length};
 
-/// The standard output of a runtime. It tells no bytes, and keeps none back: each write goes out at once.
-/// A write that takes none has failed.
+use crate::system::answers::write_answer;
+use crate::system::attempts::call_again;
+use crate::{FaultCount, Sink, Write};
+
+/// The standard output of a runtime. It shows no bytes, and keeps none back: each write goes out at once.
+/// A write that takes no bytes has failed.
 #[derive(Drop)]
 pub struct StdOut<R> {
     rt: R,
-    faults: u64,
-    ghost within: { faults < 2 ^ 64 },
+    faults: FaultCount,
 }
 
 impl<R: Print> StdOut<R> {
-    ghost use Rattle.std.specs.Prelude.{◌≡◌};
-
+    /// The output behind what was printed before.
     pub fn new(rt: R) -> StdOut<R>
-        ensures { ⟦<StdOut<R> as Sink>⟧.faults result ≡ 0 }
+        ensures { result.faults ≡ 0 }
     {
-        StdOut { rt, faults: 0 }
+        StdOut {
+            rt,
+            faults: FaultCount::new(),
+        }
     }
 
     /// How often a write failed. The count stands still at its type's end.
     pub fn faults(&self) -> u64
-        ensures { result ≡ ⟦<StdOut<R> as Sink>⟧.faults self.now }
+        ensures { result ≡ self.now.faults }
     {
-        self.faults
+        self.faults.count()
     }
 }
 
-impl<R: Print> Sink for StdOut<R> {
+impl<R: Print + Send> Sink for StdOut<R> {
     ghost written = { λ _. None };
 
     ghost faults = { λ s. s.faults };
 
     fn write(&mut self, bytes: &[u8]) -> Write {
-        match self.rt.write_some(bytes) {
-            Ok(0) | Err(_) => {
-                self.faults = self.faults.saturating_add(1);
-                Write::Failed
-            }
-            Ok(n) => Write::Took(n),
-        }
+        let written = call_again(|| self.rt.write_some(bytes));
+        write_answer(written, &mut self.faults)
     }
 }

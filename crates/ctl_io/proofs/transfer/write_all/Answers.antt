@@ -1,11 +1,12 @@
 use Rattle.std.proofs.Common.{rules, arith}
 use Rattle.std.proofs.lemmas.Grind.{common_steps}
-use Rattle.ctl_io.proofs.Giving.{given_more, given_part}
+use Rattle.ctl_io.proofs.SinkLemmas.{given_more, given_part}
 use Rattle.ctl_io.proofs.transfer.write_all.Goals as goal
 
 pub loop-rest-preserved : goal.loop-rest-preserved
 loop-rest-preserved g c = record {
   given = given_more _ _ _ c.in-Took.n _ _ _ c.loop-rest.invariant.given (grind (arith, common_steps)) c.in-Took.ensures.written;
+  name = search rules;
   count = search rules;
 }
 

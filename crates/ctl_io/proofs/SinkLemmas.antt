@@ -1,13 +1,8 @@
--- Bytes that are given to a sink piece by piece.
+-- Bytes that are written to a sink piece by piece.
 use Rattle.std.proofs.Common.{◌≡◌, ℕ, ◌<◌, List, [], ◌++◌, length, take, drop, Option, Some, None, refl, sym, ◌∙◌, ap, append_assoc, arith, length-append, take-append-drop}
 use Rattle.std.proofs.lemmas.List.{append-nil, take_at}
 use Rattle.ctl_io.specs.Sink.{appended, AppendsPart}
-
--- of these bytes all but the rest were appended
-pub record Given (bytes rest : List ℕ) (before now : Option (List ℕ)) : Type 0 where
-  pub given : List ℕ
-  pub split : given ++ rest ≡ bytes
-  pub appends : now ≡ appended before given
+use Rattle.ctl_io.specs.SinkInside.{Given}
 
 -- no bytes change nothing
 pub appended-nil : (written : Option (List ℕ)) → appended written [] ≡ written

@@ -1,7 +1,8 @@
 -- Bytes that are taken from a source piece by piece.
 use Rattle.std.proofs.Common.{◌≡◌, ℕ, ◌+◌, ◌≤◌, List, length, Option, Some, None, refl, sym, ◌∙◌, ap, arith}
 use Rattle.std.proofs.lemmas.List.{drop-drop, drop_at}
-use Rattle.ctl_io.specs.Source.{behind, Takes, TakesAtMost}
+use Rattle.ctl_io.specs.Source.{behind, TakesAtMost}
+use Rattle.ctl_io.specs.SourceInside.{Takes}
 
 -- what is left is behind what was taken
 behind_taken : (taken : List ℕ) (before now : Option (List ℕ)) → Takes taken before now → now ≡ behind (length taken) before
@@ -20,3 +21,7 @@ takes_further most more taken before mid now first second few = record {
   within = omega (arith, second.within);
   takes = second.takes ∙ ap (behind second.count) (behind_taken taken before mid first) ∙ behind-behind (length taken) second.count before;
 }
+
+-- bytes that were taken are at most as many
+pub takes_all : (most : ℕ) (taken : List ℕ) (before now : Option (List ℕ)) → Takes taken before now → length taken ≤ most → TakesAtMost most before now
+takes_all most taken before now is few = record { count = length taken; within = few; takes = behind_taken taken before now is }

@@ -1,0 +1,45 @@
+-- What files hold of a name. A name may be opened more than once, so they hold something of it for each of its openings
+-- from now, numbered from 0.
+use Rattle.std.specs.Prelude.{◌≡◌, ℕ, ◌+◌, List, Option, Some, IfSome}
+use Rattle.ctl_io.specs.declared.files.Found.{Found}
+use Rattle.ctl_io.specs.declared.files.Found.TheVariants.{Here, Missing, Failed}
+
+-- What an opening finds: the files don't show it, or there is no such file, or a source that has these bytes left.
+pub data Held : Type 0 where
+  Unshown : Held
+  NoFile : Held
+  Holds : List ℕ → Held
+
+-- There is a file, and where the files show its bytes, they are so.
+abbrev pub IfHeld : Held → (List ℕ → Type 0) → Type 0
+IfHeld Unshown P = Unit {0}
+IfHeld NoFile P = ⊥
+IfHeld (Holds bytes) P = P bytes
+
+-- A source that is handed out has left what the files hold.
+abbrev pub HasLeft : Held → Option (List ℕ) → Type 0
+HasLeft held left = IfHeld held (λ bytes. left ≡ Some bytes)
+
+-- There is no such file, or the files don't show whether there is.
+abbrev pub MayBeMissing : Held → Type 0
+MayBeMissing Unshown = Unit {0}
+MayBeMissing NoFile = Unit {0}
+MayBeMissing (Holds bytes) = ⊥
+
+-- Each opening of a name finds what it would have found before.
+abbrev pub Stays : (ℕ → Held) → (ℕ → Held) → Type 0
+Stays before now = (opening : ℕ) → now opening ≡ before opening
+
+-- The next opening of a name is gone: each finds what the one behind it would have found before.
+abbrev pub CountsOn : (ℕ → Held) → (ℕ → Held) → Type 0
+CountsOn before now = (opening : ℕ) → now opening ≡ before (opening + 1)
+
+-- what becomes of the openings of a name where a source was asked for
+abbrev pub AfterFound : {S : Type 0} → Found S → (ℕ → Held) → (ℕ → Held) → Type 0
+AfterFound (Here source) before now = CountsOn before now
+AfterFound Missing before now = Stays before now
+AfterFound Failed before now = Stays before now
+
+-- Where an object shows the name of its file, that is this one.
+abbrev pub IsNamed : List ℕ → Option (List ℕ) → Type 0
+IsNamed name shown = IfSome shown (λ its. its ≡ name)

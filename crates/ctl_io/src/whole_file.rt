@@ -1,0 +1,52 @@
+//! Files read whole by their names.
+
+ghost use Rattle.std.specs.Prelude.{◌≡◌, ◌≢◌, ◌<◌, ◌≤◌, ℕ, List, length, Err, IfOk};
+ghost use Rattle.ctl_io.specs.Faults.{counted};
+ghost use Rattle.ctl_io.specs.Held.{IfHeld, MayBeMissing, Stays};
+ghost use Rattle.ctl_io.specs.WholeFile.{file_failed, AfterFile, IsGivenBack};
+
+use crate::{Files, Found, WholeFault, read_whole};
+use std::alloc::Global;
+
+/// Why a file wasn't read whole.
+#[derive(Clone, Copy, Debug, PartialEq, Eq)]
+pub enum FileFault {
+    NoMemory,
+    /// The files have no such name.
+    Missing,
+    /// The file is longer than its limit.
+    TooLong,
+    /// The files failed, or a read did.
+    Failed,
+}
+
+/// All the bytes of the file of this name, where these are at most `limit`. The file is given back whatever comes.
+pub fn read_file<F: Files>(
+    alloc: Global,
+    files: &mut F,
+    name: &str,
+    limit: usize,
+) -> Result<Vec<u8>, FileFault>
+    ensures whole { IfOk result (λ whole. IfHeld (F.held files.old name.now 0) (λ bytes. whole.items ≡ bytes)) }
+    ensures within { IfOk result (λ whole. length whole.items ≤ limit) }
+    ensures missing { result ≡ Err FileFault.Missing → MayBeMissing (F.held files.old name.now 0) }
+    ensures too_long { result ≡ Err FileFault.TooLong → IfHeld (F.held files.old name.now 0) (λ bytes. limit < length bytes) }
+    ensures no_memory { result ≡ Err FileFault.NoMemory → IfHeld (F.held files.old name.now 0) (λ bytes. Unit {0}) }
+    ensures next { AfterFile result (F.held files.old name.now) (F.held files.new name.now) }
+    ensures others { (other : List ℕ) → other ≢ name.now → Stays (F.held files.old other) (F.held files.new other) }
+    ensures given_back { IsGivenBack name.now (F.custody files.old) (F.custody files.new) }
+    ensures count { F.faults files.new ≡ counted (file_failed result) (F.faults files.old) }
+{
+    let mut source = match files.source(name) {
+        Found::Here(source) => source,
+        Found::Missing => return Err(FileFault::Missing),
+        Found::Failed => return Err(FileFault::Failed),
+    };
+    let whole = read_whole(alloc, &mut source, limit);
+    files.close_source(source);
+    whole.map_err(|fault| match fault {
+        WholeFault::NoMemory => FileFault::NoMemory,
+        WholeFault::TooLong => FileFault::TooLong,
+        WholeFault::Failed => FileFault::Failed,
+    })
+}
