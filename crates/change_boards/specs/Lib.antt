@@ -1,0 +1,4 @@
+pub use Rattle.plant_config.specs.Plant
+pub mod Destinations
+pub mod SetInside
+pub mod Notices
