@@ -1,10 +1,9 @@
 -- What the next notice of a board is.
 use Rattle.std.proofs.Common.{◌≡◌, ℕ, ◌<◌, ◌≤◌, nat_lt, cond, Bool, true, false, Option, Some, None, IsNone, is_some, inl, inr, refl, sym, ap, ◌∙◌, arith}
-use Rattle.change_boards.specs.declared.board.Board.{Board}
 use Rattle.change_boards.specs.declared.sort.Sort.{Sort}
 use Rattle.change_boards.specs.declared.sort.Sort.TheVariants.{Source, Protect}
 use Rattle.change_boards.specs.Destinations.{Destinations, lowest}
-use Rattle.change_boards.specs.Notices.{sooner, next, IsEmpty}
+use Rattle.change_boards.specs.Board.{Board, IsEmpty, sooner, next}
 use Rattle.change_boards.proofs.LowestLemmas.{lowest-empty, empty_from_lowest}
 
 empty_from : (board : Board) (source protect : Option ℕ) → lowest board.source ≡ source → lowest board.protect ≡ protect → IsNone (sooner source protect) → IsEmpty board

@@ -1,4 +1,5 @@
 pub use Rattle.plant_config.specs.Plant
 pub mod Destinations
 pub mod SetInside
+pub mod Board
 pub mod Notices

@@ -3,9 +3,9 @@
 //! they are made, and no call but `drop_panel` and `all_left` takes longer where there are more.
 #![tactic(auto)]
 
-mod board;
 mod dest_set;
 mod notices;
+mod panel_board;
 mod sort;
 mod words;
 

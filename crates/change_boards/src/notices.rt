@@ -2,9 +2,10 @@
 
 ghost use Rattle.std.specs.Prelude.{◌≡◌, ◌<◌, ◌↔◌, length, All, IsTrue, IsNone, IfOk};
 ghost use Rattle.std.specs.FinSet.{contains};
-ghost use Rattle.change_boards.specs.Notices.{next, IsEmpty, blank_boards, board_of, dests_of, boards_marked, boards_taken, boards_left};
+ghost use Rattle.change_boards.specs.Board.{IsEmpty, dests_of, next};
+ghost use Rattle.change_boards.specs.Notices.{board_of, start, with_mark, with_take, with_leave};
 
-use crate::board::Board;
+use crate::panel_board::PanelBoard;
 use crate::sort::Sort;
 use plant_config::{DestId, MAX_DESTINATIONS, PanelNo, Plant};
 use std::alloc::{AllocError, Global};
@@ -13,18 +14,17 @@ use std::marker::Model;
 /// What each panel of a plant has yet to hear of, and which panels have left. A contract sees one board a panel.
 #[derive(Debug, Drop)]
 pub struct Notices {
-    boards: Vec<Board>,
+    boards: Vec<PanelBoard>,
 }
 
 impl Model for Notices {
     ghost use Rattle.std.specs.Prelude.{List};
     ghost use Rattle.std.specs.Coded.{coded_list};
-    ghost use Rattle.change_boards.specs.declared.board.Board.{Board};
-    ghost use Rattle.change_boards.specs.contracts.board.Board as code;
+    ghost use Rattle.change_boards.specs.Board.{Board, code};
 
     ghost Value = { List Board };
 
-    ghost coded = { coded_list code.the_row.coded };
+    ghost coded = { coded_list code };
 
     ghost view = { λ notices. notices.boards.items };
 }
@@ -32,12 +32,12 @@ impl Model for Notices {
 impl Notices {
     /// No notices, for the panels of this plant, none of which has left.
     pub fn new(alloc: Global, plant: &Plant) -> Result<Notices, AllocError>
-        ensures { IfOk result (λ notices. notices ≡ blank_boards (length plant.now.panels)) }
+        ensures { IfOk result (λ notices. notices ≡ start (length plant.now.panels)) }
     {
         let panels = plant.panels();
         let mut boards = Vec::with_capacity(alloc, panels.len())?;
         for _panel in panels {
-            boards.push(Board::new(alloc)?)?;
+            boards.push(PanelBoard::new(alloc)?)?;
         }
         Ok(Notices { boards })
     }
@@ -46,7 +46,7 @@ impl Notices {
     pub fn mark(&mut self, panel: PanelNo, dest: DestId, sort: Sort)
         requires panel { panel < length self.old }
         requires dest { dest < MAX_DESTINATIONS }
-        ensures { self.new ≡ boards_marked self.old panel dest sort }
+        ensures { self.new ≡ with_mark self.old panel dest sort }
     {
         let board = &mut self.boards[panel.get() as usize];
         board.mark(dest, sort);
@@ -56,7 +56,7 @@ impl Notices {
     pub fn take_lowest(&mut self, panel: PanelNo) -> Option<(DestId, Sort)>
         requires { panel < length self.old }
         ensures next { result ≡ next (board_of self.old panel) }
-        ensures taken { self.new ≡ boards_taken self.old panel }
+        ensures taken { self.new ≡ with_take self.old panel }
         ensures none { IsNone result ↔ IsEmpty (board_of self.old panel) }
     {
         let board = &mut self.boards[panel.get() as usize];
@@ -85,7 +85,7 @@ impl Notices {
     /// A panel leaves: its notices are taken away, and it gets none from now on.
     pub fn drop_panel(&mut self, panel: PanelNo)
         requires { panel < length self.old }
-        ensures { self.new ≡ boards_left self.old panel }
+        ensures { self.new ≡ with_leave self.old panel }
     {
         let board = &mut self.boards[panel.get() as usize];
         board.leave();

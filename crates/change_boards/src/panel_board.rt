@@ -2,15 +2,17 @@
 
 ghost use Rattle.std.specs.Prelude.{◌≡◌, ◌<◌, ◌↔◌, IsNone, IsTrue, IfOk, IfSome};
 ghost use Rattle.std.specs.FinSet.{contains};
+ghost use Rattle.change_boards.specs.Board.{IsEmpty, blank, abandoned, dests_of, marked, next, taken};
 
 use crate::dest_set::DestSet;
 use crate::sort::Sort;
 use plant_config::{DestId, MAX_DESTINATIONS};
 use std::alloc::{AllocError, Global};
+use std::marker::Model;
 
 /// Of which destinations a panel has yet to hear that they changed, and whether it has left.
 #[derive(Debug, Drop)]
-pub struct Board {
+pub(crate) struct PanelBoard {
     /// Those whose source changed.
     source: DestSet,
     /// Those whose owner changed.
@@ -19,16 +21,24 @@ pub struct Board {
     left: bool,
 }
 
-impl Board {
-    ghost use Rattle.change_boards.specs.Notices.{blank, abandoned, dests_of, marked, next, taken, IsEmpty};
+impl Model for PanelBoard {
+    ghost use Rattle.change_boards.specs.Board.{Board, code};
 
+    ghost Value = { Board };
+
+    ghost coded = { code };
+
+    ghost view = { λ board. record { source = board.source; protect = board.protect; left = board.left } };
+}
+
+impl PanelBoard {
     /// The board of a panel that has no notices and hasn't left.
-    pub(crate) fn new(alloc: Global) -> Result<Board, AllocError>
+    pub(crate) fn new(alloc: Global) -> Result<PanelBoard, AllocError>
         ensures { IfOk result (λ board. board ≡ blank) }
     {
         let source = DestSet::new(alloc)?;
         let protect = DestSet::new(alloc)?;
-        Ok(Board {
+        Ok(PanelBoard {
             source,
             protect,
             left: false,
