@@ -22,11 +22,11 @@ SetsBit-or words number within =
       length_kept = length-set words (number / 64) new;
       bits = λ n. elim (cases_eq (n / 64) (number / 64)) [
         | inl same ↦ elim (cases_eq (n % 64) (number % 64)) [
-            | inl bit ↦
-                rw (same, get_or-set_same words (number / 64) new 0 within, bit, bit_at_set_same w64 old (number % 64) low, eq-eqb n number (same_number n number same bit)) refl
-            | inr bit ↦
-                rw (same, get_or-set_same words (number / 64) new 0 within, bit_at_set_other w64 old (number % 64) low (n % 64) bit, ne_eqb n number (λ e. bit (ap (λ n. n % 64) e))) refl
-          ]
+          | inl bit ↦
+              rw (same, get_or-set_same words (number / 64) new 0 within, bit, bit_at_set_same w64 old (number % 64) low, eq-eqb n number (same_number n number same bit)) refl
+          | inr bit ↦
+              rw (same, get_or-set_same words (number / 64) new 0 within, bit_at_set_other w64 old (number % 64) low (n % 64) bit, ne_eqb n number (λ e. bit (ap (λ n. n % 64) e))) refl
+        ]
         | inr other ↦
             rw (get_or-set_other words (number / 64) (n / 64) new 0 other, ne_eqb n number (λ e. other (ap (λ n. n / 64) e))) refl
       ];
@@ -45,11 +45,11 @@ ClearsBit-and words number within =
           let small : n % 64 < 64 = omega arith in
           elim (cases_eq (n / 64) (number / 64)) [
             | inl same ↦ elim (cases_eq (n % 64) (number % 64)) [
-                | inl bit ↦
-                    rw (same, get_or-set_same words (number / 64) new 0 within, bit, bit_at_clear_same w64 old (number % 64) low, eq-eqb n number (same_number n number same bit)) refl
-                | inr bit ↦
-                    rw (same, get_or-set_same words (number / 64) new 0 within, bit_at_clear_other w64 old (number % 64) low (n % 64) small bit, ne_eqb n number (λ e. bit (ap (λ n. n % 64) e))) refl
-              ]
+              | inl bit ↦
+                  rw (same, get_or-set_same words (number / 64) new 0 within, bit, bit_at_clear_same w64 old (number % 64) low, eq-eqb n number (same_number n number same bit)) refl
+              | inr bit ↦
+                  rw (same, get_or-set_same words (number / 64) new 0 within, bit_at_clear_other w64 old (number % 64) low (n % 64) small bit, ne_eqb n number (λ e. bit (ap (λ n. n % 64) e))) refl
+            ]
             | inr other ↦
                 rw (get_or-set_other words (number / 64) (n / 64) new 0 other, ne_eqb n number (λ e. other (ap (λ n. n / 64) e))) refl
           ];

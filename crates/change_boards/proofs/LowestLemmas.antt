@@ -17,25 +17,29 @@ IsLeast xs None = (n : ℕ) → among xs n ≡ false
 IsLeast xs (Some m) = (among xs m ≡ true) × ((n : ℕ) → among xs n ≡ true → m ≤ n)
 
 one_more : (x : ℕ) (xs : List ℕ) (o : Option ℕ) → IsLeast xs o → IsLeast (x ∷ xs) (Some (option_map_or (min x) o x))
-one_more x xs None none =
-    (or_left (eq_by_cmp nat_cmp x x) _ (unsigned_tied x x ∙ eq-eqb x x refl), λ n one.
-        elim (or_cases (eq_by_cmp nat_cmp n x) (among xs n) one) [
-          | inl here ↦ omega (arith, eqb-true n x (sym (unsigned_tied n x) ∙ here))
-          | inr there ↦ absurd (both_ways (among xs n) (none n) there)
-        ])
-one_more x xs (Some m) is =
-    (elim (cases_lt m x) [
-       | inl less ↦
-           let least : m ≡ min x m = omega arith in
-           subst (λ k. among (x ∷ xs) k ≡ true) least (or_right (eq_by_cmp nat_cmp m x) _ is.0)
-       | inr more ↦
-           let least : x ≡ min x m = omega arith in
-           subst (λ k. among (x ∷ xs) k ≡ true) least (or_left (eq_by_cmp nat_cmp x x) _ (unsigned_tied x x ∙ eq-eqb x x refl))
-     ], λ n one.
-        elim (or_cases (eq_by_cmp nat_cmp n x) (among xs n) one) [
-          | inl here ↦ omega (arith, eqb-true n x (sym (unsigned_tied n x) ∙ here))
-          | inr there ↦ omega (arith, is.1 n there)
-        ])
+one_more x xs None none = (
+  or_left (eq_by_cmp nat_cmp x x) _ (unsigned_tied x x ∙ eq-eqb x x refl),
+  λ n one.
+      elim (or_cases (eq_by_cmp nat_cmp n x) (among xs n) one) [
+        | inl here ↦ omega (arith, eqb-true n x (sym (unsigned_tied n x) ∙ here))
+        | inr there ↦ absurd (both_ways (among xs n) (none n) there)
+      ],
+)
+one_more x xs (Some m) is = (
+  elim (cases_lt m x) [
+    | inl less ↦
+        let least : m ≡ min x m = omega arith in
+        subst (λ k. among (x ∷ xs) k ≡ true) least (or_right (eq_by_cmp nat_cmp m x) _ is.0)
+    | inr more ↦
+        let least : x ≡ min x m = omega arith in
+        subst (λ k. among (x ∷ xs) k ≡ true) least (or_left (eq_by_cmp nat_cmp x x) _ (unsigned_tied x x ∙ eq-eqb x x refl))
+  ],
+  λ n one.
+      elim (or_cases (eq_by_cmp nat_cmp n x) (among xs n) one) [
+        | inl here ↦ omega (arith, eqb-true n x (sym (unsigned_tied n x) ∙ here))
+        | inr there ↦ omega (arith, is.1 n there)
+      ],
+)
 
 IsLeast-least : (xs : List ℕ) → IsLeast xs (least xs)
 IsLeast-least [] = λ n. refl

@@ -20,7 +20,7 @@ empty_from board (Some source) (Some protect) s p h =
 next-IsEmpty : (board : Board) → IsNone (next board) → IsEmpty board
 next-IsEmpty board h = empty_from board (lowest board.source) (lowest board.protect) refl refl h
 
-IsEmpty-next : (board : Board) → IsEmpty board → IsNone (next board)
+pub IsEmpty-next : (board : Board) → IsEmpty board → IsNone (next board)
 IsEmpty-next board is = rw (is.source, is.protect, lowest-empty) refl
 
 -- nothing is next exactly where a board has no notices

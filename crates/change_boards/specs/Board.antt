@@ -1,6 +1,6 @@
 -- What a panel has yet to hear of, as plain data, and what marking, taking and leaving do to it.
 use Rattle.std.specs.Prelude.{◌≡◌, ℕ, nat_lt, Bool, true, false, if◌then◌else◌, Option, Some, None, refl}
-use Rattle.std.specs.FinSet.{empty, insert, remove, code as set_code}
+use Rattle.std.specs.FinSet.{empty, contains, insert, remove, code as set_code}
 use Rattle.std.specs.Coded.{Coded, code_by, coded×, coded_ℕ, coded_bool}
 use Rattle.change_boards.specs.declared.sort.Sort.{Sort}
 use Rattle.change_boards.specs.declared.sort.Sort.TheVariants.{Source, Protect}
@@ -35,6 +35,10 @@ abandoned = record { source = empty; protect = empty; left = true }
 abbrev pub dests_of : Board → Sort → Destinations
 dests_of board Source = board.source
 dests_of board Protect = board.protect
+
+-- whether the panel has this notice
+abbrev pub has_notice : Board → ℕ → Sort → Bool
+has_notice board dest sort = contains (dests_of board sort) dest
 
 -- a board with these destinations of one sort of notice
 abbrev pub with_dests : Board → Sort → Destinations → Board

@@ -3,3 +3,4 @@ pub mod Destinations
 pub mod SetInside
 pub mod Board
 pub mod Notices
+pub mod Laws

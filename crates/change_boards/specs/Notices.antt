@@ -1,7 +1,7 @@
 -- The boards of all panels, in the order of the panels' numbers.
-use Rattle.std.specs.Prelude.{ℕ, List, replicate, slice_index_or, slice_set}
+use Rattle.std.specs.Prelude.{ℕ, Bool, List, replicate, slice_index_or, slice_set}
 use Rattle.change_boards.specs.declared.sort.Sort.{Sort}
-use Rattle.change_boards.specs.Board.{Board, blank, abandoned, marked, taken}
+use Rattle.change_boards.specs.Board.{Board, blank, abandoned, has_notice, marked, taken}
 
 -- so many panels at the start: no notices, and nobody has left
 abbrev pub start : ℕ → List Board
@@ -10,6 +10,14 @@ start panels = replicate panels blank
 -- a panel's board
 abbrev pub board_of : List Board → ℕ → Board
 board_of boards panel = slice_index_or boards panel blank
+
+-- whether a panel has the notice that this destination changed
+abbrev pub has : List Board → ℕ → ℕ → Sort → Bool
+has boards panel dest sort = has_notice (board_of boards panel) dest sort
+
+-- whether a panel has left
+abbrev pub has_left : List Board → ℕ → Bool
+has_left boards panel = (board_of boards panel).left
 
 -- the boards after a panel was given a notice, after its next one was taken, and after it has left
 abbrev pub with_mark : List Board → ℕ → ℕ → Sort → List Board

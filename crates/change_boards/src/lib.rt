@@ -4,10 +4,19 @@
 #![tactic(auto)]
 
 mod dest_set;
+#[cfg(test)]
+mod example;
+mod laws;
 mod notices;
 mod panel_board;
 mod sort;
+#[cfg(test)]
+mod tests;
 mod words;
 
+pub use laws::{
+    boards_stay_boards, leaves_are_of_one_panel, marks_give_one_notice, takes_go_in_order,
+    takes_remove_one_notice,
+};
 pub use notices::Notices;
 pub use sort::Sort;

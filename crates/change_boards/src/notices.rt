@@ -1,9 +1,8 @@
 //! The notices of all panels.
 
 ghost use Rattle.std.specs.Prelude.{◌≡◌, ◌<◌, ◌↔◌, length, All, IsTrue, IsNone, IfOk};
-ghost use Rattle.std.specs.FinSet.{contains};
-ghost use Rattle.change_boards.specs.Board.{IsEmpty, dests_of, next};
-ghost use Rattle.change_boards.specs.Notices.{board_of, start, with_mark, with_take, with_leave};
+ghost use Rattle.change_boards.specs.Board.{IsEmpty, next};
+ghost use Rattle.change_boards.specs.Notices.{board_of, has, has_left, start, with_mark, with_take, with_leave};
 
 use crate::panel_board::PanelBoard;
 use crate::sort::Sort;
@@ -67,7 +66,7 @@ impl Notices {
     pub fn has(&self, panel: PanelNo, dest: DestId, sort: Sort) -> bool
         requires panel { panel < length self.now }
         requires dest { dest < MAX_DESTINATIONS }
-        ensures { result ≡ contains (dests_of (board_of self.now panel) sort) dest }
+        ensures { result ≡ has self.now panel dest sort }
     {
         let board = &self.boards[panel.get() as usize];
         board.has(dest, sort)
@@ -94,7 +93,7 @@ impl Notices {
     /// Whether a panel has left.
     pub fn has_left(&self, panel: PanelNo) -> bool
         requires { panel < length self.now }
-        ensures { result ≡ (board_of self.now panel).left }
+        ensures { result ≡ has_left self.now panel }
     {
         let board = &self.boards[panel.get() as usize];
         board.has_left()

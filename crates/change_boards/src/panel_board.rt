@@ -1,8 +1,7 @@
 //! The notices of one panel.
 
 ghost use Rattle.std.specs.Prelude.{◌≡◌, ◌<◌, ◌↔◌, IsNone, IsTrue, IfOk, IfSome};
-ghost use Rattle.std.specs.FinSet.{contains};
-ghost use Rattle.change_boards.specs.Board.{IsEmpty, blank, abandoned, dests_of, marked, next, taken};
+ghost use Rattle.change_boards.specs.Board.{IsEmpty, abandoned, blank, has_notice, marked, next, taken};
 
 use crate::dest_set::DestSet;
 use crate::sort::Sort;
@@ -55,7 +54,7 @@ impl PanelBoard {
     /// Whether the panel has this notice.
     pub(crate) fn has(&self, dest: DestId, sort: Sort) -> bool
         requires { dest < MAX_DESTINATIONS }
-        ensures { result ≡ contains (dests_of self.now sort) dest }
+        ensures { result ≡ has_notice self.now dest sort }
     {
         match sort {
             Sort::Source => self.source.contains(dest),
