@@ -1,0 +1,31 @@
+-- The three lowest bits, of the top, of its group and of its word, lead to the lowest member.
+use Rattle.std.proofs.Common.{◌≡◌, ℕ, ◌+◌, ◌*◌, ◌/◌, ◌^◌, ◌<◌, ◌≤◌, List, length, get_or, true, inl, inr, sym, ◌∙◌, arith}
+use Rattle.std.proofs.lemmas.Bool.{cases_eq}
+use Rattle.change_boards.specs.SetInside.{has_bit, members, IsSummed, IsLowestBit}
+use Rattle.change_boards.proofs.SummaryLemmas.{bit_within, summary_bit}
+use Rattle.change_boards.proofs.Members.{contains-members}
+use Rattle.change_boards.proofs.LowestLemmas.{IsLowest}
+
+at_most : (n dest word group : ℕ) → group ≤ n / 64 / 64 → (n / 64 / 64 ≡ group → word ≤ n / 64) → (n / 64 ≡ word → dest ≤ n) → word / 64 ≡ group → dest / 64 ≡ word → dest ≤ n
+at_most n dest word group low in_group in_word word_is dest_is =
+    elim (cases_eq (n / 64 / 64) group) [
+      | inl same_group ↦
+          let behind = in_group same_group in
+          elim (cases_eq (n / 64) word) [
+            | inl same_word ↦ in_word same_word
+            | inr other ↦ omega (arith, behind, other, dest_is)
+          ]
+      | inr other ↦ omega (arith, low, other, word_is, dest_is)
+    ]
+
+pub IsLowest-members : (words groups top : List ℕ) (group word dest : ℕ) → IsSummed words groups top → IsLowestBit top 0 group → IsLowestBit groups group word → IsLowestBit words word dest →
+    IsLowest (members words) dest
+IsLowest-members words groups top group word dest is of_top of_group of_word = record {
+  has = contains-members words dest ∙ of_word.set;
+  least = λ n has.
+      let bit = sym (contains-members words n) ∙ has in
+      let group_bit = summary_bit words groups n is.of_words bit in
+      let top_bit = summary_bit groups top (n / 64) is.of_groups group_bit in
+      let first : n / 64 / 64 / 64 ≡ 0 = omega (arith, bit_within top (n / 64 / 64) top_bit, is.top_length) in
+      at_most n dest word group (of_top.lowest (n / 64 / 64) top_bit first) (of_group.lowest (n / 64) group_bit) (of_word.lowest n bit) of_group.within of_word.within;
+}

@@ -1,0 +1,23 @@
+use Rattle.std.proofs.Common.{◌≡◌, Some, None, ap, sym, ◌∙◌}
+use Rattle.change_boards.specs.Destinations.{lowest}
+use Rattle.change_boards.specs.SetInside.{IsLowestBit}
+use Rattle.change_boards.proofs.SummaryLemmas.{zero_from_top}
+use Rattle.change_boards.proofs.Members.{members-zero}
+use Rattle.change_boards.proofs.FirstMember.{IsLowest-members}
+use Rattle.change_boards.proofs.LowestLemmas.{lowest-IsLowest, lowest-empty}
+use Rattle.change_boards.proofs.dest_set.DestSet.lowest.Goals as goal
+
+pub returns-then-self-eq0-clause-lowest : goal.returns-then-self-eq0-clause-lowest
+returns-then-self-eq0-clause-lowest c =
+    let words = c.self.inside.words.items in
+    sym (ap lowest (sym c.self.view_is ∙ members-zero words (zero_from_top words c.self.inside.groups.items c.self.inside.top c.self.invariant c.if-self-eq0.true)) ∙ lowest-empty)
+
+pub returns-clause-lowest : goal.returns-clause-lowest
+returns-clause-lowest c =
+    let words = c.self.inside.words.items in
+    let groups = c.self.inside.groups.items in
+    let of_group : IsLowestBit groups c.lowest_bit-group.result c.lowest_bit-word.result = rw c.deref.ensures.value at c.lowest_bit-word.ensures in
+    let of_word : IsLowestBit words c.lowest_bit-word.result c.lowest_bit.result = rw c.deref-2.ensures.value at c.lowest_bit.ensures in
+    ap Some c.of.ensures
+    ∙ sym (lowest-IsLowest _ _ (IsLowest-members words groups c.self.inside.top _ _ _ c.self.invariant c.lowest_bit-group.ensures of_group of_word))
+    ∙ ap lowest c.self.view_is

@@ -1,0 +1,59 @@
+-- What is true of all boards, said by the notices that panels have and not by the sets.
+use Rattle.std.specs.Prelude.{◌≡◌, ◌≢◌, ◌⊎◌, ℕ, zero, suc, ◌<◌, Bool, true, false, if◌then◌else◌, List, [], ◌∷◌, ◌++◌, length, drop, slice_get}
+use Rattle.std.specs.List.{flat_map, range_with_len}
+use Rattle.change_boards.specs.declared.sort.Sort.{Sort}
+use Rattle.change_boards.specs.declared.sort.Sort.TheVariants.{Source, Protect}
+use Rattle.change_boards.specs.Board.{Board, IsEmpty, has_notice, next, taken}
+use Rattle.change_boards.specs.Notices.{board_of, has, has_left}
+
+-- The panels have the same notices but for this one, and those that have left are the same.
+pub record DiffersAt (old new : List Board) (panel dest : ℕ) (sort : Sort) : Type 0 where
+  pub others : (p d : ℕ) (s : Sort) → (let notice : ℕ × ℕ × Sort = (p, d, s) in notice ≢ (panel, dest, sort)) → has new p d s ≡ has old p d s
+  pub left : (p : ℕ) → has_left new p ≡ has_left old p
+
+-- A panel was given this notice, and nothing else changed.
+pub record Gives (old new : List Board) (panel dest : ℕ) (sort : Sort) : Type 0 where
+  pub given : has new panel dest sort ≡ true
+  pub rest : DiffersAt old new panel dest sort
+
+-- One notice comes before another: its destination is lower, or it is the source notice of the same destination.
+abbrev pub IsBefore : ℕ → Sort → ℕ → Sort → Type 0
+IsBefore dest sort d s = (dest < d) ⊎ ((dest ≡ d) × (sort ≡ Source) × (s ≡ Protect))
+
+-- A panel had this notice and no other before it; the notice was taken, and nothing else changed.
+pub record Takes (old new : List Board) (panel dest : ℕ) (sort : Sort) : Type 0 where
+  pub stood : has old panel dest sort ≡ true
+  pub first : (d : ℕ) (s : Sort) → has old panel d s ≡ true → (let notice : ℕ × Sort = (d, s) in notice ≢ (dest, sort)) → IsBefore dest sort d s
+  pub gone : has new panel dest sort ≡ false
+  pub rest : DiffersAt old new panel dest sort
+
+-- A panel has left and has no notices, and no other panel's board changed.
+pub record Leaves (old new : List Board) (panel : ℕ) : Type 0 where
+  pub left : has_left new panel ≡ true
+  pub nothing : IsEmpty (board_of new panel)
+  pub others : (p : ℕ) → p ≢ panel → board_of new p ≡ board_of old p
+
+-- So many panels have a board each, their notices are of destinations below a count, and whoever has left has none.
+pub record AreBoards (boards : List Board) (panels destinations : ℕ) : Type 0 where
+  pub count : length boards ≡ panels
+  pub below : (panel dest : ℕ) (sort : Sort) → has boards panel dest sort ≡ true → dest < destinations
+  pub left : (panel : ℕ) → has_left boards panel ≡ true → IsEmpty (board_of boards panel)
+
+-- the notices of one destination, that of its source first
+abbrev pub notices_at : Board → ℕ → List (ℕ × Sort)
+notices_at board dest =
+    (if has_notice board dest Source then (dest, Source) ∷ [] else []) ++ (if has_notice board dest Protect then (dest, Protect) ∷ [] else [])
+
+-- all notices of the destinations below a count, destination by destination
+abbrev pub notices_below : ℕ → Board → List (ℕ × Sort)
+notices_below destinations board = flat_map (notices_at board) (range_with_len 0 destinations)
+
+-- a board after so many takes
+abbrev pub taken_times : ℕ → Board → Board
+taken_times zero board = board
+taken_times (suc n) board = taken_times n (taken board)
+
+-- Where all notices of a board are below a count, so many takes remove the first so many of them, in their order.
+pub record TakesInOrder (board : Board) (destinations takes : ℕ) : Type 0 where
+  pub left : notices_below destinations (taken_times takes board) ≡ drop takes (notices_below destinations board)
+  pub next : next (taken_times takes board) ≡ slice_get (notices_below destinations board) takes

@@ -1,0 +1,127 @@
+//! The notices of one panel.
+
+ghost use Rattle.std.specs.Prelude.{◌≡◌, ◌<◌, ◌↔◌, IsNone, IsTrue, IfOk, IfSome};
+ghost use Rattle.change_boards.specs.Board.{IsEmpty, abandoned, blank, has_notice, marked, next, taken};
+
+use crate::dest_set::DestSet;
+use crate::sort::Sort;
+use plant_config::{DestId, MAX_DESTINATIONS};
+use std::alloc::{AllocError, Global};
+use std::marker::Model;
+
+/// Of which destinations a panel has yet to hear that they changed, and whether it has left.
+#[derive(Debug, Drop)]
+pub(crate) struct PanelBoard {
+    /// Those whose source changed.
+    source: DestSet,
+    /// Those whose owner changed.
+    protect: DestSet,
+    /// Whether the panel has left.
+    left: bool,
+}
+
+impl Model for PanelBoard {
+    ghost use Rattle.change_boards.specs.Board.{Board, code};
+
+    ghost Value = { Board };
+
+    ghost coded = { code };
+
+    ghost view = { λ board. record { source = board.source; protect = board.protect; left = board.left } };
+}
+
+impl PanelBoard {
+    /// The board of a panel that has no notices and hasn't left.
+    pub(crate) fn new(alloc: Global) -> Result<PanelBoard, AllocError>
+        ensures { IfOk result (λ board. board ≡ blank) }
+    {
+        let source = DestSet::new(alloc)?;
+        let protect = DestSet::new(alloc)?;
+        Ok(PanelBoard {
+            source,
+            protect,
+            left: false,
+        })
+    }
+
+    /// Whether the panel has left.
+    pub(crate) fn has_left(&self) -> bool
+        ensures { result ≡ self.now.left }
+    {
+        self.left
+    }
+
+    /// Whether the panel has this notice.
+    pub(crate) fn has(&self, dest: DestId, sort: Sort) -> bool
+        requires { dest < MAX_DESTINATIONS }
+        ensures { result ≡ has_notice self.now dest sort }
+    {
+        match sort {
+            Sort::Source => self.source.contains(dest),
+            Sort::Protect => self.protect.contains(dest),
+        }
+    }
+
+    /// Whether the panel has no notice.
+    pub(crate) fn is_empty(&self) -> bool
+        ensures { IsTrue result ↔ IsEmpty self.now }
+    {
+        self.source.is_empty() && self.protect.is_empty()
+    }
+
+    /// Gives the panel a notice, unless it has left.
+    pub(crate) fn mark(&mut self, dest: DestId, sort: Sort)
+        requires { dest < MAX_DESTINATIONS }
+        ensures { self.new ≡ marked self.old dest sort }
+    {
+        if self.left {
+            return;
+        }
+        match sort {
+            Sort::Source => self.source.insert(dest),
+            Sort::Protect => self.protect.insert(dest),
+        }
+    }
+
+    /// The notice that is next.
+    fn next(&self) -> Option<(DestId, Sort)>
+        ensures next { result ≡ next self.now }
+        ensures below { IfSome result (λ notice. notice.0 < MAX_DESTINATIONS) }
+    {
+        match (self.source.lowest(), self.protect.lowest()) {
+            (None, None) => None,
+            (None, Some(protect)) => Some((protect, Sort::Protect)),
+            (Some(source), None) => Some((source, Sort::Source)),
+            (Some(source), Some(protect)) => {
+                if protect < source {
+                    Some((protect, Sort::Protect))
+                } else {
+                    Some((source, Sort::Source))
+                }
+            }
+        }
+    }
+
+    /// Takes the notice that is next.
+    pub(crate) fn take_lowest(&mut self) -> Option<(DestId, Sort)>
+        ensures next { result ≡ next self.old }
+        ensures taken { self.new ≡ taken self.old }
+        ensures none { IsNone result ↔ IsEmpty self.old }
+    {
+        let (dest, sort) = self.next()?;
+        match sort {
+            Sort::Source => self.source.remove(dest),
+            Sort::Protect => self.protect.remove(dest),
+        }
+        Some((dest, sort))
+    }
+
+    /// Takes all notices away, and gives none from now on.
+    pub(crate) fn leave(&mut self)
+        ensures { self.new ≡ abandoned }
+    {
+        self.source.clear();
+        self.protect.clear();
+        self.left = true;
+    }
+}

@@ -1,0 +1,142 @@
+//! Tests of what no clause says: that calls succeed, and that the clauses say what was meant.
+
+ghost use Rattle.std.specs.Prelude.{◌≡◌, ◌<◌, length};
+
+use crate::{Notices, Sort};
+use plant_config::{DestId, MAX_DESTINATIONS, PanelNo, Plant};
+use std::process::Abort;
+use std::test::Fail;
+
+/// Destinations with what changed.
+type Changes = [(u32, Sort)];
+
+/// Marks in the order in which they are made, and the takes behind them.
+const ROWS: [(&Changes, &Changes); 6] = [
+    (&[], &[]),
+    // For one destination the source notice comes first, whichever was marked first.
+    (
+        &[(7, Sort::Protect), (7, Sort::Source)],
+        &[(7, Sort::Source), (7, Sort::Protect)],
+    ),
+    (
+        &[(8, Sort::Source), (7, Sort::Protect)],
+        &[(7, Sort::Protect), (8, Sort::Source)],
+    ),
+    // A second mark is no second notice.
+    (
+        &[(9, Sort::Source), (9, Sort::Source), (1, Sort::Source)],
+        &[(1, Sort::Source), (9, Sort::Source)],
+    ),
+    // The borders of the words and of what sums them up, from the lowest on and from the highest on.
+    (
+        &[
+            (0, Sort::Source),
+            (63, Sort::Source),
+            (64, Sort::Source),
+            (4_095, Sort::Source),
+            (4_096, Sort::Source),
+            (65_535, Sort::Source),
+        ],
+        &[
+            (0, Sort::Source),
+            (63, Sort::Source),
+            (64, Sort::Source),
+            (4_095, Sort::Source),
+            (4_096, Sort::Source),
+            (65_535, Sort::Source),
+        ],
+    ),
+    (
+        &[
+            (65_535, Sort::Protect),
+            (4_096, Sort::Protect),
+            (4_095, Sort::Protect),
+            (64, Sort::Protect),
+            (63, Sort::Protect),
+            (0, Sort::Protect),
+            (4_096, Sort::Source),
+        ],
+        &[
+            (0, Sort::Protect),
+            (63, Sort::Protect),
+            (64, Sort::Protect),
+            (4_095, Sort::Protect),
+            (4_096, Sort::Source),
+            (4_096, Sort::Protect),
+            (65_535, Sort::Protect),
+        ],
+    ),
+];
+
+fn mark_all(rt: &impl Abort, notices: &mut Notices, panel: PanelNo, marks: &Changes)
+    requires { panel < length notices.old }
+    ensures { length notices.new ≡ length notices.old }
+{
+    for (dest, sort) in marks.iter().copied() {
+        assert!(rt; dest < MAX_DESTINATIONS);
+        notices.mark(panel, DestId::of(dest), sort);
+    }
+}
+
+/// These are a panel's notices, in this order.
+fn takes_all(rt: &impl Abort, notices: &mut Notices, panel: PanelNo, takes: &Changes)
+    requires { panel < length notices.old }
+    ensures { length notices.new ≡ length notices.old }
+{
+    for (dest, sort) in takes.iter().copied() {
+        assert!(rt; !notices.is_empty(panel));
+        assert_eq!(rt; notices.take_lowest(panel), Some((DestId::of(dest), sort)));
+    }
+    assert!(rt; notices.is_empty(panel));
+    assert_eq!(rt; notices.take_lowest(panel), None);
+}
+
+#[test]
+fn notices_come_in_their_order(rt: HostRuntime) -> Result<(), Fail> {
+    let plant = Plant::bench(rt.alloc())?;
+    for (marks, takes) in ROWS {
+        let mut notices = Notices::new(rt.alloc(), &plant)?;
+        mark_all(&rt, &mut notices, PanelNo::of(0), marks);
+        takes_all(&rt, &mut notices, PanelNo::of(1), &[]);
+        takes_all(&rt, &mut notices, PanelNo::of(0), takes);
+    }
+    Ok(())
+}
+
+#[test]
+fn a_mark_between_takes_finds_its_place(rt: HostRuntime) -> Result<(), Fail> {
+    let plant = Plant::bench(rt.alloc())?;
+    let mut notices = Notices::new(rt.alloc(), &plant)?;
+    let panel = PanelNo::of(0);
+    let low = DestId::of(3);
+    mark_all(&rt, &mut notices, panel, &[(64, Sort::Source), (128, Sort::Source)]);
+    assert_eq!(rt; notices.take_lowest(panel), Some((DestId::of(64), Sort::Source)));
+    notices.mark(panel, low, Sort::Protect);
+    takes_all(&rt, &mut notices, panel, &[(3, Sort::Protect), (128, Sort::Source)]);
+    Ok(())
+}
+
+#[test]
+fn whoever_left_hears_nothing(rt: HostRuntime) -> Result<(), Fail> {
+    let plant = Plant::bench(rt.alloc())?;
+    let mut notices = Notices::new(rt.alloc(), &plant)?;
+    let (leaver, stayer) = (PanelNo::of(0), PanelNo::of(1));
+    let dest = DestId::of(4_096);
+    mark_all(&rt, &mut notices, leaver, &[(4_096, Sort::Source), (5, Sort::Protect)]);
+    notices.mark(stayer, dest, Sort::Source);
+    assert!(rt; !notices.has_left(leaver));
+
+    notices.drop_panel(leaver);
+    assert!(rt; notices.has_left(leaver));
+    assert!(rt; !notices.has_left(stayer));
+    assert!(rt; !notices.all_left());
+    notices.mark(leaver, dest, Sort::Protect);
+    takes_all(&rt, &mut notices, leaver, &[]);
+    assert!(rt; notices.has(stayer, dest, Sort::Source));
+    assert!(rt; !notices.has(stayer, dest, Sort::Protect));
+
+    notices.drop_panel(stayer);
+    takes_all(&rt, &mut notices, stayer, &[]);
+    assert!(rt; notices.all_left());
+    Ok(())
+}
