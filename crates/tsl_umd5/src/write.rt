@@ -73,7 +73,8 @@ fn set_count(start: usize, out: &mut Vec<u8>)
     requires within { start + COUNT_BYTES ≤ vec_len out.old }
     requires fits { vec_len out.old - (start + COUNT_BYTES) < 2 ^ 16 }
     ensures set { out.new.items ≡ take start out.old.items
-        ++ word (vec_len out.old - (start + COUNT_BYTES)) ++ drop (start + COUNT_BYTES) out.old.items }
+        ++ word (vec_len out.old - (start + COUNT_BYTES))
+        ++ drop (start + COUNT_BYTES) out.old.items }
     ensures len { vec_len out.new ≡ vec_len out.old }
     ensures room { vec_capacity out.new ≡ vec_capacity out.old }
 {
