@@ -99,6 +99,10 @@ passes_step byte before after steps text stands =
     let step = steps_at byte None before after steps text stands in
     (step.0 ∙ append-nil (items text), step.1)
 
+-- bytes, and the DLE behind them
+pub passes_dle : (piece : List ℕ) (count : ℕ) (a b c : Framer) → count < length piece → get_or piece count 0 ≡ dle → PassesOver (take count piece) a b → Steps b.state b.front dle None c.state c.front → PassesOver (take (count + 1) piece) a c
+passes_dle piece count a b c within is before steps = passes_byte piece count dle a b c within (sym is) before (passes_step dle b c steps)
+
 -- Where no item ends in a front of a piece, none ends in a shorter front.
 none_before : (text piece : List ℕ) (n m : ℕ) → n ≤ m → items (text ++ take m piece) ≡ items text → items (text ++ take n piece) ≡ items text
 none_before text piece n m within none =
