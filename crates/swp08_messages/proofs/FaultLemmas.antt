@@ -1,15 +1,13 @@
 -- What the bytes behind a command are refused with, by the messages that other bytes spell.
-use Rattle.std.proofs.Common.{◌≡◌, ◌≢◌, ℕ, suc, ◌+◌, ◌<◌, ◌≤◌, ◌==◌, cond, nat_eq, nat_lt, true, false, List, [], ◌∷◌, ◌++◌, length, get_or, take, take_all, drop, map, ◌-◌, eqb-true, Option, Some, None, refl, sym, ap, ◌∙◌, subst, arith, MatchOption}
-use Rattle.std.specs.List.{AllByRecursion}
+use Rattle.std.proofs.Common.{◌≡◌, ◌≢◌, ℕ, suc, ◌+◌, ◌<◌, ◌≤◌, cond, nat_eq, nat_lt, true, false, List, [], ◌∷◌, ◌++◌, length, get_or, take, take_all, drop, map, ◌-◌, eqb-true, Some, None, refl, sym, ap, ◌∙◌, subst, arith, MatchOption}
 use Rattle.std.proofs.lemmas.Bool.Decides.{nat_tests}
 use Rattle.swp08_messages.specs.declared.fault.ReadFault.{ReadFault}
 use Rattle.swp08_messages.specs.declared.fault.ReadFault.TheVariants.{UnknownCommand, WrongLength, BadField}
 use Rattle.swp08_messages.specs.declared.field.Field.{Field}
 use Rattle.swp08_messages.specs.declared.message.Message.{Message}
 use Rattle.swp08_messages.specs.Row.{row}
-use Rattle.swp08_messages.specs.Text.{text}
 use Rattle.swp08_messages.specs.Spelled.{SpellFields, Spells}
-use Rattle.swp08_messages.specs.Refused.{HasBadField, IsRefused}
+use Rattle.swp08_messages.specs.Refused.{IsRefused}
 use Rattle.swp08_messages.specs.ReadingInside.{limit_of, message_of, first_bad, fault_of}
 use Rattle.swp08_messages.proofs.FieldLemmas.{limit_of-positive}
 use Rattle.swp08_messages.proofs.SpelledLemmas.{length-SpellFields, spelled_below}

@@ -1,5 +1,5 @@
 -- A message by the bytes as they come: which DATA spells it, and where it has the limits of every message of its command.
-use Rattle.std.proofs.Common.{◌≡◌, ◌≢◌, ℕ, suc, ◌+◌, ◌*◌, ◌/◌, ◌%◌, ◌<◌, cond, nat_eq, true, false, List, [], ◌∷◌, ◌++◌, length, slice_index, map, Option, Some, None, refl, sym, ap, ◌∙◌, subst, arith, eqb-true, MatchOption}
+use Rattle.std.proofs.Common.{◌≡◌, ◌≢◌, ℕ, suc, ◌+◌, ◌*◌, ◌/◌, ◌%◌, ◌<◌, cond, nat_eq, true, false, List, [], ◌∷◌, length, map, Option, Some, None, refl, sym, ap, ◌∙◌, subst, arith, eqb-true, MatchOption}
 use Rattle.std.proofs.lemmas.Bool.Decides.{nat_tests}
 use Rattle.std.specs.List.{AllByRecursion}
 use Rattle.swp08_messages.specs.declared.point.Point.{Point}
@@ -10,7 +10,7 @@ use Rattle.swp08_messages.specs.Field.{number_of, IsSource, HasRoom, byte_of}
 use Rattle.swp08_messages.specs.Row.{row, destination, crosspoint}
 use Rattle.swp08_messages.specs.Text.{text, InRange}
 use Rattle.swp08_messages.specs.Spelled.{SpellFields, Spells}
-use Rattle.swp08_messages.specs.ReadingInside.{limit_of, point_of, source_of, point_in, source_in, message_of}
+use Rattle.swp08_messages.specs.ReadingInside.{limit_of, source_of, point_in, source_in, message_of}
 use Rattle.swp08_messages.proofs.FieldLemmas.{number_of-below}
 use Rattle.swp08_messages.proofs.SpelledLemmas.{Spells-text}
 
