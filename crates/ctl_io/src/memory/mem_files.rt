@@ -53,7 +53,8 @@ impl MemFiles {
     ) -> Result<MemFiles, AllocError>
         requires new_sources { AreNewSources sources.items }
         requires new_sinks { AreNewSinks sinks.items }
-        ensures { IfOk result (λ files. files ≡ unasked sources.items sinks.items objects failing.items) }
+        ensures { IfOk result (λ files.
+            files ≡ unasked sources.items sinks.items objects failing.items) }
     {
         let names = names_of(alloc, &sources)?;
         let sources_back = Vec::with_capacity(alloc, objects)?;
