@@ -1,6 +1,6 @@
 //! Sinks written and sources read as a whole.
 
-ghost use Rattle.std.specs.Prelude.{◌≡◌, ◌+◌, ◌<◌, ◌≤◌, not, length, IfOk, OnOk, OnErr, IsErrOf, IfSome, vec_capacity};
+ghost use Rattle.std.specs.Prelude.{◌≡◌, ◌+◌, ◌<◌, ◌≤◌, not, length, IfOk, OnOk, OnErr, IsErrOf, IfSome};
 ghost use Rattle.std.specs.Bool.{OnFalse, OnTrue};
 ghost use Rattle.ctl_io.specs.Faults.{counted};
 ghost use Rattle.ctl_io.specs.Sink.{appended, AppendsPart};

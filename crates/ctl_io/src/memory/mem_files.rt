@@ -1,6 +1,6 @@
 //! Files in memory.
 
-ghost use Rattle.std.specs.Prelude.{◌≡◌, ◌<◌, Some, IfOk};
+ghost use Rattle.std.specs.Prelude.{◌≡◌, ◌<◌, IfOk};
 ghost use Rattle.ctl_io.specs.Files.{IfFound, IfMade};
 ghost use Rattle.ctl_io.specs.Memory.{IsNewSource, IsNewSink};
 ghost use Rattle.ctl_io.specs.MemFiles.{unasked, AreNewSources, AreNewSinks, held_of, custody_of, source_answer, without_source, after_source, sink_answer, without_sink, after_sink, after_close_source, after_close_sink};

@@ -1,6 +1,6 @@
 //! A source in memory.
 
-ghost use Rattle.std.specs.Prelude.{◌≡◌, ◌<◌, Some, IfOk, length, take, min};
+ghost use Rattle.std.specs.Prelude.{◌≡◌, Some, IfOk, length, take, min};
 ghost use Rattle.ctl_io.specs.Calls.{uncalled};
 ghost use Rattle.ctl_io.specs.Source.{AreNext, got};
 ghost use Rattle.ctl_io.specs.Memory.{read_answer, after_read};

@@ -1,6 +1,6 @@
 //! Looking for a name among objects that have one.
 
-ghost use Rattle.std.specs.Prelude.{◌≡◌, ◌+◌, ℕ, List, find, IfNone, IfOk, OnSome, length, map};
+ghost use Rattle.std.specs.Prelude.{◌≡◌, ℕ, List, find, IfNone, IfOk, map};
 ghost use Rattle.std.specs.Str.{bytes_eq};
 ghost use Rattle.ctl_io.specs.MemFiles.{without_first, is_listed};
 
