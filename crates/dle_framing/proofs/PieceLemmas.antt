@@ -7,7 +7,7 @@ use Rattle.dle_framing.specs.declared.framer.Framer.{Framer}
 use Rattle.dle_framing.specs.declared.item.Item.{Item}
 use Rattle.dle_framing.specs.Feeding.{Feeds, shown}
 use Rattle.dle_framing.specs.Framer.{StandsFor, GoesOver}
-use Rattle.dle_framing.specs.FramerInside.{Adds, AddsOnto}
+use Rattle.dle_framing.specs.FramerInside.{AddsOnto}
 use Rattle.dle_framing.specs.Items.{items}
 use Rattle.dle_framing.specs.Owned.{owned}
 use Rattle.dle_framing.proofs.FeedLemmas.{take-add}

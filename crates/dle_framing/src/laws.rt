@@ -2,7 +2,7 @@
 ghost use mathlib.Core.List.{IsPrefix};
 ghost use Rattle.std.specs.Prelude.{◌≡◌, ℕ, ◌≤◌, List, [], ◌∷◌, length, map, replicate, All};
 ghost use Rattle.dle_framing.specs.declared.item.Item.TheVariants.{Good, Ack, Nak};
-ghost use Rattle.dle_framing.specs.Numbers.{dle, ack, nak, most_data};
+ghost use Rattle.dle_framing.specs.Numbers.{dle, ack, nak, most_data, most_frame};
 ghost use Rattle.dle_framing.specs.Frame.{IsData, frame};
 ghost use Rattle.dle_framing.specs.Items.{Reading, items, reading};
 ghost use Rattle.dle_framing.specs.Laws.{ReadsByStart, ReadsOn, IsReadAs, frames};
@@ -41,6 +41,6 @@ pub fn one_frame()
 
 /// No frame is longer than 516 bytes, and that of 255 DLE is so long.
 pub fn frame_room()
-    ensures within { (carried : List ℕ) → IsData carried → length (frame carried) ≤ MAX_FRAME }
+    ensures within { (carried : List ℕ) → IsData carried → length (frame carried) ≤ most_frame }
     ensures attained { length (frame (replicate most_data dle)) ≡ MAX_FRAME }
 {}
