@@ -57,12 +57,6 @@ passes_noise bytes framer outside noise text stands =
       subst Kept (none ∙ sym (on.rest_goes_on ∙ ap (λ (behind : Reading). behind.rest) behind)) stands,
     )
 
--- no bytes
-pub passes_none : (framer : Framer) → PassesOver [] framer framer
-passes_none framer text stands =
-    let P : List ℕ → Type 0 = λ whole. (items whole ≡ items text) × StandsFor framer whole in
-    subst P (sym (append-nil text)) (refl, stands)
-
 -- bytes of a body, which are their own spelling, pass in a frame
 pub passes_body : (bytes : List ℕ) (before after : Framer) → before.state ≡ Inside → after.state ≡ Inside → doubled bytes ≡ bytes → after.front ≡ take most_kept (before.front ++ bytes) → PassesOver bytes before after
 unfolding StandsFor

@@ -51,8 +51,7 @@ impl Framer {
     pub fn reset(&mut self)
         ensures { StandsFor self.new [] }
     {
-        // The front says nothing outside a frame.
-        self.state = State::Outside;
+        *self = Framer::new();
     }
 
     /// Takes the next piece of the stream up to the end of the first item that ends in it. It answers how many bytes it

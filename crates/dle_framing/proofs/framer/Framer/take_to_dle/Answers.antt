@@ -1,4 +1,4 @@
-use Rattle.std.proofs.Common.{◌≡◌, ◌<◌, None, length, take, arith}
+use Rattle.std.proofs.Common.{◌<◌, None, length, take, arith}
 use Rattle.dle_framing.specs.Numbers.{dle}
 use Rattle.dle_framing.specs.declared.framer.Framer.{Framer}
 use Rattle.dle_framing.specs.declared.framer.State.TheVariants.{OutsideDle, InsideDle}
