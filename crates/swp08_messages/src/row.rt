@@ -39,7 +39,8 @@ impl Row {
     pub(crate) fn write(&self, out: &mut Vec<u8>)
         requires in_range { AllByRecursion HasRoom self.now.fields.items }
         requires room { vec_len out.old + max_len ≤ vec_capacity out.old }
-        ensures text { out.new.items ≡ out.old.items ++ self.now.command ∷ map byte_of self.now.fields.items }
+        ensures text { out.new.items
+            ≡ out.old.items ++ self.now.command ∷ map byte_of self.now.fields.items }
         ensures room { vec_capacity out.new ≡ vec_capacity out.old }
     {
         out.push_reserved(self.command);
