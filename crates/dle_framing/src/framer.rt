@@ -192,8 +192,8 @@ impl Framer {
                 self.state = State::Outside;
                 Some(self.ended())
             }
-            // Any other byte abandons the frame, and is used up with the DLE.
             _ => {
+                // The byte abandons the frame, and is used up with the DLE.
                 self.state = State::Outside;
                 None
             }
