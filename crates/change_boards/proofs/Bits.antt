@@ -1,12 +1,12 @@
 -- One bit of a row of words that is set or cleared, and the lowest bit of a word.
-use Rattle.std.proofs.Common.{◌≡◌, ◌≢◌, ℕ, ◌+◌, ◌*◌, ◌/◌, ◌%◌, ◌^◌, ◌<◌, ◌≤◌, ◌==◌, List, length, get_or, set, true, inl, inr, refl, ap, arith, eq-eqb, eqb-true, w64, get_or-set_same, get_or-set_other}
+use Rattle.std.proofs.Common.{◌≡◌, ℕ, ◌+◌, ◌*◌, ◌/◌, ◌%◌, ◌^◌, ◌<◌, List, length, get_or, set, inl, inr, refl, ap, arith, eq-eqb, eqb-true, w64, get_or-set_same, get_or-set_other}
 use Rattle.std.proofs.lemmas.Bool.{cases_eq, cases_lt, ne_eqb}
 use Rattle.std.proofs.Math.ListN.{length-set}
 use Rattle.std.proofs.lemmas.Nat.{and_le_l}
 use Rattle.std.proofs.lemmas.Nat.Bits.{bit_at_set_same, bit_at_set_other, bit_at_clear_same, bit_at_clear_other, bit_at-trailing_zeros}
 use Rattle.std.specs.Prelude.{bit_and, bit_or}
 use Rattle.std.specs.Int.{bit_at, bit_not, trailing_zeros}
-use Rattle.change_boards.specs.SetInside.{has_bit, SetsBit, ClearsBit, IsLowestBit}
+use Rattle.change_boards.specs.SetInside.{SetsBit, ClearsBit, IsLowestBit}
 
 -- two numbers of one word differ in their bits
 same_number : (n number : ℕ) → n / 64 ≡ number / 64 → n % 64 ≡ number % 64 → n ≡ number

@@ -1,7 +1,7 @@
 -- The three lowest bits, of the top, of its group and of its word, lead to the lowest member.
-use Rattle.std.proofs.Common.{◌≡◌, ℕ, ◌+◌, ◌*◌, ◌/◌, ◌^◌, ◌<◌, ◌≤◌, List, length, get_or, true, inl, inr, sym, ◌∙◌, arith}
+use Rattle.std.proofs.Common.{◌≡◌, ℕ, ◌/◌, ◌≤◌, List, inl, inr, sym, ◌∙◌, arith}
 use Rattle.std.proofs.lemmas.Bool.{cases_eq}
-use Rattle.change_boards.specs.SetInside.{has_bit, members, IsSummed, IsLowestBit}
+use Rattle.change_boards.specs.SetInside.{members, IsSummed, IsLowestBit}
 use Rattle.change_boards.proofs.SummaryLemmas.{bit_within, summary_bit}
 use Rattle.change_boards.proofs.Members.{contains-members}
 use Rattle.change_boards.proofs.LowestLemmas.{IsLowest}

@@ -1,13 +1,13 @@
 -- Takes go through the notices of a board in their order.
-use Rattle.std.proofs.Common.{◌≡◌, ◌≢◌, ℕ, ◌+◌, ◌<◌, ◌≤◌, Bool, true, false, cond, List, [], ◌∷◌, ◌++◌, drop, zero, suc, Option, Some, None, is_some, inl, inr, refl, sym, ap, subst, ◌∙◌, arith, slice_get}
-use Rattle.std.proofs.lemmas.Bool.{cases_eq, both_ways, false_from_ne_true}
+use Rattle.std.proofs.Common.{◌≡◌, ◌≢◌, ℕ, ◌+◌, ◌<◌, ◌≤◌, true, false, List, [], ◌∷◌, drop, zero, suc, Option, Some, None, is_some, inl, inr, refl, sym, ap, ◌∙◌, arith, slice_get}
+use Rattle.std.proofs.lemmas.Bool.{cases_eq, false_from_ne_true}
 use Rattle.std.specs.List.{flat_map, range_with_len}
 use Rattle.std.specs.Ordering.{nat_cmp}
-use Rattle.std.specs.FinSet.{empty, contains, contains-empty}
+use Rattle.std.specs.FinSet.{contains, contains-empty}
 use Rattle.change_boards.specs.declared.sort.Sort.{Sort}
 use Rattle.change_boards.specs.declared.sort.Sort.TheVariants.{Source, Protect}
 use Rattle.change_boards.specs.Board.{Board, IsEmpty, has_notice, next, without, taken}
-use Rattle.change_boards.specs.Laws.{IsBefore, notices_at, notices_below, taken_times, TakesInOrder}
+use Rattle.change_boards.specs.Laws.{notices_at, notices_below, TakesInOrder}
 use Rattle.change_boards.proofs.NextLemmas.{next-None}
 use Rattle.change_boards.proofs.OneNotice.{IsNext, next-IsNext, removed, removed_less, removed_other}
 

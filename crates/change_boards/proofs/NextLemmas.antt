@@ -1,8 +1,8 @@
 -- What the next notice of a board is.
-use Rattle.std.proofs.Common.{◌≡◌, ℕ, ◌<◌, ◌≤◌, nat_lt, cond, Bool, true, false, Option, Some, None, IsNone, is_some, inl, inr, refl, sym, ap, ◌∙◌, arith}
+use Rattle.std.proofs.Common.{◌≡◌, ℕ, nat_lt, cond, Bool, true, false, Option, Some, None, IsNone, is_some, refl, sym, ap, ◌∙◌}
 use Rattle.change_boards.specs.declared.sort.Sort.{Sort}
 use Rattle.change_boards.specs.declared.sort.Sort.TheVariants.{Source, Protect}
-use Rattle.change_boards.specs.Destinations.{Destinations, lowest}
+use Rattle.change_boards.specs.Destinations.{lowest}
 use Rattle.change_boards.specs.Board.{Board, IsEmpty, sooner, next}
 use Rattle.change_boards.proofs.LowestLemmas.{lowest-empty, empty_from_lowest}
 

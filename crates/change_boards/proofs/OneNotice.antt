@@ -1,15 +1,14 @@
 -- A mark, a take or a leave changes one notice, or one board.
-use Rattle.std.proofs.Common.{◌≡◌, ◌≢◌, ℕ, ◌<◌, ◌≤◌, ◌==◌, ◌||◌, ◌&&◌, not, nat_lt, cond, Bool, true, false, List, length, get_or, set, Option, Some, None, inl, inr, refl, sym, ap, subst, ◌∙◌, ◌⊎◌, arith, eq-eqb, get_or-set_same, get_or-set_other, lt-ltb}
-use Rattle.std.proofs.lemmas.Bool.{cases_eq, cases_lt, ne_eqb, ltb-true, ltb-false, both_ways, and_parts}
+use Rattle.std.proofs.Common.{◌≡◌, ◌≢◌, ℕ, ◌<◌, ◌≤◌, ◌==◌, not, nat_lt, cond, Bool, true, false, List, length, set, Option, Some, None, inl, inr, refl, sym, ap, subst, ◌∙◌, arith, eq-eqb, get_or-set_same, get_or-set_other}
+use Rattle.std.proofs.lemmas.Bool.{cases_eq, ne_eqb, ltb-true, ltb-false, both_ways, and_parts}
 use Rattle.std.proofs.lemmas.List.{set-get_or}
-use Rattle.std.specs.Ordering.{nat_cmp}
-use Rattle.std.specs.FinSet.{empty, contains, insert, remove, contains-empty}
+use Rattle.std.specs.FinSet.{contains, insert, remove}
 use Rattle.change_boards.specs.declared.sort.Sort.{Sort}
 use Rattle.change_boards.specs.declared.sort.Sort.TheVariants.{Source, Protect}
 use Rattle.change_boards.specs.Destinations.{Destinations, lowest}
-use Rattle.change_boards.specs.Board.{Board, IsEmpty, blank, abandoned, dests_of, has_notice, with_dests, marked, sooner, next, without, taken}
-use Rattle.change_boards.specs.Notices.{board_of, has, has_left, with_mark, with_take, with_leave}
-use Rattle.change_boards.specs.Laws.{DiffersAt, Gives, IsBefore, Takes, Leaves}
+use Rattle.change_boards.specs.Board.{Board, blank, dests_of, has_notice, with_dests, marked, sooner, next}
+use Rattle.change_boards.specs.Notices.{board_of, has, has_left, with_mark, with_take}
+use Rattle.change_boards.specs.Laws.{DiffersAt, Gives, IsBefore, Takes}
 use Rattle.change_boards.proofs.Members.{contains_inserted, contains_removed}
 use Rattle.change_boards.proofs.LowestLemmas.{IsLowest, IsLowest-lowest, none_lowest}
 

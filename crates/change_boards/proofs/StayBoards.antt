@@ -1,14 +1,14 @@
 -- Boards stay boards: their notices are of destinations below the count, and whoever has left has none.
-use Rattle.std.proofs.Common.{◌≡◌, ◌≢◌, ℕ, ◌<◌, ◌≤◌, Bool, true, false, List, length, get_or, set, replicate, zero, suc, Option, Some, None, is_some, inl, inr, refl, sym, ap, subst, ◌∙◌, arith}
+use Rattle.std.proofs.Common.{◌≡◌, ℕ, ◌<◌, Bool, true, false, List, length, set, zero, suc, Option, Some, None, is_some, inl, inr, refl, sym, ap, subst, ◌∙◌, arith}
 use Rattle.std.proofs.lemmas.Bool.{cases_eq, cases_lt, both_ways}
 use Rattle.std.proofs.lemmas.List.{get_or_past, length-replicate}
 use Rattle.std.proofs.Math.ListN.{length-set}
 use Rattle.std.specs.Ordering.{nat_cmp}
-use Rattle.std.specs.FinSet.{empty, contains, contains-empty, insert}
+use Rattle.std.specs.FinSet.{contains, contains-empty, insert}
 use Rattle.change_boards.specs.declared.sort.Sort.{Sort}
 use Rattle.change_boards.specs.declared.sort.Sort.TheVariants.{Source, Protect}
-use Rattle.change_boards.specs.Board.{Board, IsEmpty, blank, abandoned, dests_of, has_notice, with_dests, marked, next, without, taken}
-use Rattle.change_boards.specs.Notices.{board_of, has, has_left, start, with_mark, with_take, with_leave}
+use Rattle.change_boards.specs.Board.{Board, IsEmpty, blank, abandoned, dests_of, has_notice, marked, next, without, taken}
+use Rattle.change_boards.specs.Notices.{board_of, start, with_mark, with_take, with_leave}
 use Rattle.change_boards.specs.Laws.{AreBoards}
 use Rattle.change_boards.proofs.NextLemmas.{IsEmpty-next}
 use Rattle.change_boards.proofs.OneNotice.{given_other, marked_left, marked_open, same_left, board_same, board_other}

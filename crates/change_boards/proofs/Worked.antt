@@ -1,9 +1,9 @@
 -- The definitions computed on boards of a few notices, by hand.
-use Rattle.std.proofs.Common.{◌≡◌, [], ◌∷◌, true, false, Some, None, refl}
+use Rattle.std.proofs.Common.{◌≡◌, [], ◌∷◌, false, Some, None, refl}
 use Rattle.change_boards.specs.declared.sort.Sort.TheVariants.{Source, Protect}
 use Rattle.change_boards.specs.Destinations.{least}
-use Rattle.change_boards.specs.Board.{Board, sooner, blank, abandoned, marked, without}
-use Rattle.change_boards.specs.Notices.{board_of, start, with_leave, with_mark, has_left}
+use Rattle.change_boards.specs.Board.{sooner, blank, abandoned, marked, without}
+use Rattle.change_boards.specs.Notices.{start, with_leave, has_left}
 
 least_of_none : least [] ≡ None
 least_of_none = refl

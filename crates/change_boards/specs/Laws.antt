@@ -1,10 +1,10 @@
 -- What is true of all boards, said by the notices that panels have and not by the sets.
-use Rattle.std.specs.Prelude.{◌≡◌, ◌≢◌, ◌⊎◌, ℕ, zero, suc, ◌<◌, Bool, true, false, if◌then◌else◌, List, [], ◌∷◌, ◌++◌, length, drop, slice_get}
+use Rattle.std.specs.Prelude.{◌≡◌, ◌≢◌, ◌⊎◌, ℕ, zero, suc, ◌<◌, true, false, if◌then◌else◌, List, [], ◌∷◌, ◌++◌, length, drop, slice_get, Some}
 use Rattle.std.specs.List.{flat_map, range_with_len}
 use Rattle.change_boards.specs.declared.sort.Sort.{Sort}
 use Rattle.change_boards.specs.declared.sort.Sort.TheVariants.{Source, Protect}
 use Rattle.change_boards.specs.Board.{Board, IsEmpty, has_notice, next, taken}
-use Rattle.change_boards.specs.Notices.{board_of, has, has_left}
+use Rattle.change_boards.specs.Notices.{board_of, has, has_left, with_mark, with_take, with_leave}
 
 -- The panels have the same notices but for this one, and those that have left are the same.
 pub record DiffersAt (old new : List Board) (panel dest : ℕ) (sort : Sort) : Type 0 where
@@ -33,11 +33,35 @@ pub record Leaves (old new : List Board) (panel : ℕ) : Type 0 where
   pub nothing : IsEmpty (board_of new panel)
   pub others : (p : ℕ) → p ≢ panel → board_of new p ≡ board_of old p
 
+-- A mark gives one notice to one panel. On a panel that has left it changes nothing.
+pub record MarksGiveOneNotice (boards : List Board) : Type 0 where
+  pub gives : (panel dest : ℕ) (sort : Sort) → panel < length boards → has_left boards panel ≡ false → Gives boards (with_mark boards panel dest sort) panel dest sort
+  pub left : (panel dest : ℕ) (sort : Sort) → has_left boards panel ≡ true → with_mark boards panel dest sort ≡ boards
+
+-- A take removes the first notice of its panel and no other.
+abbrev pub TakesRemoveOneNotice : List Board → Type 0
+TakesRemoveOneNotice boards =
+    (panel dest : ℕ) (sort : Sort) → panel < length boards → next (board_of boards panel) ≡ Some (dest, sort) → Takes boards (with_take boards panel) panel dest sort
+
+-- A panel that leaves has no notices, and nothing of another panel changes.
+abbrev pub LeavesAreOfOnePanel : List Board → Type 0
+LeavesAreOfOnePanel boards = (panel : ℕ) → panel < length boards → Leaves boards (with_leave boards panel) panel
+
+-- All notices of a board are of destinations below a count.
+abbrev pub IsBelow : Board → ℕ → Type 0
+IsBelow board destinations = (dest : ℕ) (sort : Sort) → has_notice board dest sort ≡ true → dest < destinations
+
 -- So many panels have a board each, their notices are of destinations below a count, and whoever has left has none.
 pub record AreBoards (boards : List Board) (panels destinations : ℕ) : Type 0 where
   pub count : length boards ≡ panels
-  pub below : (panel dest : ℕ) (sort : Sort) → has boards panel dest sort ≡ true → dest < destinations
+  pub below : (panel : ℕ) → IsBelow (board_of boards panel) destinations
   pub left : (panel : ℕ) → has_left boards panel ≡ true → IsEmpty (board_of boards panel)
+
+-- Boards stay so after a mark of a destination below the count, after a take, and after a panel has left.
+pub record StayBoards (boards : List Board) (panels destinations : ℕ) : Type 0 where
+  pub mark : (panel dest : ℕ) (sort : Sort) → dest < destinations → AreBoards (with_mark boards panel dest sort) panels destinations
+  pub take : (panel : ℕ) → AreBoards (with_take boards panel) panels destinations
+  pub leave : (panel : ℕ) → AreBoards (with_leave boards panel) panels destinations
 
 -- the notices of one destination, that of its source first
 abbrev pub notices_at : Board → ℕ → List (ℕ × Sort)
@@ -53,7 +77,7 @@ abbrev pub taken_times : ℕ → Board → Board
 taken_times zero board = board
 taken_times (suc n) board = taken_times n (taken board)
 
--- Where all notices of a board are below a count, so many takes remove the first so many of them, in their order.
+-- So many takes remove the first so many notices of those below a count, in their order, and one more takes the next.
 pub record TakesInOrder (board : Board) (destinations takes : ℕ) : Type 0 where
   pub left : notices_below destinations (taken_times takes board) ≡ drop takes (notices_below destinations board)
   pub next : next (taken_times takes board) ≡ slice_get (notices_below destinations board) takes

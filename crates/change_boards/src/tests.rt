@@ -8,10 +8,10 @@ use std::process::Abort;
 use std::test::Fail;
 
 /// Destinations with what changed.
-type Changes = [(u32, Sort)];
+type Changes = &'static [(u32, Sort)];
 
 /// Marks in the order in which they are made, and the takes behind them.
-const ROWS: [(&Changes, &Changes); 6] = [
+const ROWS: [(Changes, Changes); 6] = [
     (&[], &[]),
     // For one destination the source notice comes first, whichever was marked first.
     (
@@ -68,22 +68,24 @@ const ROWS: [(&Changes, &Changes); 6] = [
     ),
 ];
 
-fn mark_all(rt: &impl Abort, notices: &mut Notices, panel: PanelNo, marks: &Changes)
+fn mark_all(rt: &impl Abort, notices: &mut Notices, panel: PanelNo, marks: Changes)
     requires { panel < length notices.old }
     ensures { length notices.new ≡ length notices.old }
 {
-    for (dest, sort) in marks.iter().copied() {
+    for mark in marks {
+        let (dest, sort) = *mark;
         assert!(rt; dest < MAX_DESTINATIONS);
         notices.mark(panel, DestId::of(dest), sort);
     }
 }
 
 /// These are a panel's notices, in this order.
-fn takes_all(rt: &impl Abort, notices: &mut Notices, panel: PanelNo, takes: &Changes)
+fn takes_all(rt: &impl Abort, notices: &mut Notices, panel: PanelNo, takes: Changes)
     requires { panel < length notices.old }
     ensures { length notices.new ≡ length notices.old }
 {
-    for (dest, sort) in takes.iter().copied() {
+    for take in takes {
+        let (dest, sort) = *take;
         assert!(rt; !notices.is_empty(panel));
         assert_eq!(rt; notices.take_lowest(panel), Some((DestId::of(dest), sort)));
     }
@@ -109,10 +111,23 @@ fn a_mark_between_takes_finds_its_place(rt: HostRuntime) -> Result<(), Fail> {
     let mut notices = Notices::new(rt.alloc(), &plant)?;
     let panel = PanelNo::of(0);
     let low = DestId::of(3);
-    mark_all(&rt, &mut notices, panel, &[(64, Sort::Source), (128, Sort::Source)]);
-    assert_eq!(rt; notices.take_lowest(panel), Some((DestId::of(64), Sort::Source)));
+    mark_all(
+        &rt,
+        &mut notices,
+        panel,
+        &[(64, Sort::Source), (128, Sort::Source)],
+    );
+    assert_eq!(rt;
+        notices.take_lowest(panel),
+        Some((DestId::of(64), Sort::Source))
+    );
     notices.mark(panel, low, Sort::Protect);
-    takes_all(&rt, &mut notices, panel, &[(3, Sort::Protect), (128, Sort::Source)]);
+    takes_all(
+        &rt,
+        &mut notices,
+        panel,
+        &[(3, Sort::Protect), (128, Sort::Source)],
+    );
     Ok(())
 }
 
@@ -122,7 +137,12 @@ fn whoever_left_hears_nothing(rt: HostRuntime) -> Result<(), Fail> {
     let mut notices = Notices::new(rt.alloc(), &plant)?;
     let (leaver, stayer) = (PanelNo::of(0), PanelNo::of(1));
     let dest = DestId::of(4_096);
-    mark_all(&rt, &mut notices, leaver, &[(4_096, Sort::Source), (5, Sort::Protect)]);
+    mark_all(
+        &rt,
+        &mut notices,
+        leaver,
+        &[(4_096, Sort::Source), (5, Sort::Protect)],
+    );
     notices.mark(stayer, dest, Sort::Source);
     assert!(rt; !notices.has_left(leaver));
 

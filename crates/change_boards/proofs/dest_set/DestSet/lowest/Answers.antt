@@ -1,4 +1,4 @@
-use Rattle.std.proofs.Common.{◌≡◌, Some, None, ap, sym, ◌∙◌}
+use Rattle.std.proofs.Common.{Some, ap, sym, ◌∙◌}
 use Rattle.change_boards.specs.Destinations.{lowest}
 use Rattle.change_boards.specs.SetInside.{IsLowestBit}
 use Rattle.change_boards.proofs.SummaryLemmas.{zero_from_top}
