@@ -17,7 +17,8 @@ pub fn takes_remove_one_notice()
 
 /// With no mark between, so many takes remove the first so many notices of a panel, in their order.
 pub fn takes_go_in_order()
-    ensures { (board : Board) (count takes : ℕ) → IsBelow board count → TakesInOrder board count takes }
+    ensures { (board : Board) (count takes : ℕ) →
+        IsBelow board count → TakesInOrder board count takes }
 {}
 
 /// A panel that leaves has no notices, and nothing of another panel changes.

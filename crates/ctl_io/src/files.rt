@@ -40,7 +40,8 @@ pub trait Files {
 
     /// Opens the file of this name for reading.
     fn source(&mut self, name: &str) -> Found<Self::S>
-        ensures left { IfFound result (λ source. HasLeft (held self.old name.now 0) (Self.S.left source)) }
+        ensures left { IfFound result
+            (λ source. HasLeft (held self.old name.now 0) (Self.S.left source)) }
         ensures named { IfFound result (λ source. IsNamed name.now (Self.S.name source)) }
         ensures new { IfFound result (λ source. Self.S.faults source ≡ 0) }
         ensures missing { result ≡ Found.Missing → MayBeMissing (held self.old name.now 0) }
@@ -67,7 +68,8 @@ pub trait Files {
           faults = Self.S.faults source;
         }) (custody self.old) }
         ensures same { (name : List ℕ) → Stays (held self.old name) (held self.new name) }
-        ensures count { faults self.new ≡ counted (is_faulty (Self.S.faults source)) (faults self.old) };
+        ensures count { faults self.new
+            ≡ counted (is_faulty (Self.S.faults source)) (faults self.old) };
 
     /// Takes back a sink that these files handed out.
     fn close_sink(&mut self, sink: Self::K)
@@ -78,5 +80,6 @@ pub trait Files {
           faults = Self.K.faults sink;
         }) (custody self.old) }
         ensures others { AllStayBut (Self.K.name sink) (held self.old) (held self.new) }
-        ensures count { faults self.new ≡ counted (is_faulty (Self.K.faults sink)) (faults self.old) };
+        ensures count { faults self.new
+            ≡ counted (is_faulty (Self.K.faults sink)) (faults self.old) };
 }

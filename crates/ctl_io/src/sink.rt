@@ -28,7 +28,8 @@ pub trait Sink: Send {
     fn write(&mut self, bytes: &[u8]) -> Write
         requires { 0 < length bytes.now }
         ensures within { IsWithin result (length bytes.now) }
-        ensures written { written self.new ≡ appended (written self.old) (take (took result) bytes.now) }
+        ensures written { written self.new
+            ≡ appended (written self.old) (take (took result) bytes.now) }
         ensures name { name self.new ≡ name self.old }
         ensures count { faults self.new ≡ counted (write_failed result) (faults self.old) };
 }

@@ -16,7 +16,8 @@ use std::alloc::{AllocError, Global};
 /// Where it answers false, a shorter front of the bytes was appended.
 pub fn write_all<K: Sink>(sink: &mut K, bytes: &[u8]) -> bool
     ensures all { OnTrue result (K.written sink.new ≡ appended (K.written sink.old) bytes.now) }
-    ensures part { OnFalse result (AppendsPart bytes.now (K.written sink.old) (K.written sink.new)) }
+    ensures part { OnFalse result
+        (AppendsPart bytes.now (K.written sink.old) (K.written sink.new)) }
     ensures name { K.name sink.new ≡ K.name sink.old }
     ensures count { K.faults sink.new ≡ counted (not result) (K.faults sink.old) }
 {

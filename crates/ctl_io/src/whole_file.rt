@@ -30,7 +30,8 @@ pub fn read_file<F: Files>(
     ensures whole { IfOk result (λ whole. IsHeld (F.held files.old name.now 0) whole.items) }
     ensures within { IfOk result (λ whole. length whole.items ≤ limit) }
     ensures missing { result ≡ Err FileFault.Missing → MayBeMissing (F.held files.old name.now 0) }
-    ensures too_long { result ≡ Err FileFault.TooLong → IsLonger limit (F.held files.old name.now 0) }
+    ensures too_long { result ≡ Err FileFault.TooLong
+        → IsLonger limit (F.held files.old name.now 0) }
     ensures no_memory { result ≡ Err FileFault.NoMemory → MayBeHere (F.held files.old name.now 0) }
     ensures next { AfterFile result (F.held files.old name.now) (F.held files.new name.now) }
     ensures others { OthersStay name.now (F.held files.old) (F.held files.new) }

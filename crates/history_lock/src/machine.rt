@@ -40,5 +40,6 @@ pub trait Machine {
         ensures at_most { length out.new.items ≤ room self.old }
         ensures places { out.new.places ≡ out.old.places }
         ensures room { room self.new ≡ room self.old }
-        ensures goes_on_fitting { (other : Self.Request) → Fits self.old other → Fits self.new other };
+        ensures goes_on_fitting { (other : Self.Request) →
+            Fits self.old other → Fits self.new other };
 }

@@ -39,9 +39,11 @@ pub fn connects_are_made()
 /// A connect that is made stands: whatever is asked behind it, each interrogate of its place is answered with its source,
 /// until that place is connected again.
 pub fn connects_stand()
-    ensures { (state : State) (panel item : ℕ) (at : Point) (source : Option ℕ) (later : List Request) →
+    ensures { (state : State) (panel item : ℕ) (at : Point) (source : Option ℕ)
+        (later : List Request) →
         IsValid state → IsConnectable state.plant at source → All (LeavesAlone at) later →
-        AnswersWith (after (step state (Told panel item (Connect at source))).state later) at source }
+        AnswersWith (after (step state (Told panel item (Connect at source))).state later)
+        at source }
 {}
 
 /// An interrogate changes nothing. Before the first connect, and where the plant has no such place, it is answered with

@@ -71,7 +71,8 @@ impl Rows {
     // Gives a destination a source.
     fn insert(&mut self, dest: DestId, source: SourceId)
         requires { dest < self.old.room }
-        ensures crosspoints { self.new.crosspoints ≡ insert self.old.crosspoints dest (local source) }
+        ensures crosspoints { self.new.crosspoints
+            ≡ insert self.old.crosspoints dest (local source) }
         ensures room { self.new.room ≡ self.old.room }
     {
         match index_of(&self.rows, dest) {

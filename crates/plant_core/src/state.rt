@@ -152,7 +152,8 @@ impl PlantState {
     // Makes a change.
     fn apply(&mut self, change: Change)
         requires { IsChangeOf self.old.plant change }
-        ensures { self.new ≡ record self.old { crosspoints = applied self.old.crosspoints (change ∷ []) } }
+        ensures { self.new
+            ≡ record self.old { crosspoints = applied self.old.crosspoints (change ∷ []) } }
     {
         self.rows.set(change.dest, change.source);
     }
