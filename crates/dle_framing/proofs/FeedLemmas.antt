@@ -3,17 +3,22 @@ use Rattle.std.proofs.Common.{◌≡◌, ℕ, ◌+◌, ◌≤◌, ◌<◌, nat_e
 use Rattle.std.specs.Option.{option_map, option_to_list, is_some}
 use Rattle.std.proofs.lemmas.Bool.{false≢true}
 use Rattle.std.proofs.lemmas.List.{append-nil, append_assoc, length-append, length-drop, nil_from_length, take_more, take-take, take-append-drop, drop-take}
-use Rattle.dle_framing.specs.declared.control.TheConstants.{DLE}
+use Rattle.dle_framing.specs.Numbers.{dle, stx, most_kept}
 use Rattle.dle_framing.specs.declared.framer.Framer.{Framer}
 use Rattle.dle_framing.specs.declared.framer.State.{State}
-use Rattle.dle_framing.specs.declared.framer.State.TheVariants.{Outside}
+use Rattle.dle_framing.specs.declared.framer.State.TheVariants.{Outside, Inside}
+use Rattle.std.proofs.lemmas.List.Concat.{flat_map-append}
 use Rattle.dle_framing.specs.declared.item.Item.{Item}
+use Rattle.dle_framing.specs.Frame.{doubled}
 use Rattle.dle_framing.specs.Items.{Reading, only_rest, reading, items, rest}
-use Rattle.dle_framing.specs.Kept.{Keeps, heard, Steps}
-use Rattle.dle_framing.specs.Framer.{StandsFor, PassesOver}
+use Rattle.dle_framing.specs.Kept.{Keeps}
+use Rattle.dle_framing.specs.StepsInside.{found_in, Steps}
+use Rattle.dle_framing.specs.Framer.{StandsFor}
+use Rattle.dle_framing.specs.FramerInside.{PassesOver}
 use Rattle.dle_framing.specs.Feeding.{Feeds}
 use Rattle.dle_framing.proofs.Readings.{reading-by_start, reading-noise, reading-append, followed}
 use Rattle.dle_framing.proofs.LawLemmas.{reads_on_lem}
+use Rattle.dle_framing.proofs.StepLemmas.{take-take_append, reading-open, doubled-push}
 
 pub take-add : (n m : ℕ) (bytes : List ℕ) → take (n + m) bytes ≡ take n bytes ++ take m (drop n bytes)
 take-add n m bytes =
@@ -44,25 +49,52 @@ passes_byte piece used byte a b c within is before behind =
 pub passes_noise : (bytes : List ℕ) (framer : Framer) → framer.state ≡ Outside → reading bytes ≡ only_rest [] → PassesOver bytes framer framer
 unfolding StandsFor
 passes_noise bytes framer outside noise text stands =
-    let Kept : List ℕ → Type 0 = λ kept. Keeps framer.state framer.front.items kept in
-    let none : rest text ≡ [] = (let P : State → Type 0 = λ state. Keeps state framer.front.items (rest text) in subst P outside stands) in
+    let Kept : List ℕ → Type 0 = λ kept. Keeps framer.state framer.front kept in
+    let none : rest text ≡ [] = (let P : State → Type 0 = λ state. Keeps state framer.front (rest text) in subst P outside stands) in
     let on = reads_on_lem text bytes in
     let behind : reading (rest text ++ bytes) ≡ only_rest [] = ap (λ (kept : List ℕ). reading (kept ++ bytes)) none ∙ noise in (
       on.items_go_on ∙ ap (λ (behind : Reading). items text ++ behind.items) behind ∙ append-nil (items text),
       subst Kept (none ∙ sym (on.rest_goes_on ∙ ap (λ (behind : Reading). behind.rest) behind)) stands,
     )
 
+-- no bytes
+pub passes_none : (framer : Framer) → PassesOver [] framer framer
+passes_none framer text stands =
+    let P : List ℕ → Type 0 = λ whole. (items whole ≡ items text) × StandsFor framer whole in
+    subst P (sym (append-nil text)) (refl, stands)
+
+-- bytes of a body, which are their own spelling, pass in a frame
+pub passes_body : (bytes : List ℕ) (before after : Framer) → before.state ≡ Inside → after.state ≡ Inside → doubled bytes ≡ bytes → after.front ≡ take most_kept (before.front ++ bytes) → PassesOver bytes before after
+unfolding StandsFor
+passes_body bytes before after inside still single grown text stands =
+    let kept : Keeps Inside before.front (rest text) = (let P : State → Type 0 = λ state. Keeps state before.front (rest text) in subst P inside stands) in
+    let on = reads_on_lem text bytes in
+    let spelled : rest text ++ bytes ≡ dle ∷ stx ∷ doubled (kept.0 ++ bytes) =
+    ap (λ (rest : List ℕ). rest ++ bytes) kept.2
+    ∙ ap (λ (bytes : List ℕ). dle ∷ stx ∷ (doubled kept.0 ++ bytes)) (sym single)
+    ∙ ap (λ (text : List ℕ). dle ∷ stx ∷ text) (sym (flat_map-append _ kept.0 bytes)) in
+    let behind : reading (rest text ++ bytes) ≡ only_rest (dle ∷ stx ∷ doubled (kept.0 ++ bytes)) = ap reading spelled ∙ reading-open (kept.0 ++ bytes) in
+    let Kept : State → List ℕ → Type 0 = λ state kept. Keeps state after.front kept in
+    let keeps : Keeps Inside after.front (rest (text ++ bytes)) = (
+      kept.0 ++ bytes,
+      grown ∙ ap (λ (front : List ℕ). take most_kept (front ++ bytes)) kept.1 ∙ take-take_append kept.0 bytes,
+      on.rest_goes_on ∙ ap (λ (behind : Reading). behind.rest) behind,
+    ) in (
+      on.items_go_on ∙ ap (λ (behind : Reading). items text ++ behind.items) behind ∙ append-nil (items text),
+      (let P : State → Type 0 = λ state. Keeps state after.front (rest (text ++ bytes)) in subst P (sym still) keeps),
+    )
+
 -- a step, at each text that the framer stands for
-pub steps_at : (byte : ℕ) (item : Option (Item (Unit {0}))) (before after : Framer) → Steps before.state before.front.items byte item after.state after.front.items
-    → (text : List ℕ) → StandsFor before text → (items (text ++ byte ∷ []) ≡ items text ++ option_to_list (option_map (heard after.front.items) item)) × StandsFor after (text ++ byte ∷ [])
+pub steps_at : (byte : ℕ) (item : Option (Item (Unit {0}))) (before after : Framer) → Steps before.state before.front byte item after.state after.front
+    → (text : List ℕ) → StandsFor before text → (items (text ++ byte ∷ []) ≡ items text ++ option_to_list (option_map (found_in after.front) item)) × StandsFor after (text ++ byte ∷ [])
 unfolding StandsFor Steps
 steps_at byte item before after steps text stands =
     let on = reads_on_lem text (byte ∷ []) in
     let step = steps (rest text) stands in
-    let Kept : List ℕ → Type 0 = Keeps after.state after.front.items in
+    let Kept : List ℕ → Type 0 = Keeps after.state after.front in
     (on.items_go_on ∙ ap (λ (more : List (Item (List ℕ))). items text ++ more) step.0, subst Kept (sym on.rest_goes_on) step.1)
 
-pub passes_step : (byte : ℕ) (before after : Framer) → Steps before.state before.front.items byte None after.state after.front.items → PassesOver (byte ∷ []) before after
+pub passes_step : (byte : ℕ) (before after : Framer) → Steps before.state before.front byte None after.state after.front → PassesOver (byte ∷ []) before after
 passes_step byte before after steps text stands =
     let step = steps_at byte None before after steps text stands in
     (step.0 ∙ append-nil (items text), step.1)
@@ -102,20 +134,24 @@ feeds_item text piece n byte item within is none ends =
     }
 
 -- a text of noise, and one byte of noise more
-pub noise_more : (text : List ℕ) (byte : ℕ) → reading text ≡ only_rest [] → nat_eq byte DLE ≡ false → reading (text ++ byte ∷ []) ≡ only_rest []
+pub noise_more : (text : List ℕ) (byte : ℕ) → reading text ≡ only_rest [] → nat_eq byte dle ≡ false → reading (text ++ byte ∷ []) ≡ only_rest []
 noise_more text byte noise other =
     reading-append text (byte ∷ [])
     ∙ ap (λ (before : Reading). followed before (reading (before.rest ++ byte ∷ []))) noise
     ∙ reading-noise byte [] other
     ∙ reading-by_start []
 
+-- the same of bytes that are their own spelling
+pub single_more : (text : List ℕ) (byte : ℕ) → doubled text ≡ text → nat_eq byte dle ≡ false → doubled (text ++ byte ∷ []) ≡ text ++ byte ∷ []
+single_more text byte single other = sym (doubled-push text byte other) ∙ ap (λ (text : List ℕ). text ++ byte ∷ []) single
+
 pub noise_none : reading [] ≡ only_rest []
 noise_none = reading-by_start []
 
 -- A piece whose items end with a byte behind a front in which none ends, by a step there.
 pub feeds_step : (piece : List ℕ) (used byte : ℕ) (item : Option (Item (Unit {0}))) (a b c : Framer) → used < length piece → byte ≡ get_or piece used 0 → PassesOver (take used piece) a b
-    → Steps b.state b.front.items byte item c.state c.front.items → is_some item ≡ true → (text : List ℕ) → StandsFor a text
-    → Feeds text piece (used + 1) (option_map (heard c.front.items) item) × StandsFor c (text ++ take (used + 1) piece)
+    → Steps b.state b.front byte item c.state c.front → is_some item ≡ true → (text : List ℕ) → StandsFor a text
+    → Feeds text piece (used + 1) (option_map (found_in c.front) item) × StandsFor c (text ++ take (used + 1) piece)
 feeds_step piece used byte None a b c within is passes steps some text stands = absurd (false≢true some)
 feeds_step piece used byte (Some item) a b c within is passes steps some text stands =
     let before = passes text stands in
@@ -123,7 +159,7 @@ feeds_step piece used byte (Some item) a b c within is passes steps some text st
     let front : (text ++ take used piece) ++ byte ∷ [] ≡ text ++ take (used + 1) piece =
     append_assoc text (take used piece) (byte ∷ []) ∙ ap (λ (front : List ℕ). text ++ front) (ap (λ (byte : ℕ). take used piece ++ byte ∷ []) is ∙ sym (take_more piece used 0 within)) in
     let P : List ℕ → Type 0 = StandsFor c in
-    (feeds_item text piece used byte (heard c.front.items item) within is before.0 step.0, subst P front step.1)
+    (feeds_item text piece used byte (found_in c.front item) within is before.0 step.0, subst P front step.1)
 
 pub none_from_test : (item : Option (Item (Unit {0}))) → is_some item ≡ false → item ≡ None
 none_from_test None none = refl

@@ -1,13 +1,14 @@
 -- The laws of frames and items, for proofs of other crates too.
-use Rattle.std.proofs.Common.{◌≡◌, ℕ, zero, suc, ◌≤◌, List, [], ◌∷◌, ◌++◌, length, refl, sym, ap, ◌∙◌, arith}
+use Rattle.std.proofs.Common.{◌≡◌, ℕ, zero, suc, ◌≤◌, List, [], ◌∷◌, ◌++◌, length, map, All, refl, sym, ap, ◌∙◌, arith}
+use mathlib.Core.List.{IsPrefix}
 use Rattle.std.proofs.lemmas.Bool.{cond-true}
 use Rattle.dle_framing.specs.declared.item.Item.{Item}
-use Rattle.dle_framing.specs.declared.item.Item.TheVariants.{Good}
-use Rattle.dle_framing.specs.declared.control.TheConstants.{DLE, ETX}
+use Rattle.dle_framing.specs.declared.item.Item.TheVariants.{Good, Ack, Nak}
+use Rattle.dle_framing.specs.Numbers.{dle, etx, ack, nak}
 use Rattle.dle_framing.specs.Frame.{IsData, body, enclosed, frame}
 use Rattle.dle_framing.specs.Items.{Reading, with_item, item_of, reading, items, rest}
-use Rattle.dle_framing.specs.Laws.{ReadsByStart, ReadsOn, Begins, IsReadBack}
-use Rattle.dle_framing.proofs.Frames.{good-body, data-body}
+use Rattle.dle_framing.specs.Laws.{ReadsByStart, ReadsOn, IsReadAs, frames}
+use Rattle.dle_framing.proofs.FrameLemmas.{good-body, data-body}
 use Rattle.dle_framing.proofs.Readings.{by_start-same, reading-by_start, reading-frame, reading-append}
 
 only_within : (reads : List ℕ → Reading) → ReadsByStart reads → (n : ℕ) (text : List ℕ) → length text ≤ n → reads text ≡ reading text
@@ -23,22 +24,46 @@ reads_on_lem text more = record {
   rest_goes_on = ap (λ (reading : Reading). reading.rest) (reading-append text more);
 }
 
-pub items_begin : (text longer : List ℕ) → Begins text longer → Begins (items text) (items longer)
-items_begin text longer begins = (items (rest text ++ begins.0), ap items begins.1 ∙ (reads_on_lem text begins.0).items_go_on)
+pub items_front : (text longer : List ℕ) → IsPrefix text longer → IsPrefix (items text) (items longer)
+items_front text longer front = (items (rest text ++ front.0), sym (reads_on_lem text front.0).items_go_on ∙ ap items front.1)
 
 -- the reading of an enclosed body
 pub reading-enclosed : (text : List ℕ) → reading (enclosed text) ≡ with_item (item_of text) (reading [])
-reading-enclosed text = reading-frame text (DLE ∷ ETX ∷ []) refl
+reading-enclosed text = reading-frame text (dle ∷ etx ∷ []) refl
 
 -- the item of the body of DATA
 pub item_of-body : (carried : List ℕ) → IsData carried → item_of (body carried) ≡ Good carried
 item_of-body carried is_data = cond-true _ _ _ (good-body carried is_data) ∙ ap Good (data-body carried)
 
-pub reads_frame_lem : (carried : List ℕ) → IsData carried → IsReadBack carried
-reads_frame_lem carried is_data =
-    let reads : reading (frame carried) ≡ record { items = Good carried ∷ []; rest = [] } =
-    reading-enclosed (body carried) ∙ ap (with_item (item_of (body carried))) (reading-by_start []) ∙ ap (λ (item : Item (List ℕ)). record { items = item ∷ []; rest = [] }) (item_of-body carried is_data) in
+-- a text by its reading
+read_as : (text : List ℕ) (given : List (Item (List ℕ))) → reading text ≡ record { items = given; rest = [] } → IsReadAs text given
+read_as text given reads = record {
+  all_items = ap (λ (reading : Reading). reading.items) reads;
+  no_rest = ap (λ (reading : Reading). reading.rest) reads;
+}
+
+pub reads_one : (carried : List ℕ) → IsData carried → IsReadAs (frame carried) (Good carried ∷ [])
+reads_one carried is_data =
+    read_as (frame carried) (Good carried ∷ [])
+    (reading-enclosed (body carried) ∙ ap (with_item (item_of (body carried))) (reading-by_start []) ∙ ap (λ (item : Item (List ℕ)). record { items = item ∷ []; rest = [] }) (item_of-body carried is_data))
+
+-- a text that is read with no rest, and another behind it
+reads_both : (text more : List ℕ) (given next : List (Item (List ℕ))) → IsReadAs text given → IsReadAs more next → IsReadAs (text ++ more) (given ++ next)
+reads_both text more given next first second =
+    let on = reads_on_lem text more in
+    let joins : rest text ++ more ≡ more = ap (λ (rest : List ℕ). rest ++ more) first.no_rest in
     record {
-      one_item = ap (λ (reading : Reading). reading.items) reads;
-      no_rest = ap (λ (reading : Reading). reading.rest) reads;
+      all_items = on.items_go_on ∙ ap (λ (given : List (Item (List ℕ))). given ++ items (rest text ++ more)) first.all_items ∙ ap (λ (next : List (Item (List ℕ))). given ++ next) (ap items joins ∙ second.all_items);
+      no_rest = on.rest_goes_on ∙ ap rest joins ∙ second.no_rest;
     }
+
+pub reads_in_a_row : (carried : List (List ℕ)) → All IsData carried → IsReadAs (frames carried) (map Good carried)
+reads_in_a_row [] are_data = read_as [] [] (reading-by_start [])
+reads_in_a_row (first ∷ carried) are_data =
+    reads_both (frame first) (frames carried) (Good first ∷ []) (map Good carried) (reads_one first (are_data 0 first (omega arith))) (reads_in_a_row carried (λ k d within. are_data (suc k) d (omega arith)))
+
+pub reads_ack : IsReadAs ack (Ack ∷ [])
+reads_ack = read_as ack (Ack ∷ []) (reading-by_start ack ∙ ap (with_item Ack) (reading-by_start []))
+
+pub reads_nak : IsReadAs nak (Nak ∷ [])
+reads_nak = read_as nak (Nak ∷ []) (reading-by_start nak ∙ ap (with_item Nak) (reading-by_start []))

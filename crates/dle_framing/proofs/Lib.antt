@@ -1,7 +1,9 @@
 pub mod Runs
-pub mod Frames
+pub mod FrameLemmas
 pub mod Readings
 pub mod LawLemmas
 pub mod StepLemmas
 pub mod FeedLemmas
 pub mod PlainLemmas
+pub mod FrontLemmas
+pub mod PieceLemmas

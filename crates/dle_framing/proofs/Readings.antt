@@ -4,7 +4,7 @@ use Rattle.std.proofs.lemmas.Bool.{cond-false}
 use Rattle.std.proofs.lemmas.List.{length-append, append_assoc}
 use Rattle.dle_framing.specs.declared.item.Item.{Item}
 use Rattle.dle_framing.specs.declared.item.Item.TheVariants.{Ack, Nak}
-use Rattle.dle_framing.specs.declared.control.TheConstants.{DLE, STX, ETX, ACK, NAK}
+use Rattle.dle_framing.specs.Numbers.{dle, stx, etx, ack_byte, nak_byte}
 use Rattle.dle_framing.specs.Frame.{doubled}
 use Rattle.dle_framing.specs.Items.{longest_run, Reading, only_rest, with_item, item_of, in_frame, by_start, reading_within, reading}
 use Rattle.dle_framing.proofs.Runs.{at_byte, longest_run-stop, longest_run-ended, doubled-longest_run, Stops, longest_run-stops}
@@ -48,24 +48,24 @@ reading-by_start [] = refl
 reading-by_start (a ∷ text) = by_start-same (reading_within (length text)) reading (a ∷ text) (λ t shorter. reading_within-same (length text) (length t) t (omega arith) (omega arith))
 
 -- A byte that isn't DLE is noise at the start of a text.
-pub reading-noise : (a : ℕ) (text : List ℕ) → nat_eq a DLE ≡ false → reading (a ∷ text) ≡ reading text
+pub reading-noise : (a : ℕ) (text : List ℕ) → nat_eq a dle ≡ false → reading (a ∷ text) ≡ reading text
 reading-noise a [] other = reading-by_start (a ∷ []) ∙ cond-false _ _ _ other ∙ sym (reading-by_start [])
 reading-noise a (b ∷ text) other = reading-by_start (a ∷ b ∷ text) ∙ cond-false _ _ _ other
 
 -- So is a DLE before a byte that makes no control with it.
-pub reading-noise_dle : (b : ℕ) (text : List ℕ) → nat_eq b ACK ≡ false → nat_eq b NAK ≡ false → nat_eq b STX ≡ false → reading (DLE ∷ b ∷ text) ≡ reading (b ∷ text)
-reading-noise_dle b text no_ack no_nak no_stx = reading-by_start (DLE ∷ b ∷ text) ∙ cond-false _ _ _ no_ack ∙ cond-false _ _ _ no_nak ∙ cond-false _ _ _ no_stx
+pub reading-noise_dle : (b : ℕ) (text : List ℕ) → nat_eq b ack_byte ≡ false → nat_eq b nak_byte ≡ false → nat_eq b stx ≡ false → reading (dle ∷ b ∷ text) ≡ reading (b ∷ text)
+reading-noise_dle b text no_ack no_nak no_stx = reading-by_start (dle ∷ b ∷ text) ∙ cond-false _ _ _ no_ack ∙ cond-false _ _ _ no_nak ∙ cond-false _ _ _ no_stx
 
 -- a frame by its run, which a text with no piece at its start ends
 pub reading-frame : (body tail : List ℕ) → longest_run tail ≡ record { spelled = []; behind = tail }
-    → reading (DLE ∷ STX ∷ (doubled body ++ tail)) ≡ in_frame reading (doubled body ++ tail) (record { spelled = body; behind = tail })
-reading-frame body tail ends = reading-by_start (DLE ∷ STX ∷ (doubled body ++ tail)) ∙ ap (in_frame reading (doubled body ++ tail)) (longest_run-ended body tail ends)
+    → reading (dle ∷ stx ∷ (doubled body ++ tail)) ≡ in_frame reading (doubled body ++ tail) (record { spelled = body; behind = tail })
+reading-frame body tail ends = reading-by_start (dle ∷ stx ∷ (doubled body ++ tail)) ∙ ap (in_frame reading (doubled body ++ tail)) (longest_run-ended body tail ends)
 
 -- a frame that DLE with another byte abandons
-pub reading-abandoned : (body : List ℕ) (b : ℕ) (more : List ℕ) → nat_eq b DLE ≡ false → nat_eq b ETX ≡ false → nat_eq b STX ≡ false
-    → reading (DLE ∷ STX ∷ (doubled body ++ DLE ∷ b ∷ more)) ≡ reading more
+pub reading-abandoned : (body : List ℕ) (b : ℕ) (more : List ℕ) → nat_eq b dle ≡ false → nat_eq b etx ≡ false → nat_eq b stx ≡ false
+    → reading (dle ∷ stx ∷ (doubled body ++ dle ∷ b ∷ more)) ≡ reading more
 reading-abandoned body b more no_dle no_etx no_stx =
-    reading-frame body (DLE ∷ b ∷ more) (longest_run-stop b more no_dle) ∙ cond-false _ _ _ no_etx ∙ cond-false _ _ _ no_stx
+    reading-frame body (dle ∷ b ∷ more) (longest_run-stop b more no_dle) ∙ cond-false _ _ _ no_etx ∙ cond-false _ _ _ no_stx
 
 -- one reading, and then another
 abbrev pub followed : Reading → Reading → Reading
@@ -88,27 +88,27 @@ goes_on_item : (more text behind : List ℕ) (item : Item (List ℕ)) → readin
 goes_on_item more text behind item same same_more goes = goes_on_as more text (with_item item (reading behind)) same (same_more ∙ ap (with_item item) goes)
 
 -- the same of a frame, by what is behind its run
-goes_on_frame : (more body behind : List ℕ) → Stops behind → ((t : List ℕ) → length t ≤ length behind → GoesOn more t) → GoesOn more (DLE ∷ STX ∷ (doubled body ++ behind))
-goes_on_frame more body [] stops shorter = goes_on_rest more (DLE ∷ STX ∷ (doubled body ++ [])) (reading-frame body [] refl)
+goes_on_frame : (more body behind : List ℕ) → Stops behind → ((t : List ℕ) → length t ≤ length behind → GoesOn more t) → GoesOn more (dle ∷ stx ∷ (doubled body ++ behind))
+goes_on_frame more body [] stops shorter = goes_on_rest more (dle ∷ stx ∷ (doubled body ++ [])) (reading-frame body [] refl)
 goes_on_frame more body (a ∷ []) stops shorter =
-    let P : ℕ → Type 0 = λ a. GoesOn more (DLE ∷ STX ∷ (doubled body ++ a ∷ [])) in
-    subst P (sym stops) (goes_on_rest more (DLE ∷ STX ∷ (doubled body ++ DLE ∷ [])) (reading-frame body (DLE ∷ []) refl))
+    let P : ℕ → Type 0 = λ a. GoesOn more (dle ∷ stx ∷ (doubled body ++ a ∷ [])) in
+    subst P (sym stops) (goes_on_rest more (dle ∷ stx ∷ (doubled body ++ dle ∷ [])) (reading-frame body (dle ∷ []) refl))
 goes_on_frame more body (a ∷ b ∷ behind) stops shorter =
-    let P : ℕ → Type 0 = λ a. GoesOn more (DLE ∷ STX ∷ (doubled body ++ a ∷ b ∷ behind)) in
-    let joins : (b : ℕ) → reading ((DLE ∷ STX ∷ (doubled body ++ DLE ∷ b ∷ behind)) ++ more) ≡ reading (DLE ∷ STX ∷ (doubled body ++ DLE ∷ b ∷ (behind ++ more))) =
-    λ b. ap (λ (text : List ℕ). reading (DLE ∷ STX ∷ text)) (append_assoc (doubled body) (DLE ∷ b ∷ behind) more) in
+    let P : ℕ → Type 0 = λ a. GoesOn more (dle ∷ stx ∷ (doubled body ++ a ∷ b ∷ behind)) in
+    let joins : (b : ℕ) → reading ((dle ∷ stx ∷ (doubled body ++ dle ∷ b ∷ behind)) ++ more) ≡ reading (dle ∷ stx ∷ (doubled body ++ dle ∷ b ∷ (behind ++ more))) =
+    λ b. ap (λ (text : List ℕ). reading (dle ∷ stx ∷ text)) (append_assoc (doubled body) (dle ∷ b ∷ behind) more) in
     subst P (sym stops.0)
-    (at_byte ETX (λ b. nat_eq b DLE ≡ false → GoesOn more (DLE ∷ STX ∷ (doubled body ++ DLE ∷ b ∷ behind))) b
-    (λ no_dle. goes_on_item more (DLE ∷ STX ∷ (doubled body ++ DLE ∷ ETX ∷ behind)) behind (item_of body)
-    (reading-frame body (DLE ∷ ETX ∷ behind) refl)
-    (joins ETX ∙ reading-frame body (DLE ∷ ETX ∷ (behind ++ more)) refl)
+    (at_byte etx (λ b. nat_eq b dle ≡ false → GoesOn more (dle ∷ stx ∷ (doubled body ++ dle ∷ b ∷ behind))) b
+    (λ no_dle. goes_on_item more (dle ∷ stx ∷ (doubled body ++ dle ∷ etx ∷ behind)) behind (item_of body)
+    (reading-frame body (dle ∷ etx ∷ behind) refl)
+    (joins etx ∙ reading-frame body (dle ∷ etx ∷ (behind ++ more)) refl)
     (shorter behind (omega arith)))
-    (λ no_etx. at_byte STX (λ b. nat_eq b ETX ≡ false → nat_eq b DLE ≡ false → GoesOn more (DLE ∷ STX ∷ (doubled body ++ DLE ∷ b ∷ behind))) b
-    (λ no_etx no_dle. goes_on_behind more (DLE ∷ STX ∷ (doubled body ++ DLE ∷ STX ∷ behind)) (DLE ∷ STX ∷ behind)
-    (reading-frame body (DLE ∷ STX ∷ behind) refl)
-    (joins STX ∙ reading-frame body (DLE ∷ STX ∷ (behind ++ more)) refl)
-    (shorter (DLE ∷ STX ∷ behind) (omega arith)))
-    (λ no_stx no_etx no_dle. goes_on_behind more (DLE ∷ STX ∷ (doubled body ++ DLE ∷ b ∷ behind)) behind
+    (λ no_etx. at_byte stx (λ b. nat_eq b etx ≡ false → nat_eq b dle ≡ false → GoesOn more (dle ∷ stx ∷ (doubled body ++ dle ∷ b ∷ behind))) b
+    (λ no_etx no_dle. goes_on_behind more (dle ∷ stx ∷ (doubled body ++ dle ∷ stx ∷ behind)) (dle ∷ stx ∷ behind)
+    (reading-frame body (dle ∷ stx ∷ behind) refl)
+    (joins stx ∙ reading-frame body (dle ∷ stx ∷ (behind ++ more)) refl)
+    (shorter (dle ∷ stx ∷ behind) (omega arith)))
+    (λ no_stx no_etx no_dle. goes_on_behind more (dle ∷ stx ∷ (doubled body ++ dle ∷ b ∷ behind)) behind
     (reading-abandoned body b behind no_dle no_etx no_stx)
     (joins b ∙ reading-abandoned body b (behind ++ more) no_dle no_etx no_stx)
     (shorter behind (omega arith)))
@@ -116,19 +116,19 @@ goes_on_frame more body (a ∷ b ∷ behind) stops shorter =
     stops.1)
 
 -- the same of a DLE with another byte
-goes_on_control : (more : List ℕ) (b : ℕ) (text : List ℕ) → ((t : List ℕ) → length t < 2 + length text → GoesOn more t) → GoesOn more (DLE ∷ b ∷ text)
+goes_on_control : (more : List ℕ) (b : ℕ) (text : List ℕ) → ((t : List ℕ) → length t < 2 + length text → GoesOn more t) → GoesOn more (dle ∷ b ∷ text)
 goes_on_control more b text shorter =
-    at_byte ACK (λ b. GoesOn more (DLE ∷ b ∷ text)) b
-    (goes_on_item more (DLE ∷ ACK ∷ text) text Ack (reading-by_start (DLE ∷ ACK ∷ text)) (reading-by_start (DLE ∷ ACK ∷ (text ++ more))) (shorter text (omega arith)))
-    (λ no_ack. at_byte NAK (λ b. nat_eq b ACK ≡ false → GoesOn more (DLE ∷ b ∷ text)) b
-    (λ no_ack. goes_on_item more (DLE ∷ NAK ∷ text) text Nak (reading-by_start (DLE ∷ NAK ∷ text)) (reading-by_start (DLE ∷ NAK ∷ (text ++ more))) (shorter text (omega arith)))
-    (λ no_nak no_ack. at_byte STX (λ b. nat_eq b ACK ≡ false → nat_eq b NAK ≡ false → GoesOn more (DLE ∷ b ∷ text)) b
+    at_byte ack_byte (λ b. GoesOn more (dle ∷ b ∷ text)) b
+    (goes_on_item more (dle ∷ ack_byte ∷ text) text Ack (reading-by_start (dle ∷ ack_byte ∷ text)) (reading-by_start (dle ∷ ack_byte ∷ (text ++ more))) (shorter text (omega arith)))
+    (λ no_ack. at_byte nak_byte (λ b. nat_eq b ack_byte ≡ false → GoesOn more (dle ∷ b ∷ text)) b
+    (λ no_ack. goes_on_item more (dle ∷ nak_byte ∷ text) text Nak (reading-by_start (dle ∷ nak_byte ∷ text)) (reading-by_start (dle ∷ nak_byte ∷ (text ++ more))) (shorter text (omega arith)))
+    (λ no_nak no_ack. at_byte stx (λ b. nat_eq b ack_byte ≡ false → nat_eq b nak_byte ≡ false → GoesOn more (dle ∷ b ∷ text)) b
     (λ no_ack no_nak.
     let run = longest_run text in
-    let P : List ℕ → Type 0 = λ text. GoesOn more (DLE ∷ STX ∷ text) in
+    let P : List ℕ → Type 0 = λ text. GoesOn more (dle ∷ stx ∷ text) in
     subst P (doubled-longest_run text)
     (goes_on_frame more run.spelled run.behind (longest_run-stops text) (λ t within. shorter t (omega (arith, length-behind text)))))
-    (λ no_stx no_ack no_nak. goes_on_behind more (DLE ∷ b ∷ text) (b ∷ text)
+    (λ no_stx no_ack no_nak. goes_on_behind more (dle ∷ b ∷ text) (b ∷ text)
     (reading-noise_dle b text no_ack no_nak no_stx)
     (reading-noise_dle b (text ++ more) no_ack no_nak no_stx)
     (shorter (b ∷ text) (omega arith)))
@@ -138,11 +138,11 @@ goes_on_control more b text shorter =
 goes_on_start : (more text : List ℕ) → ((t : List ℕ) → length t < length text → GoesOn more t) → GoesOn more text
 goes_on_start more [] shorter = goes_on_rest more [] (reading-by_start [])
 goes_on_start more (a ∷ []) shorter =
-    at_byte DLE (λ a. GoesOn more (a ∷ [])) a
-    (goes_on_rest more (DLE ∷ []) (reading-by_start (DLE ∷ [])))
+    at_byte dle (λ a. GoesOn more (a ∷ [])) a
+    (goes_on_rest more (dle ∷ []) (reading-by_start (dle ∷ [])))
     (λ other. goes_on_behind more (a ∷ []) [] (reading-noise a [] other) (reading-noise a more other) (shorter [] (omega arith)))
 goes_on_start more (a ∷ b ∷ text) shorter =
-    at_byte DLE (λ a. GoesOn more (a ∷ b ∷ text)) a
+    at_byte dle (λ a. GoesOn more (a ∷ b ∷ text)) a
     (goes_on_control more b text (λ t within. shorter t (omega arith)))
     (λ other. goes_on_behind more (a ∷ b ∷ text) (b ∷ text) (reading-noise a (b ∷ text) other) (reading-noise a (b ∷ (text ++ more)) other) (shorter (b ∷ text) (omega arith)))
 

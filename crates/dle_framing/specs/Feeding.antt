@@ -1,6 +1,7 @@
 -- What feeding a piece of a stream does.
 use Rattle.std.specs.Prelude.{◌≡◌, ℕ, ◌<◌, ◌≤◌, List, ◌++◌, length, take, Option, None}
 use Rattle.std.specs.Borrow.{Bor}
+use Rattle.std.specs.List.{flat_map}
 use Rattle.std.specs.Option.{option_to_list}
 use Rattle.dle_framing.specs.declared.item.Item.{Item}
 use Rattle.dle_framing.specs.declared.item.Item.TheVariants.{Good, Bad, Ack, Nak}
@@ -20,3 +21,7 @@ pub record Feeds (text piece : List ℕ) (used : ℕ) (item : Option (Item (List
   pub adds : items (text ++ take used piece) ≡ items text ++ option_to_list item
   pub is_first : (n : ℕ) → n < used → items (text ++ take n piece) ≡ items text
   pub uses_all : item ≡ None → used ≡ length piece
+
+-- pieces of a text, joined
+abbrev pub joined : List (Bor (List ℕ)) → List ℕ
+joined pieces = flat_map (λ piece. piece.now) pieces

@@ -1,15 +1,15 @@
 -- The one spelling of DATA as a frame of SW-P-08.
 use Rattle.std.specs.Prelude.{ℕ, ◌-◌, ◌%◌, ◌≤◌, ◌==◌, if◌then◌else◌, List, [], ◌∷◌, ◌++◌, length, sum}
 use Rattle.std.specs.List.{flat_map}
-use Rattle.dle_framing.specs.declared.control.TheConstants.{DLE, STX, ETX, MAX_DATA}
+use Rattle.dle_framing.specs.Numbers.{dle, stx, etx, most_data}
 
 -- A frame carries 1 to 255 bytes of DATA.
 abbrev pub IsData : List ℕ → Type 0
-IsData bytes = (1 ≤ length bytes) × (length bytes ≤ MAX_DATA)
+IsData bytes = (1 ≤ length bytes) × (length bytes ≤ most_data)
 
 -- each DLE twice, so that none of them can be read as a control
 abbrev pub doubled : List ℕ → List ℕ
-doubled bytes = flat_map (λ byte. if byte == DLE then DLE ∷ DLE ∷ [] else byte ∷ []) bytes
+doubled bytes = flat_map (λ byte. if byte == dle then dle ∷ dle ∷ [] else byte ∷ []) bytes
 
 -- the byte that makes the sum of these bytes and itself zero modulo 256
 abbrev pub check_byte : List ℕ → ℕ
@@ -25,7 +25,7 @@ body bytes = counted bytes ++ check_byte (counted bytes) ∷ []
 
 -- a body as it is sent, between the start and the end of a frame
 abbrev pub enclosed : List ℕ → List ℕ
-enclosed body = (DLE ∷ STX ∷ []) ++ doubled body ++ (DLE ∷ ETX ∷ [])
+enclosed body = (dle ∷ stx ∷ []) ++ doubled body ++ (dle ∷ etx ∷ [])
 
 -- the frame of these DATA
 abbrev pub frame : List ℕ → List ℕ

@@ -4,20 +4,16 @@ use Rattle.std.specs.Borrow.{follows_so, MutBor, Fml}
 use mathlib.Core.Option.{none}
 use Rattle.dle_framing.specs.declared.framer.Framer.{Framer}
 use Rattle.dle_framing.specs.contracts.framer.Framer.{the_row}
-use Rattle.dle_framing.specs.Items.{items, rest}
+use Rattle.dle_framing.specs.Items.{rest}
 use Rattle.dle_framing.specs.Kept.{Keeps}
 
 -- A framer stands for every text whose rest it keeps: what comes next is read alike behind each of them.
 unfoldable pub StandsFor : Framer → List ℕ → Type 0
-StandsFor framer text = Keeps framer.state framer.front.items (rest text)
+StandsFor framer text = Keeps framer.state framer.front (rest text)
 
 -- A framer goes on over these bytes: of each text that it stood for, it stands for the text with them.
 abbrev pub GoesOver : List ℕ → Framer → Framer → Type 0
 GoesOver bytes before after = (text : List ℕ) → StandsFor before text → StandsFor after (text ++ bytes)
-
--- The same, where no item ends in these bytes.
-abbrev pub PassesOver : List ℕ → Framer → Framer → Type 0
-PassesOver bytes before after = (text : List ℕ) → StandsFor before text → (items (text ++ bytes) ≡ items text) × StandsFor after (text ++ bytes)
 
 -- Once nothing borrows from it, the framer has gone on over these bytes.
 abbrev pub EndsOver : MutBor Framer → List ℕ → Fml

@@ -1,6 +1,6 @@
 -- The items of a stream of bytes: what it says, read as a whole text.
 use Rattle.std.specs.Prelude.{ℕ, zero, suc, ◌-◌, ◌%◌, ◌==◌, ◌&&◌, nat_le, Bool, if◌then◌else◌, List, [], ◌∷◌, length, take, sum, slice_index}
-use Rattle.dle_framing.specs.declared.control.TheConstants.{DLE, STX, ETX, ACK, NAK, MIN_BODY, MAX_BODY}
+use Rattle.dle_framing.specs.Numbers.{dle, stx, etx, ack_byte, nak_byte, least_body, most_body}
 use Rattle.dle_framing.specs.declared.item.Item.{Item}
 use Rattle.dle_framing.specs.declared.item.Item.TheVariants.{Good, Bad, Ack, Nak}
 
@@ -8,7 +8,7 @@ use Rattle.dle_framing.specs.declared.item.Item.TheVariants.{Good, Bad, Ack, Nak
 -- modulo 256.
 abbrev pub is_good : List ℕ → Bool
 is_good body =
-    nat_le MIN_BODY (length body) && nat_le (length body) MAX_BODY
+    nat_le least_body (length body) && nat_le (length body) most_body
     && (slice_index body (length body - 2) == length body - 2) && (sum body % 256 == 0)
 
 -- the item of a complete frame: its DATA is the body without the length and the check byte
@@ -27,10 +27,10 @@ with_piece byte run = record run { spelled = byte ∷ run.spelled }
 abbrev pub longest_run : List ℕ → Run
 longest_run [] = record { spelled = []; behind = [] }
 longest_run (a ∷ []) =
-    if a == DLE then record { spelled = []; behind = a ∷ [] }
+    if a == dle then record { spelled = []; behind = a ∷ [] }
     else record { spelled = a ∷ []; behind = [] }
 longest_run (a ∷ b ∷ text) =
-    if a == DLE then (if b == DLE then with_piece DLE (longest_run text) else record { spelled = []; behind = a ∷ b ∷ text })
+    if a == dle then (if b == dle then with_piece dle (longest_run text) else record { spelled = []; behind = a ∷ b ∷ text })
     else with_piece a (longest_run (b ∷ text))
 
 -- what a text says: its items, and the rest that is no whole item yet
@@ -48,12 +48,12 @@ with_item item reading = record reading { items = item ∷ reading.items }
 -- byte abandon it. Where nothing or a lone DLE follows the run, all from DLE STX on is the rest.
 abbrev pub in_frame : (List ℕ → Reading) → List ℕ → Run → Reading
 in_frame goes_on text run = elim run.behind [
-  | [] ↦ only_rest (DLE ∷ STX ∷ text)
+  | [] ↦ only_rest (dle ∷ stx ∷ text)
   | (a ∷ behind) ↦ elim behind [
-    | [] ↦ only_rest (DLE ∷ STX ∷ text)
+    | [] ↦ only_rest (dle ∷ stx ∷ text)
     | (b ∷ more) ↦
-        if b == ETX then with_item (item_of run.spelled) (goes_on more)
-        else if b == STX then goes_on (a ∷ b ∷ more)
+        if b == etx then with_item (item_of run.spelled) (goes_on more)
+        else if b == stx then goes_on (a ∷ b ∷ more)
         else goes_on more
   ]
 ]
@@ -62,12 +62,12 @@ in_frame goes_on text run = elim run.behind [
 -- starts none of ACK, NAK and a frame is noise by itself.
 abbrev pub by_start : (List ℕ → Reading) → List ℕ → Reading
 by_start goes_on [] = only_rest []
-by_start goes_on (a ∷ []) = if a == DLE then only_rest (a ∷ []) else only_rest []
+by_start goes_on (a ∷ []) = if a == dle then only_rest (a ∷ []) else only_rest []
 by_start goes_on (a ∷ b ∷ text) =
-    if a == DLE then (
-    if b == ACK then with_item Ack (goes_on text)
-    else if b == NAK then with_item Nak (goes_on text)
-    else if b == STX then in_frame goes_on text (longest_run text)
+    if a == dle then (
+    if b == ack_byte then with_item Ack (goes_on text)
+    else if b == nak_byte then with_item Nak (goes_on text)
+    else if b == stx then in_frame goes_on text (longest_run text)
     else goes_on (b ∷ text)
     ) else goes_on (b ∷ text)
 

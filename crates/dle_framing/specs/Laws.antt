@@ -1,5 +1,7 @@
 -- The laws of frames and items. The functions of `laws` promise them.
 use Rattle.std.specs.Prelude.{◌≡◌, ℕ, List, [], ◌∷◌, ◌++◌}
+use Rattle.std.specs.List.{flat_map}
+use Rattle.dle_framing.specs.declared.item.Item.{Item}
 use Rattle.dle_framing.specs.declared.item.Item.TheVariants.{Good}
 use Rattle.dle_framing.specs.Frame.{frame}
 use Rattle.dle_framing.specs.Items.{Reading, by_start, items, rest}
@@ -13,11 +15,11 @@ pub record ReadsOn (text more : List ℕ) : Type 0 where
   pub items_go_on : items (text ++ more) ≡ items text ++ items (rest text ++ more)
   pub rest_goes_on : rest (text ++ more) ≡ rest (rest text ++ more)
 
--- a list that begins as the first one
-abbrev pub Begins : {A : Type 0} → List A → List A → Type 0
-Begins {A} first whole = (more : List A) × (whole ≡ first ++ more)
+-- a text is read as these items, and no rest
+pub record IsReadAs (text : List ℕ) (given : List (Item (List ℕ))) : Type 0 where
+  pub all_items : items text ≡ given
+  pub no_rest : rest text ≡ []
 
--- the frame of these DATA is read as one good item, them, and no rest
-pub record IsReadBack (carried : List ℕ) : Type 0 where
-  pub one_item : items (frame carried) ≡ Good carried ∷ []
-  pub no_rest : rest (frame carried) ≡ []
+-- frames in a row, each with its DATA
+abbrev pub frames : List (List ℕ) → List ℕ
+frames carried = flat_map frame carried

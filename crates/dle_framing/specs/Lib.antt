@@ -1,7 +1,11 @@
+pub mod Numbers
 pub mod Frame
 pub mod Items
 pub mod Laws
-pub mod Feeding
 pub mod Kept
 pub mod Framer
-pub mod Plain
+pub mod Feeding
+pub mod Owned
+pub mod StepsInside
+pub mod FramerInside
+pub mod PlainInside

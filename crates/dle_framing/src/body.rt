@@ -1,7 +1,19 @@
-ghost use Rattle.std.specs.Prelude.{◌≡◌, ◌%◌, sum};
+//! The body of a frame: the two bytes behind its DATA, and whether it is good.
+ghost use Rattle.std.specs.Prelude.{◌≡◌, ◌%◌, ◌++◌, sum};
+ghost use Rattle.dle_framing.specs.Frame.{IsData, body};
 ghost use Rattle.dle_framing.specs.Items.{is_good};
 
 use crate::control::{MAX_BODY, MIN_BODY};
+
+// The length and the check byte behind these DATA.
+pub(crate) fn ending(bytes: &[u8]) -> [u8; 2]
+    requires { IsData bytes.now }
+    ensures { body bytes.now ≡ bytes.now ++ result }
+{
+    let count = bytes.len() as u8;
+    let check = byte_sum(bytes).wrapping_add(count).wrapping_neg();
+    [count, check]
+}
 
 // Whether a frame with this body is good.
 pub(crate) fn is_good_body(body: &[u8]) -> bool

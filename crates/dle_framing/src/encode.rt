@@ -1,39 +1,69 @@
-ghost use Rattle.std.specs.Prelude.{◌≡◌, ◌+◌, ◌*◌, ◌≤◌, [], ◌∷◌, ◌++◌, length, vec_len, vec_capacity};
+//! A frame of DATA: how long it is, and its bytes.
+ghost use Rattle.std.specs.Prelude.{◌≡◌, ◌+◌, ◌*◌, ◌≤◌, ◌==◌, [], ◌∷◌, ◌++◌, length, count_by, vec_len, vec_capacity};
+ghost use Rattle.dle_framing.specs.Numbers.{dle, most_data};
 ghost use Rattle.dle_framing.specs.Frame.{IsData, doubled, frame};
 
+use crate::body::ending;
 use crate::control::{DLE, ETX, STX};
+
+/// How many bytes the frame of these DATA has, which is the room that `encode_frame` asks for.
+pub fn frame_len(bytes: &[u8]) -> usize
+    requires { IsData bytes.now }
+    ensures { result ≡ length (frame bytes.now) }
+{
+    doubled_len(bytes) + doubled_len(&ending(bytes)) + 4
+}
 
 /// Appends the one frame of these DATA bytes, as the SW-P-08 General Remote Control Protocol spells it: DLE STX, the
 /// DATA, their length and a check byte with each DLE doubled, DLE ETX. It takes no memory.
 pub fn encode_frame(bytes: &[u8], out: &mut Vec<u8>)
     requires bytes { IsData bytes.now }
-    requires room { vec_len out.old + 2 * length bytes.now + 8 ≤ vec_capacity out.old }
+    requires room { vec_len out.old + length (frame bytes.now) ≤ vec_capacity out.old }
     ensures frame { out.new.items ≡ out.old.items ++ frame bytes.now }
     ensures room { vec_capacity out.new ≡ vec_capacity out.old }
 {
     out.push_reserved(DLE);
     out.push_reserved(STX);
-    let mut total: u8 = 0;
-    for byte in bytes {
-        total = total.wrapping_add(*byte);
-        push_doubled(*byte, out);
-    }
-    let count = bytes.len() as u8;
-    push_doubled(count, out);
-    push_doubled(total.wrapping_add(count).wrapping_neg(), out);
+    push_doubled(bytes, out);
+    push_doubled(&ending(bytes), out);
     out.push_reserved(DLE);
     out.push_reserved(ETX);
 }
 
+// Appends bytes of a body, each DLE twice.
+fn push_doubled(bytes: &[u8], out: &mut Vec<u8>)
+    requires { vec_len out.old + length (doubled bytes.now) ≤ vec_capacity out.old }
+    ensures doubled { out.new.items ≡ out.old.items ++ doubled bytes.now }
+    ensures room { vec_capacity out.new ≡ vec_capacity out.old }
+{
+    for byte in bytes {
+        push_byte(*byte, out);
+    }
+}
+
 // Appends a byte of a body.
-fn push_doubled(byte: u8, out: &mut Vec<u8>)
-    requires { vec_len out.old + 2 ≤ vec_capacity out.old }
+fn push_byte(byte: u8, out: &mut Vec<u8>)
+    requires { vec_len out.old + length (doubled (byte ∷ [])) ≤ vec_capacity out.old }
     ensures doubled { out.new.items ≡ out.old.items ++ doubled (byte ∷ []) }
-    ensures len { vec_len out.new ≤ vec_len out.old + 2 }
     ensures room { vec_capacity out.new ≡ vec_capacity out.old }
 {
     out.push_reserved(byte);
     if byte == DLE {
         out.push_reserved(DLE);
     }
+}
+
+// How many bytes these are once each DLE is sent twice.
+fn doubled_len(bytes: &[u8]) -> usize
+    requires { length bytes.now ≤ most_data }
+    ensures len { result ≡ length (doubled bytes.now) }
+    ensures most { result ≤ 2 * most_data }
+{
+    bytes.len() + dle_count(bytes)
+}
+
+fn dle_count(bytes: &[u8]) -> usize
+    ensures { result ≡ count_by (λ byte. byte == dle) bytes.now }
+{
+    bytes.iter().filter(|byte| **byte == DLE).count()
 }

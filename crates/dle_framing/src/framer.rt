@@ -1,17 +1,15 @@
-ghost use Rattle.std.specs.Prelude.{◌≡◌, ℕ, ◌<◌, ◌≤◌, List, [], ◌∷◌, ◌++◌, length, take, vec_capacity, IfOk};
+//! A stream in pieces: what is kept of it between them, and the items that end in each.
+ghost use Rattle.std.specs.Prelude.{◌≡◌, ℕ, ◌<◌, ◌≤◌, List, [], length, take};
 ghost use Rattle.std.specs.Borrow.{sem};
 ghost use Rattle.std.specs.Option.{option_map};
 ghost use Rattle.dle_framing.specs.Feeding.{Feeds, shown};
+ghost use Rattle.dle_framing.specs.Frame.{doubled};
 ghost use Rattle.dle_framing.specs.Items.{item_of, only_rest, reading};
-ghost use Rattle.dle_framing.specs.declared.framer.TheConstants.{KEPT};
 
 use crate::body::is_good_body;
-use crate::control::{ACK, DLE, ETX, MAX_BODY, NAK, STX};
+use crate::control::{ACK, DLE, ETX, NAK, STX};
+use crate::front::Front;
 use crate::item::Item;
-use std::alloc::{AllocError, Global};
-
-// How many bytes of a body are kept: one more than a good one has, which tells that a body is too long.
-const KEPT: usize = MAX_BODY + 1;
 
 // Where in a stream the last byte was.
 #[derive(Clone, Copy)]
@@ -26,28 +24,27 @@ enum State {
     InsideDle,
 }
 
-/// Tells the items of a stream of bytes, in whatever pieces it comes. It stands for the text that it was fed, of which it
-/// keeps at most 258 bytes, however long a frame is.
+/// Gives the items of a stream of bytes, in whatever pieces it comes. It stands for the text that it was fed, of which it
+/// keeps at most 258 bytes, however long a frame is. It has these bytes and nothing else, so no call of it takes memory.
 #[derive(Drop)]
 pub struct Framer {
     state: State,
-    front: Vec<u8>,
-    ghost room: { KEPT ≤ vec_capacity front },
+    front: Front,
 }
 
 impl Framer {
-    ghost use Rattle.dle_framing.specs.Framer.{StandsFor, GoesOver, PassesOver, EndsOver};
-    ghost use Rattle.dle_framing.specs.Kept.{Steps, heard};
+    ghost use Rattle.dle_framing.specs.Framer.{StandsFor, GoesOver, EndsOver};
+    ghost use Rattle.dle_framing.specs.StepsInside.{Steps, found_in};
+    ghost use Rattle.dle_framing.specs.FramerInside.{PassesOver};
 
-    /// A framer that was fed nothing. It takes all the memory that it ever needs.
-    pub fn new(alloc: Global) -> Result<Framer, AllocError>
-        ensures { IfOk result (λ framer. StandsFor framer []) }
+    /// A framer that was fed nothing.
+    pub fn new() -> Framer
+        ensures { StandsFor result [] }
     {
-        let front = Vec::with_capacity(alloc, KEPT)?;
-        Ok(Framer {
+        Framer {
             state: State::Outside,
-            front,
-        })
+            front: Front::new(),
+        }
     }
 
     /// Makes it as a new one: what it had of a frame is forgotten.
@@ -68,7 +65,7 @@ impl Framer {
         ensures feeds { (text : List ℕ) → StandsFor self.old text
             → Feeds text piece.now result.0 (option_map shown result.1) }
     {
-        let (used, item) = self.hear(piece);
+        let (used, item) = self.take_item(piece);
         match item {
             Some(item) => (used, Some(self.with_data(item))),
             None => (used, None),
@@ -76,16 +73,16 @@ impl Framer {
     }
 
     // Takes the bytes that `feed` takes. The DATA of a good frame stay in the front.
-    fn hear(&mut self, piece: &[u8]) -> (usize, Option<Item<()>>)
+    fn take_item(&mut self, piece: &[u8]) -> (usize, Option<Item<()>>)
         ensures stands { GoesOver (take result.0 piece.now) self.old self.new }
         ensures within { result.0 ≤ length piece.now }
         ensures progress { 0 < length piece.now → 0 < result.0 }
         ensures feeds { (text : List ℕ) → StandsFor self.old text
-            → Feeds text piece.now result.0 (option_map (heard self.new.front.items) result.1) }
+            → Feeds text piece.now result.0 (option_map (found_in self.new.front) result.1) }
     {
         let mut used = 0;
         loop {
-            used += self.noise_len(&piece[used..]);
+            used += self.take_run(&piece[used..]);
             if used == piece.len() {
                 return (used, None);
             }
@@ -99,31 +96,38 @@ impl Framer {
 
     // An item with its DATA, which are the front without its two last bytes.
     fn with_data(&self, item: Item<()>) -> Item<&[u8]>
-        ensures { shown result ≡ heard self.now.front.items item }
+        ensures { shown result ≡ found_in self.now.front item }
     {
         match item {
-            Item::Good(()) => Item::Good(&self.front[..self.front.len().saturating_sub(2)]),
+            Item::Good(()) => {
+                let body = self.front.as_slice();
+                Item::Good(&body[..body.len().saturating_sub(2)])
+            }
             Item::Bad => Item::Bad,
             Item::Ack => Item::Ack,
             Item::Nak => Item::Nak,
         }
     }
 
-    // How many bytes of a piece may be skipped as noise, since they hold no DLE.
-    fn noise_len(&self, piece: &[u8]) -> usize
+    // Takes the bytes in front of the first DLE at once, where they are noise or belong to a body, and answers how many.
+    fn take_run(&mut self, piece: &[u8]) -> usize
         ensures within { result ≤ length piece.now }
-        ensures noise { PassesOver (take result piece.now) self.now self.now }
+        ensures passes { PassesOver (take result piece.now) self.old self.new }
     {
-        if let State::Outside = self.state {
-            dle_place(piece)
-        } else {
-            0
+        match self.state {
+            State::Outside => dle_place(piece),
+            State::Inside => {
+                let count = dle_place(piece);
+                self.front.extend(&piece[..count]);
+                count
+            }
+            State::OutsideDle | State::InsideDle => 0,
         }
     }
 
     // Takes one byte, and answers the item that ends with it. The DATA of a good one are the front of the body.
     fn take(&mut self, byte: u8) -> Option<Item<()>>
-        ensures { Steps self.old.state self.old.front.items byte result self.new.state self.new.front.items }
+        ensures { Steps self.old.state self.old.front byte result self.new.state self.new.front }
     {
         match self.state {
             State::Outside => {
@@ -137,7 +141,7 @@ impl Framer {
                 if byte == DLE {
                     self.state = State::InsideDle;
                 } else {
-                    self.keep(byte);
+                    self.front.push(byte);
                 }
                 None
             }
@@ -148,7 +152,7 @@ impl Framer {
     // Takes a byte behind a DLE outside a frame.
     fn take_control(&mut self, byte: u8) -> Option<Item<()>>
         requires { self.old.state ≡ State.OutsideDle }
-        ensures { Steps State.OutsideDle self.old.front.items byte result self.new.state self.new.front.items }
+        ensures { Steps State.OutsideDle self.old.front byte result self.new.state self.new.front }
     {
         match byte {
             DLE => None,
@@ -173,11 +177,11 @@ impl Framer {
 
     // Takes a byte behind a DLE in a frame.
     fn take_inner_control(&mut self, byte: u8) -> Option<Item<()>>
-        ensures { Steps State.InsideDle self.old.front.items byte result self.new.state self.new.front.items }
+        ensures { Steps State.InsideDle self.old.front byte result self.new.state self.new.front }
     {
         match byte {
             DLE => {
-                self.keep(DLE);
+                self.front.push(DLE);
                 self.state = State::Inside;
                 None
             }
@@ -200,27 +204,17 @@ impl Framer {
     // Starts a frame.
     fn start(&mut self)
         ensures state { self.new.state ≡ State.Inside }
-        ensures front { self.new.front.items ≡ [] }
+        ensures front { self.new.front ≡ [] }
     {
         self.front.clear();
         self.state = State::Inside;
     }
 
-    // Keeps a byte of a body, where it is among the first.
-    fn keep(&mut self, byte: u8)
-        ensures front { (body : List ℕ) → self.old.front.items ≡ take KEPT body → self.new.front.items ≡ take KEPT (body ++ byte ∷ []) }
-        ensures state { self.new.state ≡ self.old.state }
-    {
-        if self.front.len() < KEPT {
-            self.front.push_reserved(byte);
-        }
-    }
-
     // The item of a frame whose body has this front.
     fn ended(&self) -> Item<()>
-        ensures { heard self.now.front.items result ≡ item_of self.now.front.items }
+        ensures { found_in self.now.front result ≡ item_of self.now.front }
     {
-        if is_good_body(&self.front) {
+        if is_good_body(self.front.as_slice()) {
             Item::Good(())
         } else {
             Item::Bad
@@ -228,10 +222,12 @@ impl Framer {
     }
 }
 
-// Where the first DLE of a text is, or the text's end.
+// Where the first DLE of a text is, or the text's end. What stands before it is noise outside a frame, and in a frame its
+// own spelling.
 fn dle_place(text: &[u8]) -> usize
     ensures within { result ≤ length text.now }
     ensures noise { reading (take result text.now) ≡ only_rest [] }
+    ensures single { doubled (take result text.now) ≡ take result text.now }
 {
     for (place, byte) in text.iter().enumerate() {
         if *byte == DLE {

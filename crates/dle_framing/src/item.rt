@@ -1,3 +1,4 @@
+//! The items of a stream of bytes.
 /// What a stream of bytes of the SW-P-08 General Remote Control Protocol says. `D` is how the DATA of a good frame are
 /// held. Noise and abandoned frames are no items.
 #[derive(Clone, Copy, Debug, PartialEq, Eq, Drop)]

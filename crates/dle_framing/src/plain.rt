@@ -1,6 +1,8 @@
+//! The plain reader of a whole text: its definition again as a program, one start after the other.
 ghost use Rattle.std.specs.Prelude.{◌≡◌, [], ◌∷◌, map, MatchOption, IfOk};
 ghost use Rattle.dle_framing.specs.Items.{item_of, items, longest_run, rest};
-ghost use Rattle.dle_framing.specs.Plain.{StartsSo, owned};
+ghost use Rattle.dle_framing.specs.Owned.{owned};
+ghost use Rattle.dle_framing.specs.PlainInside.{StartsSo};
 
 use crate::body::is_good_body;
 use crate::control::{ACK, DLE, ETX, NAK, STX};
@@ -8,29 +10,29 @@ use crate::item::Item;
 use crate::run::first_piece;
 use std::alloc::{AllocError, Global};
 
-// How a text starts, told from its front to the text behind.
+// How a text starts.
 #[derive(Drop)]
 enum Start<'a> {
     // The text is a rest: nothing, or less than a whole item.
     Rest,
-    // An item, and the text behind it.
-    Told(Item<Vec<u8>>, &'a [u8]),
+    // An item ends, and this is the text behind it.
+    Ends(Item<Vec<u8>>, &'a [u8]),
     // Bytes that are no item, and the text behind them.
     Skipped(&'a [u8]),
 }
 
 /// The items of a whole text, with copies of their DATA, and the rest that is no whole item yet. It is plain and slow, for
-/// tests and tools; a `Framer` tells the same of a stream in pieces.
+/// tests and tools; a `Framer` gives the same of a stream in pieces.
 pub fn read_items(alloc: Global, text: &[u8]) -> Result<(Vec<Item<Vec<u8>>>, &[u8]), AllocError>
-    ensures items { IfOk result (λ told. map owned told.0.items ≡ items text.now) }
-    ensures rest { IfOk result (λ told. told.1.now ≡ rest text.now) }
+    ensures items { IfOk result (λ given. map owned given.0.items ≡ items text.now) }
+    ensures rest { IfOk result (λ given. given.1.now ≡ rest text.now) }
 {
     let mut items = Vec::new(alloc);
     let mut left = text;
     loop {
         match start_of(alloc, left)? {
             Start::Rest => return Ok((items, left)),
-            Start::Told(item, behind) => {
+            Start::Ends(item, behind) => {
                 items.push(item)?;
                 left = behind;
             }
@@ -53,8 +55,8 @@ fn start_of(alloc: Global, text: &[u8]) -> Result<Start<'_>, AllocError>
         return Ok(Start::Rest);
     };
     match second {
-        ACK => Ok(Start::Told(Item::Ack, behind_both)),
-        NAK => Ok(Start::Told(Item::Nak, behind_both)),
+        ACK => Ok(Start::Ends(Item::Ack, behind_both)),
+        NAK => Ok(Start::Ends(Item::Nak, behind_both)),
         STX => start_of_frame(alloc, behind_both),
         _ => Ok(Start::Skipped(behind)),
     }
@@ -72,7 +74,7 @@ fn start_of_frame(alloc: Global, text: &[u8]) -> Result<Start<'_>, AllocError>
         return Ok(Start::Rest);
     };
     match control {
-        ETX => Ok(Start::Told(item_with(body), behind_both)),
+        ETX => Ok(Start::Ends(item_with(body), behind_both)),
         STX => Ok(Start::Skipped(stopped)),
         _ => Ok(Start::Skipped(behind_both)),
     }

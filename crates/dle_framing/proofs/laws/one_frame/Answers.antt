@@ -1,4 +1,4 @@
-use Rattle.dle_framing.proofs.Frames.{one_frame}
+use Rattle.dle_framing.proofs.FrameLemmas.{one_frame}
 use Rattle.dle_framing.proofs.laws.one_frame.Goals as goal
 
 pub returns : goal.returns

@@ -1,13 +1,13 @@
 use Rattle.std.proofs.Common.{◌≡◌, ℕ, List, [], ◌∷◌, length, refl, sym, ap, ◌∙◌, subst, arith}
 use Rattle.std.proofs.lemmas.Bool.{ne_eqb}
-use Rattle.dle_framing.specs.declared.control.TheConstants.{DLE, STX, ACK, NAK}
+use Rattle.dle_framing.specs.Numbers.{dle, stx, ack_byte, nak_byte}
 use Rattle.dle_framing.specs.Items.{only_rest, reading}
 use Rattle.dle_framing.proofs.Readings.{reading-by_start, reading-noise, reading-noise_dle}
 use Rattle.dle_framing.proofs.plain.start_of.Goals as goal
 
 -- a text by its two first bytes
-split : (text behind both : List ℕ) (a b k : ℕ) → text ≡ a ∷ behind → a ≡ DLE → behind ≡ b ∷ both → b ≡ k → text ≡ DLE ∷ k ∷ both
-split text behind both a b k first is_dle second is = first ∙ ap (λ (a : ℕ). a ∷ behind) is_dle ∙ ap (λ (behind : List ℕ). DLE ∷ behind) (second ∙ ap (λ (b : ℕ). b ∷ both) is)
+split : (text behind both : List ℕ) (a b k : ℕ) → text ≡ a ∷ behind → a ≡ dle → behind ≡ b ∷ both → b ≡ k → text ≡ dle ∷ k ∷ both
+split text behind both a b k first is_dle second is = first ∙ ap (λ (a : ℕ). a ∷ behind) is_dle ∙ ap (λ (behind : List ℕ). dle ∷ behind) (second ∙ ap (λ (b : ℕ). b ∷ both) is)
 
 -- a text that is a rest
 is_rest : (text is : List ℕ) → text ≡ is → reading is ≡ only_rest is → reading text ≡ only_rest text
@@ -20,33 +20,33 @@ pub returns-then-first-ne-DLE : goal.returns-then-first-ne-DLE
 returns-then-first-ne-DLE c =
     let first = c.in-Some.first in
     let behind = c.in-Some.behind.now in (
-      ap reading c.in-Some.ensures ∙ reading-noise first behind (ne_eqb first DLE c.if-first-ne-DLE.true),
+      ap reading c.in-Some.ensures ∙ reading-noise first behind (ne_eqb first dle c.if-first-ne-DLE.true),
       omega (arith, ap (length {A = ℕ}) c.in-Some.ensures),
     )
 
 pub returns-in_default-first_byte : goal.returns-in_default-first_byte
 returns-in_default-first_byte c =
-    is_rest c.args.text.now (DLE ∷ [])
+    is_rest c.args.text.now (dle ∷ [])
     (c.in-Some.ensures ∙ ap (λ (behind : List ℕ). c.in-Some.first ∷ behind) c.in_default-first_byte.ensures ∙ ap (λ (a : ℕ). a ∷ []) c.if-first-ne-DLE.false)
-    (reading-by_start (DLE ∷ []))
+    (reading-by_start (dle ∷ []))
 
 pub returns-in-6 : goal.returns-in-6
 returns-in-6 c =
     let both = c.in-Some-first_byte.behind_both.now in
-    let is = split c.args.text.now c.in-Some.behind.now both c.in-Some.first c.in-Some-first_byte.second ACK c.in-Some.ensures c.if-first-ne-DLE.false c.in-Some-first_byte.ensures c.in-6.is in
-    (ap reading is ∙ reading-by_start (DLE ∷ ACK ∷ both), omega (arith, ap (length {A = ℕ}) is))
+    let is = split c.args.text.now c.in-Some.behind.now both c.in-Some.first c.in-Some-first_byte.second ack_byte c.in-Some.ensures c.if-first-ne-DLE.false c.in-Some-first_byte.ensures c.in-6.is in
+    (ap reading is ∙ reading-by_start (dle ∷ ack_byte ∷ both), omega (arith, ap (length {A = ℕ}) is))
 
 pub returns-in-21 : goal.returns-in-21
 returns-in-21 c =
     let both = c.in-Some-first_byte.behind_both.now in
-    let is = split c.args.text.now c.in-Some.behind.now both c.in-Some.first c.in-Some-first_byte.second NAK c.in-Some.ensures c.if-first-ne-DLE.false c.in-Some-first_byte.ensures c.in-21.is in
-    (ap reading is ∙ reading-by_start (DLE ∷ NAK ∷ both), omega (arith, ap (length {A = ℕ}) is))
+    let is = split c.args.text.now c.in-Some.behind.now both c.in-Some.first c.in-Some-first_byte.second nak_byte c.in-Some.ensures c.if-first-ne-DLE.false c.in-Some-first_byte.ensures c.in-21.is in
+    (ap reading is ∙ reading-by_start (dle ∷ nak_byte ∷ both), omega (arith, ap (length {A = ℕ}) is))
 
 pub returns-in_default-second : goal.returns-in_default-second
 returns-in_default-second c =
     let second = c.in-Some-first_byte.second in
     let both = c.in-Some-first_byte.behind_both.now in
     let is = split c.args.text.now c.in-Some.behind.now both c.in-Some.first second second c.in-Some.ensures c.if-first-ne-DLE.false c.in-Some-first_byte.ensures refl in (
-      ap reading is ∙ reading-noise_dle second both (ne_eqb second ACK (λ same. omega arith)) (ne_eqb second NAK (λ same. omega arith)) (ne_eqb second STX (λ same. omega arith)) ∙ ap reading (sym c.in-Some-first_byte.ensures),
+      ap reading is ∙ reading-noise_dle second both (ne_eqb second ack_byte (λ same. omega arith)) (ne_eqb second nak_byte (λ same. omega arith)) (ne_eqb second stx (λ same. omega arith)) ∙ ap reading (sym c.in-Some-first_byte.ensures),
       omega (arith, ap (length {A = ℕ}) c.in-Some.ensures),
     )

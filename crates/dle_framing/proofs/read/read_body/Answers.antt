@@ -3,16 +3,16 @@ use Rattle.std.specs.Bool.{OnTrue, OnFalse}
 use Rattle.std.proofs.lemmas.Bool.{false≢true}
 use Rattle.dle_framing.specs.Frame.{enclosed}
 use Rattle.dle_framing.specs.Items.{Run, longest_run}
-use Rattle.dle_framing.specs.declared.control.TheConstants.{DLE, STX, ETX}
-use Rattle.dle_framing.proofs.Frames.{enclosed-run, run-enclosed}
+use Rattle.dle_framing.specs.Numbers.{dle, stx, etx}
+use Rattle.dle_framing.proofs.FrameLemmas.{enclosed-run, run-enclosed}
 use Rattle.dle_framing.proofs.read.read_body.Goals as goal
 
-found : (ends : Bool) (text inner behind old new : List ℕ) → text ≡ DLE ∷ STX ∷ inner → behind ≡ (longest_run inner).behind → new ≡ old ++ (longest_run inner).spelled → (IsTrue ends ↔ (behind ≡ DLE ∷ ETX ∷ []))
+found : (ends : Bool) (text inner behind old new : List ℕ) → text ≡ dle ∷ stx ∷ inner → behind ≡ (longest_run inner).behind → new ≡ old ++ (longest_run inner).spelled → (IsTrue ends ↔ (behind ≡ dle ∷ etx ∷ []))
     → OnTrue ends ((body : List ℕ) × (text ≡ enclosed body) × (new ≡ old ++ body))
 found true text inner behind old new starts stops appends end = ((longest_run inner).spelled, run-enclosed text inner starts (sym stops ∙ end.0 refl), appends)
 found false text inner behind old new starts stops appends end = tt
 
-none : (ends : Bool) (text inner behind : List ℕ) → text ≡ DLE ∷ STX ∷ inner → behind ≡ (longest_run inner).behind → (IsTrue ends ↔ (behind ≡ DLE ∷ ETX ∷ [])) → (most : ℕ)
+none : (ends : Bool) (text inner behind : List ℕ) → text ≡ dle ∷ stx ∷ inner → behind ≡ (longest_run inner).behind → (IsTrue ends ↔ (behind ≡ dle ∷ etx ∷ [])) → (most : ℕ)
     → OnFalse ends ((body : List ℕ) → length body ≤ most → text ≡ enclosed body → ⊥)
 none true text inner behind starts stops end most = tt
 none false text inner behind starts stops end most = λ body short encloses.

@@ -4,7 +4,7 @@ use Rattle.std.proofs.lemmas.List.{length-append, take_all, drop_at}
 use Rattle.std.proofs.Math.Seq.{take-append-add}
 use Rattle.dle_framing.specs.Frame.{IsData, body, enclosed, frame}
 use Rattle.dle_framing.specs.Items.{is_good}
-use Rattle.dle_framing.proofs.Frames.{one_body, good-body, body-data, length-body, small-body}
+use Rattle.dle_framing.proofs.FrameLemmas.{one_body, good-body, body-data, length-body, small-body}
 use Rattle.dle_framing.proofs.read.read_frame.Goals as goal
 
 -- the body that was appended is what stands from its place on

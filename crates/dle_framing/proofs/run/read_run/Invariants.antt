@@ -1,6 +1,6 @@
 use Rattle.std.proofs.Common.{◌≡◌, ◌++◌, ◌+◌, ◌≤◌, length, take, vec_len, vec_capacity}
 use Rattle.dle_framing.specs.Items.{longest_run}
-use Rattle.dle_framing.specs.declared.control.TheConstants.{MAX_BODY}
+use Rattle.dle_framing.specs.Numbers.{most_body}
 use Rattle.dle_framing.proofs.run.read_run.Given as goal
 
 -- What was appended and what the rest spells is what the whole text spells.
@@ -11,7 +11,7 @@ invariant-loop-byte l = record {
   kept : take (vec_len l.fn.out) l.out.items ≡ l.fn.out.items;
   start : l.start ≡ vec_len l.fn.out;
   grown : l.start ≤ vec_len l.out;
-  within : vec_len l.out ≤ l.start + MAX_BODY;
+  within : vec_len l.out ≤ l.start + most_body;
   room : vec_capacity l.out ≡ vec_capacity l.fn.out;
 }
 

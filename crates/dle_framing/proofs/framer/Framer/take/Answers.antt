@@ -1,16 +1,16 @@
 use Rattle.std.proofs.lemmas.Bool.{ne_eqb}
-use Rattle.dle_framing.specs.declared.control.TheConstants.{DLE}
-use Rattle.dle_framing.proofs.StepLemmas.{outside-noise, outside-dle, inside-byte, inside-dle}
+use Rattle.dle_framing.specs.Numbers.{dle}
+use Rattle.dle_framing.proofs.StepLemmas.{outside-noise, outside-dle, inside-byte, inside-dle, keeps_byte}
 use Rattle.dle_framing.proofs.framer.Framer.take.Goals as goal
 
 pub returns-then-byte-eq-DLE : goal.returns-then-byte-eq-DLE
-returns-then-byte-eq-DLE c = rw (c.in-Outside.is, c.if-byte-eq-DLE.true) (outside-dle c.args.self.now.front.items)
+returns-then-byte-eq-DLE c = rw (c.in-Outside.is, c.if-byte-eq-DLE.true) (outside-dle c.args.self.now.front)
 
 pub returns-else-byte-eq-DLE : goal.returns-else-byte-eq-DLE
-returns-else-byte-eq-DLE c = rw c.in-Outside.is (outside-noise c.args.self.now.front.items c.args.byte (ne_eqb c.args.byte DLE c.if-byte-eq-DLE.false))
+returns-else-byte-eq-DLE c = rw c.in-Outside.is (outside-noise c.args.self.now.front c.args.byte (ne_eqb c.args.byte dle c.if-byte-eq-DLE.false))
 
 pub returns-then-byte-eq-DLE-2 : goal.returns-then-byte-eq-DLE-2
-returns-then-byte-eq-DLE-2 c = rw (c.in-Inside.is, c.if-byte-eq-DLE-2.true) (inside-dle c.args.self.now.front.items)
+returns-then-byte-eq-DLE-2 c = rw (c.in-Inside.is, c.if-byte-eq-DLE-2.true) (inside-dle c.args.self.now.front)
 
 pub returns-else-byte-eq-DLE-2 : goal.returns-else-byte-eq-DLE-2
-returns-else-byte-eq-DLE-2 c = rw (c.keep.ensures.state, c.in-Inside.is) (inside-byte c.args.self.now.front.items c.args.byte c.keep.new.self.front.items (ne_eqb c.args.byte DLE c.if-byte-eq-DLE-2.false) c.keep.ensures.front)
+returns-else-byte-eq-DLE-2 c = rw c.in-Inside.is (inside-byte c.args.self.now.front c.args.byte _ (ne_eqb c.args.byte dle c.if-byte-eq-DLE-2.false) (keeps_byte _ _ _ c.push.ensures))

@@ -1,6 +1,6 @@
 use Rattle.std.proofs.Common.{◌≤◌, ◌-◌, length, take}
-use Rattle.dle_framing.specs.Framer.{PassesOver}
-use Rattle.dle_framing.proofs.framer.Framer.hear.Given as goal
+use Rattle.dle_framing.specs.FramerInside.{PassesOver}
+use Rattle.dle_framing.proofs.framer.Framer.take_item.Given as goal
 
 -- no item has ended so far
 abbrev pub invariant-loop-used : goal.invariant-loop-used

@@ -1,0 +1,197 @@
+-- A frame spells one body, a good body is that of some DATA, and how long a frame is.
+use Rattle.std.proofs.Common.{◌≡◌, ℕ, zero, suc, ◌+◌, ◌-◌, ◌%◌, ◌≤◌, ◌<◌, ◌==◌, nat_eq, true, false, ⊎_elim, List, [], ◌∷◌, ◌++◌, length, take, drop, sum, count_by, replicate, get_or, refl, sym, ap, ◌∙◌, subst, zero-add, arith}
+use Rattle.std.proofs.lemmas.Bool.{cond-false, cases_lt, and_parts, and_from, leb-true, le-leb, eqb-true, eq-eqb}
+use Rattle.std.proofs.lemmas.List.{length_push, length-append, take-append-drop, length-take-le, take_all, take_at, take_more, take-append-le, get_or_at, get_or_append_left, same_from_push}
+use Rattle.std.proofs.lemmas.List.Concat.{flat_map-append}
+use Rattle.std.proofs.lemmas.List.Sums.{sum_by_push, sum_by-cons, sum_by-append, count_by-le-length}
+use Rattle.dle_framing.specs.Frame.{IsData, doubled, check_byte, counted, body, enclosed, frame}
+use Rattle.dle_framing.specs.Items.{Run, longest_run, is_good}
+use Rattle.dle_framing.specs.Numbers.{dle, stx, etx, most_data, least_body, most_body, most_frame}
+use Rattle.dle_framing.proofs.Runs.{at_byte, doubled-byte, doubled-longest_run, body-enclosed}
+
+-- one body has a text
+pub one_body : (a b : List ℕ) → enclosed a ≡ enclosed b → a ≡ b
+one_body a b same = sym (ap (λ (run : Run). run.spelled) (body-enclosed a)) ∙ ap (λ (text : List ℕ). (longest_run (drop 2 text)).spelled) same ∙ ap (λ (run : Run). run.spelled) (body-enclosed b)
+
+-- Two DATA with one frame are equal.
+pub one_frame : (a b : List ℕ) → frame a ≡ frame b → a ≡ b
+one_frame a b same = (same_from_push a b _ _ (same_from_push (counted a) (counted b) _ _ (one_body (body a) (body b) same)).0).0
+
+pub length-body : (bytes : List ℕ) → length (body bytes) ≡ length bytes + 2
+length-body bytes = omega (arith, length_push (counted bytes) (check_byte (counted bytes)), length_push bytes (length bytes))
+
+sum-push : (bytes : List ℕ) (byte : ℕ) → sum (bytes ++ byte ∷ []) ≡ sum bytes + byte
+sum-push bytes byte = sum_by_push (λ x. x) bytes byte
+
+-- The body of DATA has their bytes in front, and then their length.
+pub data-body : (bytes : List ℕ) → take (length (body bytes) - 2) (body bytes) ≡ bytes
+data-body bytes =
+    let count : length (body bytes) - 2 ≡ length bytes = omega (arith, length-body bytes) in
+    ap (λ (n : ℕ). take n (body bytes)) count
+    ∙ take-append-le (length bytes) (counted bytes) (check_byte (counted bytes) ∷ []) (omega (arith, length_push bytes (length bytes)))
+    ∙ take_at bytes (length bytes ∷ []) (length bytes) refl
+
+count-body : (bytes : List ℕ) → get_or (body bytes) (length (body bytes) - 2) 0 ≡ length (body bytes) - 2
+count-body bytes =
+    let count : length (body bytes) - 2 ≡ length bytes = omega (arith, length-body bytes) in
+    ap (λ (n : ℕ). get_or (body bytes) n 0) count
+    ∙ get_or_append_left (counted bytes) (check_byte (counted bytes) ∷ []) 0 (length bytes) (omega (arith, length_push bytes (length bytes)))
+    ∙ get_or_at bytes (length bytes) [] 0 (length bytes) refl
+    ∙ sym count
+
+sum-body : (bytes : List ℕ) → sum (body bytes) % 256 ≡ 0
+sum-body bytes = omega (arith, sum-push (counted bytes) (check_byte (counted bytes)))
+
+-- the body of DATA is good
+pub good-body : (bytes : List ℕ) → IsData bytes → is_good (body bytes) ≡ true
+good-body bytes is_data =
+    and_from _ _
+    (and_from _ _
+    (and_from _ _ (le-leb least_body (length (body bytes)) (omega (arith, length-body bytes, is_data.0))) (le-leb (length (body bytes)) most_body (omega (arith, length-body bytes, is_data.1))))
+    (eq-eqb (get_or (body bytes) (length (body bytes) - 2) 0) (length (body bytes) - 2) (count-body bytes)))
+    (eq-eqb (sum (body bytes) % 256) 0 (sum-body bytes))
+
+-- a list by its two last bytes
+last_two : (bytes : List ℕ) (k : ℕ) → length bytes ≡ k + 2 → bytes ≡ take k bytes ++ get_or bytes k 0 ∷ [] ++ get_or bytes (k + 1) 0 ∷ []
+last_two bytes k h =
+    sym (take_all (k + 1 + 1) bytes (omega arith))
+    ∙ take_more bytes (k + 1) 0 (omega arith)
+    ∙ ap (λ (front : List ℕ). front ++ get_or bytes (k + 1) 0 ∷ []) (take_more bytes k 0 (omega arith))
+
+-- what a good body is
+record IsGood (bytes : List ℕ) : Type 0 where
+  long : least_body ≤ length bytes
+  short : length bytes ≤ most_body
+  count : get_or bytes (length bytes - 2) 0 ≡ length bytes - 2
+  check : sum bytes % 256 ≡ 0
+
+good_parts : (bytes : List ℕ) → is_good bytes ≡ true → IsGood bytes
+good_parts bytes good =
+    let checked = and_parts _ _ good in
+    let counted_right = and_parts _ _ checked.0 in
+    let sized = and_parts _ _ counted_right.0 in
+    record {
+      long = leb-true least_body (length bytes) sized.0;
+      short = leb-true (length bytes) most_body sized.1;
+      count = eqb-true (get_or bytes (length bytes - 2) 0) (length bytes - 2) counted_right.1;
+      check = eqb-true (sum bytes % 256) 0 checked.1;
+    }
+
+-- the two last bytes of a good body are the length of its DATA and their check byte
+body_from_parts : (bytes front : List ℕ) (n c : ℕ) → bytes ≡ front ++ n ∷ [] ++ c ∷ [] → n ≡ length front → c < 256 → sum bytes % 256 ≡ 0 → bytes ≡ body front
+body_from_parts bytes front n c split count small check =
+    let counts : front ++ n ∷ [] ≡ counted front = ap (λ (k : ℕ). front ++ k ∷ []) count in
+    let total : sum bytes ≡ sum (counted front) + c = ap sum split ∙ sum-push (front ++ n ∷ []) c ∙ ap (λ (text : List ℕ). sum text + c) counts in
+    let checks : c ≡ check_byte (counted front) = omega arith in
+    split ∙ ap (λ (text : List ℕ). text ++ c ∷ []) counts ∙ ap (λ (k : ℕ). counted front ++ k ∷ []) checks
+
+-- a good body is that of its DATA
+pub body-data : (bytes : List ℕ) → is_good bytes ≡ true → ((i : ℕ) → get_or bytes i 0 < 256) → (bytes ≡ body (take (length bytes - 2) bytes)) × IsData (take (length bytes - 2) bytes)
+body-data bytes good small =
+    let parts = good_parts bytes good in
+    let k : ℕ = length bytes - 2 in
+    let len : length (take k bytes) ≡ k = length-take-le k bytes (omega (arith, parts.long)) in (
+      body_from_parts bytes (take k bytes) (get_or bytes k 0) (get_or bytes (k + 1) 0) (last_two bytes k (omega (arith, parts.long))) (parts.count ∙ sym len) (small (k + 1)) parts.check,
+      (omega (arith, parts.long, len), omega (arith, parts.short, len)),
+    )
+
+-- what is behind the start of a text that encloses a body
+pub enclosed-run : (text inner body : List ℕ) → text ≡ dle ∷ stx ∷ inner → text ≡ enclosed body → longest_run inner ≡ record { spelled = body; behind = dle ∷ etx ∷ [] }
+enclosed-run text inner body starts encloses = ap (λ (text : List ℕ). longest_run (drop 2 text)) (sym starts ∙ encloses) ∙ body-enclosed body
+
+-- a text whose longest run ends at its end encloses what the run spells
+pub run-enclosed : (text inner : List ℕ) → text ≡ dle ∷ stx ∷ inner → (longest_run inner).behind ≡ dle ∷ etx ∷ [] → text ≡ enclosed (longest_run inner).spelled
+run-enclosed text inner starts ends =
+    starts ∙ ap (λ (text : List ℕ). dle ∷ stx ∷ text) (sym (doubled-longest_run inner) ∙ ap (λ (behind : List ℕ). doubled (longest_run inner).spelled ++ behind) ends)
+
+-- the bytes of a body are among those of the text that spells it
+small-doubled : (bytes tail : List ℕ) → ((i : ℕ) → get_or (doubled bytes ++ tail) i 0 < 256) → (i : ℕ) → get_or bytes i 0 < 256
+small-doubled [] tail = λ small i. omega arith
+small-doubled (a ∷ bytes) tail =
+    at_byte dle (λ a. ((i : ℕ) → get_or (doubled (a ∷ bytes) ++ tail) i 0 < 256) → (i : ℕ) → get_or (a ∷ bytes) i 0 < 256) a
+    (λ small i. elim i as (λ i. get_or (dle ∷ bytes) i 0 < 256) [ zero ↦ small 0 | suc j ↦ small-doubled bytes tail (λ k. small (suc (suc k))) j ])
+    (λ h small i.
+    let P : List ℕ → Type 0 = λ text. (i : ℕ) → get_or (text ++ tail) i 0 < 256 in
+    let small' : (i : ℕ) → get_or (a ∷ doubled bytes ++ tail) i 0 < 256 = subst P (doubled-byte a bytes h) small in
+    elim i as (λ i. get_or (a ∷ bytes) i 0 < 256) [ zero ↦ small' 0 | suc j ↦ small-doubled bytes tail (λ k. small' (suc k)) j ])
+
+pub small-body : (text bytes : List ℕ) → text ≡ enclosed bytes → ((i : ℕ) → get_or text i 0 < 256) → (i : ℕ) → get_or bytes i 0 < 256
+small-body text bytes encloses small =
+    let P : List ℕ → Type 0 = λ text. (i : ℕ) → get_or text i 0 < 256 in
+    let small' = subst P encloses small in
+    small-doubled bytes (dle ∷ etx ∷ []) (λ i. small' (suc (suc i)))
+
+-- how many of these bytes are DLE
+abbrev pub dles : List ℕ → ℕ
+dles bytes = count_by (λ byte. byte == dle) bytes
+
+dles-other : (a : ℕ) (bytes : List ℕ) → nat_eq a dle ≡ false → dles (a ∷ bytes) ≡ dles bytes
+dles-other a bytes other = sum_by-cons _ a bytes ∙ ap (λ (n : ℕ). n + dles bytes) (cond-false (nat_eq a dle) 1 0 other) ∙ zero-add (dles bytes)
+
+dles-dle : (bytes : List ℕ) → dles (dle ∷ bytes) ≡ 1 + dles bytes
+dles-dle bytes = sum_by-cons _ dle bytes
+
+-- Bytes have one byte more for each DLE among them once each is sent twice.
+pub length-doubled : (bytes : List ℕ) → length (doubled bytes) ≡ length bytes + dles bytes
+length-doubled [] = refl
+length-doubled (a ∷ bytes) =
+    at_byte dle (λ a. length (doubled (a ∷ bytes)) ≡ length {A = ℕ} (a ∷ bytes) + dles (a ∷ bytes)) a
+    (omega (arith, length-doubled bytes, dles-dle bytes))
+    (λ other. omega (arith, ap (length {A = ℕ}) (doubled-byte a bytes other), length-doubled bytes, dles-other a bytes other))
+
+-- the end of a body has at most two DLE
+dles-body : (bytes : List ℕ) → dles (body bytes) ≡ dles bytes + dles (length bytes ∷ []) + dles (check_byte (counted bytes) ∷ [])
+dles-body bytes = sum_by-append _ (counted bytes) (check_byte (counted bytes) ∷ []) ∙ ap (λ (n : ℕ). n + dles (check_byte (counted bytes) ∷ [])) (sum_by-append _ bytes (length bytes ∷ []))
+
+dles-one : (byte : ℕ) → dles (byte ∷ []) ≤ 1
+dles-one byte = count_by-le-length (λ byte. byte == dle) (byte ∷ [])
+
+pub length-frame : (bytes : List ℕ) → length (frame bytes) ≡ length (doubled (body bytes)) + 4
+length-frame bytes = omega (arith, length-append ((dle ∷ stx ∷ []) ++ doubled (body bytes)) (dle ∷ etx ∷ []))
+
+-- bytes that are all DLE
+all_dle : (bytes : List ℕ) → length bytes ≤ dles bytes → bytes ≡ replicate (length bytes) dle
+all_dle [] = λ all. refl
+all_dle (a ∷ bytes) =
+    at_byte dle (λ a. length {A = ℕ} (a ∷ bytes) ≤ dles (a ∷ bytes) → a ∷ bytes ≡ replicate (length {A = ℕ} (a ∷ bytes)) dle) a
+    (λ all. ap (λ (bytes : List ℕ). dle ∷ bytes) (all_dle bytes (omega (arith, dles-dle bytes))))
+    (λ other all. absurd (omega (arith, dles-other a bytes other, count_by-le-length (λ byte. byte == dle) bytes)))
+
+-- the longest frame is that of 255 DLE
+longest_frame : (bytes : List ℕ) → length bytes ≡ most_data → length (frame bytes) ≤ most_frame
+longest_frame bytes full = ⊎_elim
+    (λ (some : dles bytes < most_data).
+    let count : dles (length bytes ∷ []) ≡ 0 = ap (λ (n : ℕ). dles (n ∷ [])) full in
+    omega (arith, length-frame bytes, length-doubled (body bytes), length-body bytes, dles-body bytes, dles-one (check_byte (counted bytes))))
+    (λ (all : most_data ≤ dles bytes).
+    let is : bytes ≡ replicate most_data dle = all_dle bytes (omega arith) ∙ ap (λ (n : ℕ). replicate n dle) full in
+    let same : length (frame bytes) ≡ most_frame = ap (λ (bytes : List ℕ). length (frame bytes)) is in
+    omega arith)
+    (cases_lt (dles bytes) most_data)
+
+pub length-frame-le : (bytes : List ℕ) → IsData bytes → length (frame bytes) ≤ most_frame
+length-frame-le bytes is_data = ⊎_elim
+    (λ (short : length bytes < most_data).
+    omega (arith, length-frame bytes, length-doubled (body bytes), length-body bytes, dles-body bytes, dles-one (length bytes), dles-one (check_byte (counted bytes)), count_by-le-length (λ byte. byte == dle) bytes))
+    (λ (full : most_data ≤ length bytes). longest_frame bytes (omega (arith, is_data.1)))
+    (cases_lt (length bytes) most_data)
+
+-- the part of a text that is doubled so far leaves room for the next byte
+pub doubled-room : (bytes : List ℕ) (i : ℕ) → i < length bytes → length (doubled (take i bytes)) + length (doubled (get_or bytes i 0 ∷ [])) ≤ length (doubled bytes)
+doubled-room bytes i within =
+    let split : doubled (take i bytes ++ get_or bytes i 0 ∷ []) ≡ doubled (take i bytes) ++ doubled (get_or bytes i 0 ∷ []) = flat_map-append _ (take i bytes) (get_or bytes i 0 ∷ []) in
+    let whole : (take i bytes ++ get_or bytes i 0 ∷ []) ++ drop (i + 1) bytes ≡ bytes = ap (λ (front : List ℕ). front ++ drop (i + 1) bytes) (sym (take_more bytes i 0 within)) ∙ take-append-drop (i + 1) bytes in
+    omega (
+      arith,
+      ap (length {A = ℕ}) (sym (flat_map-append _ (take i bytes ++ get_or bytes i 0 ∷ []) (drop (i + 1) bytes)) ∙ ap doubled whole),
+      length-append (doubled (take i bytes ++ get_or bytes i 0 ∷ [])) (doubled (drop (i + 1) bytes)),
+      ap (length {A = ℕ}) split,
+      length-append (doubled (take i bytes)) (doubled (get_or bytes i 0 ∷ [])),
+    )
+
+pub doubled-next : (bytes : List ℕ) (i : ℕ) → i < length bytes → doubled (take (i + 1) bytes) ≡ doubled (take i bytes) ++ doubled (get_or bytes i 0 ∷ [])
+doubled-next bytes i within = ap doubled (take_more bytes i 0 within) ∙ flat_map-append _ (take i bytes) (get_or bytes i 0 ∷ [])
+
+-- a byte is sent once or twice
+pub doubled-one : (byte : ℕ) → 1 ≤ length (doubled (byte ∷ []))
+doubled-one byte = omega (arith, length-doubled (byte ∷ []))
