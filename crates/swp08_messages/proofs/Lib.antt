@@ -1,3 +1,5 @@
-pub mod Texts
-pub mod Faults
-pub mod Examples
+pub mod FieldLemmas
+pub mod SpelledLemmas
+pub mod ReadingLemmas
+pub mod RefusedLemmas
+pub mod FaultLemmas

@@ -1,3 +1,6 @@
+pub mod Field
+pub mod Row
 pub mod Text
 pub mod Spelled
-pub mod Fault
+pub mod Refused
+pub mod ReadingInside

@@ -1,22 +1,21 @@
 -- Which message DATA spells.
-use Rattle.std.specs.Prelude.{◌≡◌, ℕ, ◌+◌, ◌*◌, ◌/◌, ◌%◌, ◌==◌, if◌then◌else◌, List, [], ◌∷◌}
-use Rattle.swp08_messages.specs.declared.command.TheConstants.{INTERROGATE}
+use Rattle.std.specs.Prelude.{◌≡◌, ℕ, List, [], ◌∷◌}
+use Rattle.swp08_messages.specs.declared.field.Field.{Field}
 use Rattle.swp08_messages.specs.declared.message.Message.{Message}
-use Rattle.swp08_messages.specs.Text.{text, InRange}
+use Rattle.swp08_messages.specs.Field.{byte_of, looked_at}
+use Rattle.swp08_messages.specs.Row.{row}
+use Rattle.swp08_messages.specs.Text.{InRange}
 
--- The bits of the multiplier that are looked at: not bits 3 and 7, and of an interrogate, which has no second number, not
--- bits 0 to 2.
-abbrev pub looked_at : ℕ → ℕ → ℕ
-looked_at command multiplier = multiplier / 16 % 8 * 16 + (if command == INTERROGATE then 0 else multiplier % 8)
+-- The bytes are those of the fields, one each, but for the bits that aren't looked at.
+abbrev pub SpellFields : List ℕ → List Field → Type 0
+SpellFields [] [] = Unit {0}
+SpellFields (byte ∷ bytes) (field ∷ fields) = (looked_at field byte ≡ byte_of field) × SpellFields bytes fields
+SpellFields [] (field ∷ fields) = ⊥
+SpellFields (byte ∷ bytes) [] = ⊥
 
--- DATA with the bits that aren't looked at made 0
-abbrev pub cleared : List ℕ → List ℕ
-cleared [] = []
-cleared (command ∷ []) = command ∷ []
-cleared (command ∷ place ∷ []) = command ∷ place ∷ []
-cleared (command ∷ place ∷ multiplier ∷ more) = command ∷ place ∷ looked_at command multiplier ∷ more
-
--- DATA spells the message whose canonical DATA it is but for the bits that aren't looked at.
+-- DATA spells a message that is in its ranges: first its command, and behind it the bytes of its fields.
 pub record Spells (bytes : List ℕ) (message : Message) : Type 0 where
   pub in_range : InRange message
-  pub text : cleared bytes ≡ text message
+  pub behind : List ℕ
+  pub parts : bytes ≡ (row message).command ∷ behind
+  pub fields : SpellFields behind (row message).fields

@@ -1,19 +1,35 @@
 //! What holds of every message's DATA.
 
-ghost use Rattle.std.specs.Prelude.{◌≡◌, ℕ, ◌<◌, ◌≤◌, List, length, All};
+ghost use Rattle.std.specs.Prelude.{◌≡◌, ◌≢◌, ℕ, ◌<◌, ◌≤◌, ◌⊎◌, List, length, All};
 ghost use Rattle.swp08_messages.specs.declared.message.Message.{Message};
-ghost use Rattle.swp08_messages.specs.Text.{text, InRange};
+ghost use Rattle.swp08_messages.specs.declared.fault.ReadFault.{ReadFault};
+ghost use Rattle.swp08_messages.specs.Text.{text, InRange, max_len};
 ghost use Rattle.swp08_messages.specs.Spelled.{Spells};
+ghost use Rattle.swp08_messages.specs.Refused.{IsRefused};
 
-/// The canonical DATA of a message spells it, and no DATA spells two messages. So the DATA of two messages in their
-/// ranges differ.
+use crate::message::Message;
+
+/// The canonical DATA of a message spells it and no other, no DATA spells two messages, and the canonical DATA of two
+/// messages differ.
 pub fn one_message()
     ensures own { (message : Message) → InRange message → Spells (text message) message }
     ensures one { (bytes : List ℕ) (m n : Message) → Spells bytes m → Spells bytes n → m ≡ n }
+    ensures texts { (m n : Message) → InRange m → InRange n → m ≢ n → text m ≢ text n }
 {}
+
+/// DATA spells a message or is refused, never both, and is refused with one fault.
+pub fn one_reading(bytes: &[u8])
+    ensures some { ((message : Message) × Spells bytes.now message) ⊎ ((fault : ReadFault) × IsRefused bytes.now fault) }
+    ensures not_both { (message : Message) (fault : ReadFault) → Spells bytes.now message → IsRefused bytes.now fault → ⊥ }
+    ensures one { (f g : ReadFault) → IsRefused bytes.now f → IsRefused bytes.now g → f ≡ g }
+{
+    let _ = Message::read(bytes);
+}
 
 /// Canonical DATA has 1 to 8 bytes, and each of them fits a byte where the message is in its ranges.
 pub fn text_bytes()
-    ensures length { (message : Message) → (1 ≤ length (text message)) × (length (text message) ≤ 8) }
+    ensures some { (message : Message) → 1 ≤ length (text message) }
+    ensures most { (message : Message) → length (text message) ≤ max_len }
+    ensures max_len { Message.MAX_LEN ≡ max_len }
     ensures bytes { (message : Message) → InRange message → All (λ byte. byte < 256) (text message) }
 {}

@@ -2,19 +2,20 @@
 //! has one canonical DATA, and what is read is what it spells. The crate knows nothing of frames and of plants.
 #![tactic(auto)]
 
-mod command;
+mod crosspoints;
 mod fault;
-mod fields;
+mod field;
 mod laws;
 mod message;
 mod point;
-mod reading;
-mod writing;
+mod row;
 
 pub use fault::ReadFault;
-pub use laws::{one_message, text_bytes};
+pub use laws::{one_message, one_reading, text_bytes};
 pub use message::{Message, MessageKind};
 pub use point::{PARKED, Point};
 
+#[cfg(test)]
+mod example;
 #[cfg(test)]
 mod tests;

@@ -1,5 +1,7 @@
+//! A destination's place, and the sources that it may carry.
+
 ghost use Rattle.std.specs.Prelude.{◌↔◌, IsTrue};
-ghost use Rattle.swp08_messages.specs.Text.{IsPoint, IsSource};
+ghost use Rattle.swp08_messages.specs.Field.{IsSource};
 
 /// The number of a source that says 'parked': the destination carries none. It is this project's profile, so the numbers
 /// of sources are 0 to 1022.
@@ -16,15 +18,8 @@ pub struct Point {
     pub dest: u16,
 }
 
-/// Whether each number of the destination has room in its bytes.
-pub fn is_point(at: Point) -> bool
-    ensures { IsTrue result ↔ IsPoint at }
-{
-    at.matrix < 16 && at.level < 16 && at.dest < 1024
-}
-
 /// Whether the source is parked, or below the number that says so.
-pub fn is_source(source: Option<u16>) -> bool
+pub(crate) fn is_source(source: Option<u16>) -> bool
     ensures { IsTrue result ↔ IsSource source }
 {
     source.is_none_or(|number| number < PARKED)

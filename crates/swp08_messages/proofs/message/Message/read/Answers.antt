@@ -1,12 +1,36 @@
-use Rattle.std.proofs.Common.{Ok, ap, arith}
-use Rattle.swp08_messages.proofs.Texts.{one_message}
-use Rattle.swp08_messages.proofs.Faults.{faulty}
+use Rattle.std.proofs.Common.{Ok, Err, None, ap, sym, ◌∙◌, subst, arith}
+use Rattle.swp08_messages.specs.Spelled.{Spells}
+use Rattle.swp08_messages.specs.Refused.{IsRefused}
+use Rattle.swp08_messages.specs.ReadingInside.{fault_of}
+use Rattle.swp08_messages.proofs.ReadingLemmas.{one_message}
+use Rattle.swp08_messages.proofs.RefusedLemmas.{not_both, one_fault}
+use Rattle.swp08_messages.proofs.FaultLemmas.{data_ok, data_err, data_unknown, tail}
 use Rattle.swp08_messages.proofs.message.Message.read.Goals as goal
+use Rattle.swp08_messages.proofs.message.Message.read.Goals.{In-None, In-Some-fault}
 
--- No other message is spelled by DATA that spells this one.
-pub returns-clause-only : goal.returns-clause-only
-returns-clause-only c = λ message spells. ap (λ m. Ok m) (one_message _ _ message c.message_of.ensures spells)
+-- DATA of which no byte is wrong spells what was read.
+spells : (c : In-None) → Spells c.args.bytes.now c.in-Some.message
+spells c =
+    data_ok c.args.bytes.now c.in-Some.message c.in-len1-up.len_at_least c.in-Some.ensures
+    (ap (λ fields. fault_of fields (tail c.args.bytes.now)) (sym c.row.ensures.fields) ∙ sym c.in-None.ensures)
 
-pub returns-in_err-check-clause-only : goal.returns-in_err-check-clause-only
-returns-in_err-check-clause-only c = λ message spells.
-    absurd (faulty c.args.bytes.now _ message (λ k. omega (arith, c.type_inv.bytes k)) c.in_err-check.ensures spells)
+pub returns-in-None-clause-read : goal.returns-in-None-clause-read
+returns-in-None-clause-read c = spells c
+
+pub returns-in-None-clause-only_err : goal.returns-in-None-clause-only_err
+returns-in-None-clause-only_err c = λ fault refused. absurd (not_both c.args.bytes.now _ fault (spells c) refused)
+
+-- DATA with a wrong byte, or of a wrong length, is refused.
+refused : (c : In-Some-fault) → IsRefused c.args.bytes.now c.in-Some-fault.fault
+refused c =
+    data_err c.args.bytes.now c.in-Some.message c.in-Some-fault.fault c.in-len1-up.len_at_least (λ k. omega (arith, c.type_inv.bytes k)) c.in-Some.ensures
+    (ap (λ fields. fault_of fields (tail c.args.bytes.now)) (sym c.row.ensures.fields) ∙ sym c.in-Some-fault.ensures)
+
+pub returns-in-Some-fault-clause-read : goal.returns-in-Some-fault-clause-read
+returns-in-Some-fault-clause-read c = refused c
+
+pub returns-in-Some-fault-clause-only_ok : goal.returns-in-Some-fault-clause-only_ok
+returns-in-Some-fault-clause-only_ok c = λ message spells. absurd (not_both c.args.bytes.now message _ spells (refused c))
+
+pub returns-in-Some-fault-clause-only_err : goal.returns-in-Some-fault-clause-only_err
+returns-in-Some-fault-clause-only_err c = λ fault other. ap (λ f. Err f) (one_fault c.args.bytes.now _ fault (refused c) other)

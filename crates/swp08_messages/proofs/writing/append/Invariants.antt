@@ -1,6 +1,0 @@
-use Rattle.std.proofs.Common.{◌≡◌, ◌++◌, take, vec_capacity}
-use Rattle.swp08_messages.proofs.writing.append.Given as goal
-
-abbrev pub invariant-loop-byte : goal.invariant-loop-byte
-invariant-loop-byte l =
-    (l.out.items ≡ l.initial.out.items ++ take l.byte-index l.bytes) × (vec_capacity l.out ≡ vec_capacity l.initial.out)

@@ -1,0 +1,54 @@
+-- How DATA is read in the crate: a message by its bytes as they come, whose row they are then held to.
+use Rattle.std.specs.Prelude.{ℕ, ◌+◌, ◌*◌, ◌/◌, ◌%◌, ◌==◌, nat_lt, if◌then◌else◌, List, [], ◌∷◌, length, slice_index, map, Option, Some, None}
+use Rattle.swp08_messages.specs.declared.fault.ReadFault.{ReadFault}
+use Rattle.swp08_messages.specs.declared.fault.ReadFault.TheVariants.{WrongLength, BadField}
+use Rattle.swp08_messages.specs.declared.field.Field.{Field}
+use Rattle.swp08_messages.specs.declared.field.Field.TheVariants.{MatrixLevel, DestHigh, CrosspointHigh, DestLow, SourceLow}
+use Rattle.swp08_messages.specs.declared.point.Point.{Point}
+use Rattle.swp08_messages.specs.declared.message.Message.{Message}
+use Rattle.swp08_messages.specs.declared.message.Message.TheVariants.{Interrogate, Connect, Tally, Connected}
+
+-- the least number that is no byte of a field
+abbrev pub limit_of : Field → ℕ
+limit_of (MatrixLevel matrix level) = 256
+limit_of (DestHigh dest) = 256
+limit_of (CrosspointHigh dest source) = 256
+limit_of (DestLow dest) = 128
+limit_of (SourceLow source) = 128
+
+-- the destination that these bytes give
+abbrev pub point_of : ℕ → ℕ → ℕ → Point
+point_of place high low = record { matrix = place / 16; level = place % 16; dest = high / 16 % 8 * 128 + low }
+
+-- the source that these bytes give
+abbrev pub source_of : ℕ → ℕ → Option ℕ
+source_of high low = if high % 8 * 128 + low == 1023 then None else Some (high % 8 * 128 + low)
+
+-- the destination and the source that the bytes behind a command give, a missing byte taken as 0
+abbrev pub point_in : List ℕ → Point
+point_in bytes = point_of (slice_index bytes 0) (slice_index bytes 1) (slice_index bytes 2)
+
+abbrev pub source_in : List ℕ → Option ℕ
+source_in bytes = source_of (slice_index bytes 1) (slice_index bytes 3)
+
+-- the message of a command by the bytes behind it, `None` where no message has the command
+abbrev pub message_of : ℕ → List ℕ → Option Message
+message_of command bytes =
+    if command == 1 then Some (Interrogate (point_in bytes))
+    else if command == 2 then Some (Connect (point_in bytes) (source_in bytes))
+    else if command == 3 then Some (Tally (point_in bytes) (source_in bytes))
+    else if command == 4 then Some (Connected (point_in bytes) (source_in bytes))
+    else None
+
+-- the first byte that isn't below its field's limit, the first of these bytes standing at `place`
+abbrev pub first_bad : ℕ → List Field → List ℕ → Option ReadFault
+first_bad place [] bytes = None
+first_bad place (field ∷ fields) [] = None
+first_bad place (field ∷ fields) (byte ∷ bytes) =
+    if nat_lt byte (limit_of field) then first_bad (place + 1) fields bytes else Some (BadField place byte)
+
+-- Bytes behind a command are of another number than the fields, or one isn't below its field's limit.
+abbrev pub fault_of : List Field → List ℕ → Option ReadFault
+fault_of fields bytes =
+    if length bytes == length fields then first_bad 1 fields bytes
+    else Some (WrongLength (1 + length bytes) (1 + length fields))

@@ -1,0 +1,47 @@
+-- Why DATA spells no message, said by the messages that other DATA spells.
+use Rattle.std.specs.Prelude.{◌≡◌, ◌≢◌, ℕ, ◌+◌, List, [], ◌∷◌, ◌++◌, length}
+use Rattle.swp08_messages.specs.declared.fault.ReadFault.{ReadFault}
+use Rattle.swp08_messages.specs.declared.fault.ReadFault.TheVariants.{UnknownCommand, WrongLength, BadField}
+use Rattle.swp08_messages.specs.declared.message.Message.{Message}
+use Rattle.swp08_messages.specs.Row.{row}
+use Rattle.swp08_messages.specs.Text.{text}
+use Rattle.swp08_messages.specs.Spelled.{Spells}
+
+-- No message has the command that the DATA begins with.
+pub record HasUnknownCommand (bytes : List ℕ) (command : ℕ) : Type 0 where
+  pub behind : List ℕ
+  pub parts : bytes ≡ command ∷ behind
+  pub never : (message : Message) → (row message).command ≢ command
+
+-- Some message has this command, its text has so many bytes as are wanted, and no DATA with the command and so many
+-- bytes behind it as these spells a message.
+pub record HasWrongCount (command : ℕ) (behind : List ℕ) (wanted : ℕ) : Type 0 where
+  pub message : Message
+  pub command_is : (row message).command ≡ command
+  pub wanted_is : wanted ≡ length (text message)
+  pub never : (bytes : List ℕ) (m : Message) → length bytes ≡ length behind → Spells (command ∷ bytes) m → ⊥
+
+-- The DATA has not so many bytes as are wanted. Where it has none at all, a command is wanted.
+abbrev pub HasWrongLength : List ℕ → ℕ → Type 0
+HasWrongLength [] wanted = wanted ≡ 1
+HasWrongLength (command ∷ behind) wanted = HasWrongCount command behind wanted
+
+-- The byte at this place behind the command is the first that is wrong: with the bytes in front of it, DATA of so many
+-- bytes spells a message if it goes on in some way, and with this byte too it spells none, however it goes on.
+pub record HasBadField (bytes : List ℕ) (place byte : ℕ) : Type 0 where
+  pub command : ℕ
+  pub front : List ℕ
+  pub rest : List ℕ
+  pub parts : bytes ≡ command ∷ (front ++ byte ∷ rest)
+  pub place_is : place ≡ 1 + length front
+  pub others : List ℕ
+  pub message : Message
+  pub length_is : length others ≡ 1 + length rest
+  pub good : Spells (command ∷ (front ++ others)) message
+  pub never : (more : List ℕ) (m : Message) → length more ≡ length rest → Spells (command ∷ (front ++ byte ∷ more)) m → ⊥
+
+-- The DATA is refused with this fault.
+abbrev pub IsRefused : List ℕ → ReadFault → Type 0
+IsRefused bytes (UnknownCommand command) = HasUnknownCommand bytes command
+IsRefused bytes (WrongLength found wanted) = (found ≡ length bytes) × HasWrongLength bytes wanted
+IsRefused bytes (BadField place byte) = HasBadField bytes place byte

@@ -1,0 +1,90 @@
+//! One byte behind a command: what it says, how it is written, and which bytes it may have.
+
+ghost use Rattle.std.specs.Prelude.{◌≡◌, ◌↔◌, ◌<◌, ◌/◌, ◌%◌, IsTrue};
+ghost use Rattle.swp08_messages.specs.Field.{byte_of, HasRoom, IsSource, number_of, dests};
+ghost use Rattle.swp08_messages.specs.ReadingInside.{limit_of};
+
+use crate::point::{PARKED, is_source};
+
+/// What one byte behind a command says, and of what. A number is sent in two parts: the high parts, DIV 128, of one or
+/// two numbers share a byte, the multiplier, and each low part, MOD 128, has a byte.
+#[derive(Clone, Copy, Debug, PartialEq, Eq)]
+pub(crate) enum Field {
+    /// A matrix in bits 4 to 7, a level in bits 0 to 3.
+    MatrixLevel(u8, u8),
+    /// The multiplier of a destination alone, in bits 4 to 6. No other bit is looked at.
+    DestHigh(u16),
+    /// The multiplier of a destination, in bits 4 to 6, and a source, in bits 0 to 2. Bits 3 and 7 aren't looked at.
+    CrosspointHigh(u16, Option<u16>),
+    /// The low part of a destination.
+    DestLow(u16),
+    /// The low part of a source.
+    SourceLow(Option<u16>),
+}
+
+impl Default for Field {
+    // What stands in the unused places of a row.
+    fn default() -> Field {
+        Field::DestLow(0)
+    }
+}
+
+impl Field {
+    /// Whether the values are in their ranges.
+    pub(crate) fn has_room(self) -> bool
+        ensures { IsTrue result ↔ HasRoom self }
+    {
+        match self {
+            Field::MatrixLevel(matrix, level) => matrix < 16 && level < 16,
+            Field::DestHigh(dest) | Field::DestLow(dest) => dest < 1024,
+            Field::CrosspointHigh(dest, source) => dest < 1024 && is_source(source),
+            Field::SourceLow(source) => is_source(source),
+        }
+    }
+
+    /// The byte as it is written.
+    pub(crate) fn byte(self) -> u8
+        requires { HasRoom self }
+        ensures { result ≡ byte_of self }
+    {
+        match self {
+            Field::MatrixLevel(matrix, level) => matrix * 16 + level,
+            Field::DestHigh(dest) => high_part(dest) * 16,
+            Field::CrosspointHigh(dest, source) => high_part(dest) * 16 + high_part(number(source)),
+            Field::DestLow(dest) => low_part(dest),
+            Field::SourceLow(source) => low_part(number(source)),
+        }
+    }
+
+    /// The least number that is no value of the byte: a low part has seven bits, any other byte all of its values.
+    pub(crate) fn limit(self) -> u16
+        ensures { result ≡ limit_of self }
+    {
+        match self {
+            Field::MatrixLevel(..) | Field::DestHigh(_) | Field::CrosspointHigh(..) => 256,
+            Field::DestLow(_) | Field::SourceLow(_) => 128,
+        }
+    }
+}
+
+// The number that stands for a source.
+fn number(source: Option<u16>) -> u16
+    requires { IsSource source }
+    ensures number { result ≡ number_of source }
+    ensures below { result < dests }
+{
+    source.unwrap_or(PARKED)
+}
+
+fn high_part(number: u16) -> u8
+    requires { number < dests }
+    ensures { result ≡ number / 128 }
+{
+    (number / 128) as u8
+}
+
+fn low_part(number: u16) -> u8
+    ensures { result ≡ number % 128 }
+{
+    (number % 128) as u8
+}
