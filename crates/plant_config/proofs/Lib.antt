@@ -1,5 +1,5 @@
 pub mod Found
 pub mod Numbering
-pub mod Places
+pub mod SiteLemmas
 pub mod Order
 mod Worked

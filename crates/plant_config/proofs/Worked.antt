@@ -1,7 +1,10 @@
--- The definitions computed on a plant of two levels, by hand: level 0 has sources 0 and 1 and destinations 0 to 2, and
--- level 1 the two sources and the one destination behind them.
-use Rattle.std.proofs.Common.{◌≡◌, [], ◌∷◌, true, Some, None, refl}
-use Rattle.plant_config.specs.Plant.{PlantData, dest_at, source_at, point_of, source_number_of, destinations_of, sources_of}
+-- The definitions computed by hand, on a plant of two levels and at each limit. Of the two levels, level 0 has sources 0
+-- and 1 and destinations 0 to 2, and level 1 the two sources and the one destination behind them.
+use Rattle.std.proofs.Common.{◌≡◌, [], ◌∷◌, length, true, false, Some, None, refl, arith}
+use Rattle.plant_config.specs.declared.records.Level.{Level}
+use Rattle.plant_config.specs.Limits.{all_levels_limit, all_sources_limit, all_destinations_limit, panel_limit}
+use Rattle.plant_config.specs.Plant.{PlantData, IsLevel, IsPanel, IsPlant, destinations_of, sources_of}
+use Rattle.plant_config.specs.Sites.{dest_at, source_at, point_of, source_number_of}
 
 abbrev two_levels : PlantData
 two_levels = record {
@@ -41,3 +44,60 @@ no_place = refl
 
 third_source : source_number_of two_levels 2 ≡ Some 0
 third_source = refl
+
+-- A level at each of its limits, and one past each of them.
+abbrev greatest : Level
+greatest = record { matrix = 15; level = 15; first_source = 0; sources = 1023; first_dest = 0; destinations = 1024 }
+
+abbrev least : Level
+least = record { matrix = 0; level = 0; first_source = 0; sources = 1; first_dest = 0; destinations = 1 }
+
+at_the_greatest : IsLevel greatest
+at_the_greatest = record { matrix = omega arith; level = omega arith; destinations = record { some = omega arith; most = omega arith }; sources = record { some = omega arith; most = omega arith } }
+
+at_the_least : IsLevel least
+at_the_least = record { matrix = omega arith; level = omega arith; destinations = record { some = omega arith; most = omega arith }; sources = record { some = omega arith; most = omega arith } }
+
+matrix_16 : ¬ IsLevel (record greatest { matrix = 16 })
+matrix_16 is = let h = is.matrix in omega arith
+
+level_16 : ¬ IsLevel (record greatest { level = 16 })
+level_16 is = let h = is.level in omega arith
+
+sources_1024 : ¬ IsLevel (record greatest { sources = 1024 })
+sources_1024 is = let h = is.sources.most in omega arith
+
+destinations_1025 : ¬ IsLevel (record greatest { destinations = 1025 })
+destinations_1025 is = let h = is.destinations.most in omega arith
+
+no_sources : ¬ IsLevel (record least { sources = 0 })
+no_sources is = let h = is.sources.some in omega arith
+
+no_destinations : ¬ IsLevel (record least { destinations = 0 })
+no_destinations is = let h = is.destinations.some in omega arith
+
+-- A panel at each of its limits, and one past each of them.
+device_1023 : IsPanel (record { device = 1023; port = 1; master = false })
+device_1023 = record { device = omega arith; port = omega arith }
+
+device_1024 : ¬ IsPanel (record { device = 1024; port = 1; master = false })
+device_1024 is = let h = is.device in omega arith
+
+port_0 : ¬ IsPanel (record { device = 1023; port = 0; master = false })
+port_0 is = let h = is.port in omega arith
+
+-- A plant may have so many of each, and not one more.
+at_most : (all_levels_limit ≡ 256) × (all_sources_limit ≡ 65536) × (all_destinations_limit ≡ 65536) × (panel_limit ≡ 64)
+at_most = (refl, refl, refl, refl)
+
+levels_257 : (plant : PlantData) → length plant.levels ≡ 257 → ¬ IsPlant plant
+levels_257 plant many is = let h = is.levels in omega arith
+
+sources_65537 : (plant : PlantData) → sources_of plant ≡ 65537 → ¬ IsPlant plant
+sources_65537 plant many is = let h = is.sources in omega arith
+
+destinations_65537 : (plant : PlantData) → destinations_of plant ≡ 65537 → ¬ IsPlant plant
+destinations_65537 plant many is = let h = is.destinations in omega arith
+
+panels_65 : (plant : PlantData) → length plant.panels ≡ 65 → ¬ IsPlant plant
+panels_65 plant many is = let h = is.panels in omega arith

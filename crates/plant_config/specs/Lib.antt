@@ -1,3 +1,4 @@
+pub mod Limits
 pub mod Plant
+pub mod Sites
 pub mod Bench
-pub mod Laws

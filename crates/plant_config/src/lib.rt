@@ -1,5 +1,5 @@
 //! What a plant is: its levels with their sources and destinations, and its panels, by typed numbers. A plant never
-//! changes. It is told as plain data, by the same definitions that the crates above use.
+//! changes. It is seen as plain data, by the same definitions that the crates above use.
 #![tactic(auto)]
 
 mod laws;
@@ -10,10 +10,12 @@ mod records;
 #[cfg(test)]
 mod tests;
 
-pub use laws::{dests_are_numbered, sources_are_numbered, the_bench_is_a_plant};
+pub use laws::{
+    dests_are_numbered, limits_are_those_of_the_profile, sources_are_numbered, the_bench_is_a_plant,
+};
 pub use limits::{
     LEVELS_OF_A_MATRIX, MATRICES, MAX_DESTINATIONS, MAX_DEVICE, MAX_LEVEL_DESTINATIONS,
-    MAX_LEVEL_SOURCES, MAX_LEVELS, MAX_PANELS, MAX_SOURCES,
+    MAX_LEVEL_SOURCES, MAX_LEVELS, MAX_PANELS, MAX_SOURCES, MIN_PORT,
 };
 pub use numbers::{BusId, DestId, DeviceId, DisplayId, Number, PanelNo, PoolId, SourceId, TieNo};
 pub use plant::Plant;

@@ -18,3 +18,5 @@ pub const MAX_DESTINATIONS: u32 = 65_536;
 pub const MAX_PANELS: usize = 64;
 /// The greatest device number.
 pub const MAX_DEVICE: u16 = 1023;
+/// The least port of a panel.
+pub const MIN_PORT: u16 = 1;

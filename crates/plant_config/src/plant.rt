@@ -1,14 +1,17 @@
-ghost use Rattle.std.specs.Prelude.{◌≡◌, ◌<◌, find, IfOk};
-ghost use Rattle.plant_config.specs.Plant.{IsPlant, dest_at, source_at, level_at, has_dest, has_source, point_of, source_number_of, destinations_of, sources_of};
+//! A plant and what can be asked of it.
+
+ghost use Rattle.std.specs.Prelude.{◌≡◌, ◌<◌, IfOk};
+ghost use Rattle.plant_config.specs.Limits.{level_source_limit};
+ghost use Rattle.plant_config.specs.Plant.{IsPlant, dest_numbers, source_numbers, destinations_of, sources_of};
+ghost use Rattle.plant_config.specs.Sites.{dest_at, source_at, level_at, level_of, point_of, source_number_of};
 ghost use Rattle.plant_config.specs.Bench.{bench};
 
-use crate::limits::MAX_LEVEL_SOURCES;
 use crate::numbers::{DestId, SourceId};
 use crate::records::{Level, Panel, Point};
 use std::alloc::{AllocError, Global};
 use std::marker::Model;
 
-/// A plant: what the controller was told of its routers and panels. It never changes.
+/// A plant: what the controller knows of its routers and panels. It never changes.
 #[derive(Debug, Drop)]
 pub struct Plant {
     levels: Vec<Level>,
@@ -78,7 +81,7 @@ impl Plant {
         self.panels.as_slice()
     }
 
-    /// The level of this matrix and this level number.
+    // The level of this matrix and this level number.
     fn level_at(&self, matrix: u8, level: u8) -> Option<Level>
         ensures at { result ≡ level_at self.now matrix level }
         ensures plant { IsPlant self.now }
@@ -103,6 +106,13 @@ impl Plant {
         }
     }
 
+    /// The destination at a place, as `dest` gives it.
+    pub fn dest_of(&self, at: Point) -> Option<DestId>
+        ensures { result ≡ dest_at self.now at.matrix at.level at.dest }
+    {
+        self.dest(at.matrix, at.level, at.dest)
+    }
+
     /// The source of this number at a level. `None` where the plant has no such level or the level no such source.
     pub fn source(&self, matrix: u8, level: u8, number: u16) -> Option<SourceId>
         ensures { result ≡ source_at self.now matrix level number }
@@ -116,9 +126,9 @@ impl Plant {
         }
     }
 
-    /// The level that has this destination.
+    // The level that has this destination.
     fn level_of_dest(&self, dest: DestId) -> Option<Level>
-        ensures found { result ≡ find (has_dest dest) self.now.levels }
+        ensures found { result ≡ level_of dest_numbers self.now dest }
         ensures plant { IsPlant self.now }
     {
         self.levels
@@ -127,9 +137,9 @@ impl Plant {
             .find(|level| level.has_dest(dest))
     }
 
-    /// The level that has this source.
+    // The level that has this source.
     fn level_of_source(&self, source: SourceId) -> Option<Level>
-        ensures found { result ≡ find (has_source source) self.now.levels }
+        ensures found { result ≡ level_of source_numbers self.now source }
         ensures plant { IsPlant self.now }
     {
         self.levels
@@ -155,7 +165,7 @@ impl Plant {
     pub fn source_number(&self, source: SourceId) -> u16
         requires { source < sources_of self.now }
         ensures number { source_number_of self.now source ≡ Some result }
-        ensures below { result < MAX_LEVEL_SOURCES }
+        ensures below { result < level_source_limit }
     {
         let at = self.level_of_source(source).unwrap();
         (source.get() - at.first_source) as u16

@@ -1,3 +1,5 @@
+//! The parts of a plant.
+
 ghost use Rattle.std.specs.Prelude.{◌≡◌};
 
 use crate::numbers::{DestId, SourceId};
@@ -20,11 +22,12 @@ pub struct Level {
 }
 
 impl Level {
-    ghost use Rattle.plant_config.specs.Plant.{has_dest, has_source};
+    ghost use Rattle.plant_config.specs.Plant.{dest_numbers, source_numbers};
+    ghost use Rattle.plant_config.specs.Sites.{has_number};
 
     /// Whether this destination is of the level.
     pub(crate) fn has_dest(&self, dest: DestId) -> bool
-        ensures { result ≡ has_dest dest self.now }
+        ensures { result ≡ has_number dest_numbers dest self.now }
     {
         let dest = dest.get();
         self.first_dest <= dest && dest - self.first_dest < self.destinations
@@ -32,7 +35,7 @@ impl Level {
 
     /// Whether this source is of the level.
     pub(crate) fn has_source(&self, source: SourceId) -> bool
-        ensures { result ≡ has_source source self.now }
+        ensures { result ≡ has_number source_numbers source self.now }
     {
         let source = source.get();
         self.first_source <= source && source - self.first_source < self.sources

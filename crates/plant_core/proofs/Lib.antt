@@ -1,3 +1,4 @@
 pub mod RowLists
 pub mod Validity
+pub mod Changes
 pub mod Steps

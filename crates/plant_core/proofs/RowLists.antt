@@ -16,7 +16,8 @@ use Rattle.std.proofs.lemmas.Cmp.{nat_eq_equiv}
 use Rattle.std.proofs.lemmas.Map.Steps.{length-le_from_distinct_below}
 use Rattle.std.proofs.Math.Seq.{map-set_same}
 use Rattle.plant_core.specs.declared.rows.Row.{Row}
-use Rattle.plant_core.specs.Rows.{crosspoints_of, AreRows}
+use Rattle.plant_core.specs.State.{Spot, source_of}
+use Rattle.plant_core.specs.RowsInside.{local, crosspoints_of, AreRows}
 
 abbrev pub is_of : ℕ → Row → Bool
 is_of dest row = row.dest == dest
@@ -25,15 +26,20 @@ is_of dest row = row.dest == dest
 tied : (q k : ℕ) → eq_by_cmp nat_cmp q k ≡ (k == q)
 tied q k = (eq_by_cmp_equiv nat_cmp_total).symm q k ∙ unsigned_tied k q
 
-find-rows : (rows : List Row) (q : ℕ) → finite.find nat_cmp q (map (λ row. (row.dest, row.source)) rows) ≡ option_map (λ row. row.source) (find (is_of q) rows)
+find-rows : (rows : List Row) (q : ℕ) → finite.find nat_cmp q (map (λ row. (row.dest, local row.source)) rows) ≡ option_map (λ row. local row.source) (find (is_of q) rows)
 find-rows [] q = refl
 find-rows (row ∷ rows) q =
     rw (tied q row.dest, find-rows rows q)
-    (elim (row.dest == q) as (λ b. cond b (Some row.source) (option_map (λ (row : Row). row.source) (find (is_of q) rows)) ≡ option_map (λ (row : Row). row.source) (cond b (Some row) (find (is_of q) rows))) [ true ↦ refl | false ↦ refl ])
+    (elim (row.dest == q) as (λ b. cond b (Some (local row.source)) (option_map (λ (row : Row). local row.source) (find (is_of q) rows)) ≡ option_map (λ (row : Row). local row.source) (cond b (Some row) (find (is_of q) rows))) [ true ↦ refl | false ↦ refl ])
 
 -- what rows say of a destination
-pub get-rows : (rows : List Row) (q : ℕ) → finite.get (crosspoints_of rows) q ≡ option_map (λ row. row.source) (find (is_of q) rows)
-get-rows rows q = finite.get-from_entries nat_cmp_total (map (λ (row : Row). (row.dest, row.source)) rows) q ∙ find-rows rows q
+pub get-rows : (rows : List Row) (q : ℕ) → finite.get (crosspoints_of rows) q ≡ option_map (λ row. local row.source) (find (is_of q) rows)
+get-rows rows q = finite.get-from_entries nat_cmp_total (map (λ (row : Row). (row.dest, local row.source)) rows) q ∙ find-rows rows q
+
+-- what rows say of a destination's source
+pub source_of-rows : (rows : List Row) (q : ℕ) → source_of (crosspoints_of rows) q ≡ option_map (λ row. row.source) (find (is_of q) rows)
+source_of-rows rows q =
+    rw (get-rows rows q) (elim (find (is_of q) rows) as (λ o. option_map (λ (spot : Spot). spot.source) (option_map (λ (row : Row). local row.source) o) ≡ option_map (λ (row : Row). row.source) o) [ None ↦ refl | Some row ↦ refl ])
 
 -- where no place is found, no row is
 pub absent : (rows : List Row) (dest : ℕ) → position (is_of dest) rows ≡ None → find (is_of dest) rows ≡ None
@@ -46,20 +52,20 @@ absent rows dest h =
 
 -- rows that differ at one destination make maps that differ there
 one_given : (rows news : List Row) (row : Row) → ((q : ℕ) → find (is_of q) news ≡ cond (row.dest == q) (Some row) (find (is_of q) rows)) →
-    crosspoints_of news ≡ finite.insert (crosspoints_of rows) row.dest row.source
+    crosspoints_of news ≡ finite.insert (crosspoints_of rows) row.dest (local row.source)
 one_given rows news row h = finite.same_map nat_cmp_total finite.nat_cmp-IsAntisymmetric _ _ (λ q.
     get-rows news q
-    ∙ ap (option_map (λ (row : Row). row.source)) (h q)
+    ∙ ap (option_map (λ (row : Row). local row.source)) (h q)
     ∙ cond_map (row.dest == q) row (find (is_of q) rows)
-    ∙ sym (finite.get-insert nat_cmp_total (crosspoints_of rows) row.dest row.source q ∙ (rw (tied q row.dest, get-rows rows q) refl)))
+    ∙ sym (finite.get-insert nat_cmp_total (crosspoints_of rows) row.dest (local row.source) q ∙ (rw (tied q row.dest, get-rows rows q) refl)))
   where
-    cond_map : (b : Bool) (row : Row) (found : Option Row) → option_map (λ (row : Row). row.source) (cond b (Some row) found) ≡ cond b (Some row.source) (option_map (λ (row : Row). row.source) found)
+    cond_map : (b : Bool) (row : Row) (found : Option Row) → option_map (λ (row : Row). local row.source) (cond b (Some row) found) ≡ cond b (Some (local row.source)) (option_map (λ (row : Row). local row.source) found)
     cond_map true row found = refl
     cond_map false row found = refl
 
 -- a row that is written at the place of its destination
 pub set-insert : (rows : List Row) (at : ℕ) (row : Row) → position (is_of row.dest) rows ≡ Some at →
-    crosspoints_of (slice_set rows at row) ≡ finite.insert (crosspoints_of rows) row.dest row.source
+    crosspoints_of (slice_set rows at row) ≡ finite.insert (crosspoints_of rows) row.dest (local row.source)
 set-insert rows at row h = one_given rows (slice_set rows at row) row (λ q.
     let place = position-Some (is_of row.dest) rows at row h in
     let there : (get_or rows at row).dest ≡ row.dest = eqb-true _ _ place.1 in
@@ -77,9 +83,9 @@ set-insert rows at row h = one_given rows (slice_set rows at row) row (λ q.
         elim (nat_lt place (length rows)) as (λ b. cond b (Some place) None ≡ Some at → at ≡ place) [ true ↦ λ e. cc | false ↦ λ e. cc ] h
 
 -- a row behind the others, none of which is of its destination
-pub push-insert : (rows : List Row) (row : Row) → find (is_of row.dest) rows ≡ None → crosspoints_of (rows ++ row ∷ []) ≡ finite.insert (crosspoints_of rows) row.dest row.source
+pub push-insert : (rows : List Row) (row : Row) → find (is_of row.dest) rows ≡ None → crosspoints_of (rows ++ row ∷ []) ≡ finite.insert (crosspoints_of rows) row.dest (local row.source)
 push-insert rows row h =
-    rw map-append (finite.from_entries_push nat_cmp_total finite.nat_cmp-IsAntisymmetric (map (λ (row : Row). (row.dest, row.source)) rows) row.dest row.source (find-rows rows row.dest ∙ ap (option_map (λ (row : Row). row.source)) h))
+    rw map-append (finite.from_entries_push nat_cmp_total finite.nat_cmp-IsAntisymmetric (map (λ (row : Row). (row.dest, local row.source)) rows) row.dest (local row.source) (find-rows rows row.dest ∙ ap (option_map (λ (row : Row). local row.source)) h))
 
 either : {A : Type 0} (b : Bool) (x : A) → x ≡ cond b x x
 either true x = refl
@@ -110,11 +116,11 @@ find-filter (row ∷ rows) dest q =
 pub filter-remove : (rows : List Row) (dest : ℕ) → crosspoints_of (filter (λ row. not (row.dest == dest)) rows) ≡ finite.remove (crosspoints_of rows) dest
 filter-remove rows dest = finite.same_map nat_cmp_total finite.nat_cmp-IsAntisymmetric _ _ (λ q.
     get-rows (filter (λ (row : Row). not (row.dest == dest)) rows) q
-    ∙ ap (option_map (λ (row : Row). row.source)) (find-filter rows dest q)
+    ∙ ap (option_map (λ (row : Row). local row.source)) (find-filter rows dest q)
     ∙ cond_map (dest == q) (find (is_of q) rows)
     ∙ sym (finite.get-remove nat_cmp_total (crosspoints_of rows) dest q ∙ (rw (tied q dest, get-rows rows q) refl)))
   where
-    cond_map : (b : Bool) (found : Option Row) → option_map (λ (row : Row). row.source) (cond b None found) ≡ cond b None (option_map (λ (row : Row). row.source) found)
+    cond_map : (b : Bool) (found : Option Row) → option_map (λ (row : Row). local row.source) (cond b None found) ≡ cond b None (option_map (λ (row : Row). local row.source) found)
     cond_map true found = refl
     cond_map false found = refl
 

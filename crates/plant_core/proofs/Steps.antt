@@ -1,32 +1,32 @@
--- What steps leave.
-use Rattle.std.proofs.Common.{◌≡◌, ◌≢◌, ℕ, true, false, cond, [], ◌∷◌, Option, Some, None, refl, sym, ap, subst, ◌∙◌}
+-- What steps leave, and how they are answered.
+use Rattle.std.proofs.Common.{◌≡◌, ◌≢◌, ℕ, List, [], ◌∷◌, All, Option, Some, None, IsSome, IsNone, IfSome, suc, refl, sym, ap, subst, ◌∙◌, arith}
 use Rattle.std.specs.Option.{option_map, option_and_then}
-use Rattle.std.specs.Ordering.{nat_cmp, eq_by_cmp}
-use Rattle.std.specs.Cmp.{nat_cmp_total, unsigned_tied}
 use Rattle.std.specs.FinMap as finite
-use Rattle.std.proofs.lemmas.Bool.{eqb-true, eq-eqb}
+use Rattle.std.specs.Ordering.{nat_cmp}
+use Rattle.std.proofs.lemmas.List.Elements.{All-nil, All-push}
 use Rattle.swp08_messages.specs.declared.point.Point.{Point}
 use Rattle.swp08_messages.specs.declared.message.Message.{Message}
 use Rattle.swp08_messages.specs.declared.message.Message.TheVariants.{Interrogate, Connect, Tally, Connected}
 use Rattle.plant_config.specs.declared.records.Point as places
 use Rattle.plant_config.specs.declared.records.Change.{Change}
-use Rattle.plant_config.specs.Plant.{PlantData, IsPlant, dest_at, source_at, source_number_of}
-use Rattle.plant_config.proofs.Places.{dest_at-point_of, source_at-source_number_of}
+use Rattle.plant_config.specs.Plant.{PlantData, IsPlant}
+use Rattle.plant_config.specs.Sites.{dest_at, source_at, source_number_of}
+use Rattle.plant_config.proofs.SiteLemmas.{dest_at-point_of, source_at-source_number_of}
 use Rattle.plant_core.specs.declared.request.Request.{Request}
 use Rattle.plant_core.specs.declared.request.Request.TheVariants.{Told}
 use Rattle.plant_core.specs.declared.answer.Answer.TheVariants.{Say}
-use Rattle.plant_core.specs.State.{State, Crosspoints, IsValid, standing, applied}
-use Rattle.plant_core.specs.Step.{step, told, connected, wanted, change_of}
-use Rattle.plant_core.specs.Laws.{ChangesOnly}
+use Rattle.plant_core.specs.State.{Spot, State, IsValid, IsChangeOf, source_of, standing, applied, start}
+use Rattle.plant_core.specs.Step.{step, answered, connected, wanted, change_of}
+use Rattle.plant_core.specs.Laws.{AnswersWith, IsConnectable, IsMade, IsNotMade, LeavesAlone, after}
 use Rattle.plant_core.proofs.Validity.{change_of-is, change_of-IsChangeOf, IsValid-applied}
+use Rattle.plant_core.proofs.Changes.{source_of-applied, get-applied_other}
 
 IsValid-connected : (state : State) (at : Point) (source : Option ℕ) → IsValid state → IsValid (connected state at source (change_of state.plant at source)).state
 IsValid-connected state at source valid =
     elim (change_of state.plant at source) as (λ o. change_of state.plant at source ≡ o → IsValid (connected state at source o).state) [
       | None ↦ λ h. valid
       | Some change ↦ λ h.
-          let permitted = change_of-IsChangeOf state.plant at source change valid.is_plant h in
-          IsValid-applied state change.dest change.source valid permitted.source
+          IsValid-applied state.plant state.crosspoints (change ∷ []) valid (All-push (IsChangeOf state.plant) [] change (All-nil (IsChangeOf state.plant)) (change_of-IsChangeOf state.plant at source change valid.is_plant h))
     ] refl
 
 -- every step leaves a valid state
@@ -35,12 +35,6 @@ IsValid-step state (Told panel item (Interrogate at)) valid = valid
 IsValid-step state (Told panel item (Connect at source)) valid = IsValid-connected state at source valid
 IsValid-step state (Told panel item (Tally at source)) valid = valid
 IsValid-step state (Told panel item (Connected at source)) valid = valid
-
--- a change is of its destination alone
-get-applied : (crosspoints : Crosspoints) (dest : ℕ) (source : Option ℕ) (q : ℕ) →
-    finite.get (applied crosspoints (record { dest = dest; source = source })) q ≡ cond (eq_by_cmp nat_cmp q dest) source (finite.get crosspoints q)
-get-applied crosspoints dest None q = finite.get-remove nat_cmp_total crosspoints dest q
-get-applied crosspoints dest (Some source) q = finite.get-insert nat_cmp_total crosspoints dest source q
 
 -- what a destination was to carry, read as a number of its level, is what was asked for
 wanted-number : (plant : PlantData) (at : Point) (source carried : Option ℕ) → IsPlant plant → wanted plant at source ≡ Some carried → option_and_then (source_number_of plant) carried ≡ source
@@ -64,58 +58,140 @@ one_place plant at place dest is first second =
     let same : there ≡ here = cc in
     λ i. record { matrix = (same i).matrix; level = (same i).level; dest = (same i).dest }
 
--- a connect that is told as made asked for a change
-made : (state : State) (at : Point) (source : Option ℕ) → (connected state at source (change_of state.plant at source)).answers ≡ Say (Connected at source) ∷ [] → (change : Change) × (change_of state.plant at source ≡ Some change)
-made state at source h =
-    elim (change_of state.plant at source) as (λ o. (connected state at source o).answers ≡ Say (Connected at source) ∷ [] → (change : Change) × (o ≡ Some change)) [
+-- a place that may be given a source asks for a change, and no other does
+connectable-change_of : (plant : PlantData) (at : Point) (source : Option ℕ) → IsConnectable plant at source → (change : Change) × (change_of plant at source ≡ Some change)
+connectable-change_of plant at source is =
+    let Asks : Option ℕ → Type 0 = λ o. (change : Change) × (option_and_then (λ (dest : ℕ). option_map (λ (carried : Option ℕ). let c : Change = record { dest = dest; source = carried } in c) (wanted plant at source)) o ≡ Some change) in
+    elim (dest_at plant at.matrix at.level at.dest) as (λ o. IsSome o → Asks o) [
       | None ↦ λ e. cc
-      | Some change ↦ λ e. (change, refl)
-    ] h
+      | Some dest ↦ λ e.
+          let carried = wanted_some plant at source is.has_source in
+          (record { dest = dest; source = carried.0 }, rw carried.1 refl)
+    ] is.has_place
+  where
+    wanted_some : (plant : PlantData) (at : Point) (source : Option ℕ) → IfSome source (λ number. IsSome (source_at plant at.matrix at.level number)) → (carried : Option ℕ) × (wanted plant at source ≡ Some carried)
+    wanted_some plant at None has = (None, refl)
+    wanted_some plant at (Some number) has =
+        elim (source_at plant at.matrix at.level number) as (λ o. IsSome o → (carried : Option ℕ) × (option_map Some o ≡ Some carried)) [
+          | None ↦ λ e. cc
+          | Some source ↦ λ e. (Some source, refl)
+        ] has
 
-standing-applied : (state : State) (at : Point) (source : Option ℕ) (change : Change) → IsPlant state.plant → change_of state.plant at source ≡ Some change → standing (record state { crosspoints = applied state.crosspoints change }) at ≡ source
-standing-applied state at source change is h =
+change_of-connectable : (plant : PlantData) (at : Point) (source : Option ℕ) (change : Change) → change_of plant at source ≡ Some change → IsConnectable plant at source
+change_of-connectable plant at source change h =
+    let parts = change_of-is plant at source change h in
+    record { has_place = rw parts.0 refl; has_source = has plant at source change.source parts.1 }
+  where
+    has : (plant : PlantData) (at : Point) (source carried : Option ℕ) → wanted plant at source ≡ Some carried → IfSome source (λ number. IsSome (source_at plant at.matrix at.level number))
+    has plant at None carried h = tt
+    has plant at (Some number) carried h =
+        elim (source_at plant at.matrix at.level number) as (λ o. option_map Some o ≡ Some carried → IsSome o) [
+          | None ↦ λ e. cc
+          | Some source ↦ λ e. refl
+        ] h
+
+standing-applied : (state : State) (at : Point) (source : Option ℕ) (change : Change) → IsValid state → change_of state.plant at source ≡ Some change → standing (record state { crosspoints = applied state.crosspoints (change ∷ []) }) at ≡ source
+standing-applied state at source change valid h =
     let parts = change_of-is state.plant at source change h in
-    let tied = unsigned_tied change.dest change.dest ∙ eq-eqb change.dest change.dest refl in
-    rw (parts.0, get-applied state.crosspoints change.dest change.source change.dest, tied) (wanted-number state.plant at source change.source is parts.1)
+    ap (option_and_then (λ (dest : ℕ). option_and_then (source_number_of state.plant) (source_of (applied state.crosspoints (change ∷ [])) dest))) parts.0
+    ∙ ap (option_and_then (source_number_of state.plant)) (source_of-applied state.crosspoints change valid.ties)
+    ∙ wanted-number state.plant at source change.source valid.is_plant parts.1
 
-standing-others : (state : State) (at : Point) (source : Option ℕ) (change : Change) (place : Point) → IsPlant state.plant → change_of state.plant at source ≡ Some change → place ≢ at →
-    standing (record state { crosspoints = applied state.crosspoints change }) place ≡ standing state place
-standing-others state at source change place is h other =
+standing-others : (state : State) (at : Point) (source : Option ℕ) (change : Change) (place : Point) → IsValid state → change_of state.plant at source ≡ Some change → place ≢ at →
+    standing (record state { crosspoints = applied state.crosspoints (change ∷ []) }) place ≡ standing state place
+standing-others state at source change place valid h other =
     let parts = change_of-is state.plant at source change h in
     elim (dest_at state.plant place.matrix place.level place.dest) as (λ o. dest_at state.plant place.matrix place.level place.dest ≡ o →
-    option_and_then (λ (dest : ℕ). option_and_then (source_number_of state.plant) (finite.get (applied state.crosspoints change) dest)) o
-    ≡ option_and_then (λ (dest : ℕ). option_and_then (source_number_of state.plant) (finite.get state.crosspoints dest)) o) [
+    option_and_then (λ (dest : ℕ). option_and_then (source_number_of state.plant) (source_of (applied state.crosspoints (change ∷ [])) dest)) o
+    ≡ option_and_then (λ (dest : ℕ). option_and_then (source_number_of state.plant) (source_of state.crosspoints dest)) o) [
       | None ↦ λ none. refl
-      | Some dest ↦ λ found. rw (get-applied state.crosspoints change.dest change.source dest)
-          (elim (eq_by_cmp nat_cmp dest change.dest) as (λ b. eq_by_cmp nat_cmp dest change.dest ≡ b → option_and_then (source_number_of state.plant) (cond b change.source (finite.get state.crosspoints dest)) ≡ option_and_then (source_number_of state.plant) (finite.get state.crosspoints dest)) [
-            | true ↦ λ tied.
-                let same : dest ≡ change.dest = eqb-true dest change.dest (sym (unsigned_tied dest change.dest) ∙ tied) in
-                absurd (other (one_place state.plant at place change.dest is parts.0 (found ∙ ap Some same)))
-            | false ↦ λ apart. refl
-          ] refl)
+      | Some dest ↦ λ found.
+          let apart : dest ≢ change.dest = λ same. other (one_place state.plant at place change.dest valid.is_plant parts.0 (found ∙ ap Some same)) in
+          ap (λ (o : Option Spot). option_and_then (source_number_of state.plant) (option_map (λ (spot : Spot). spot.source) o)) (get-applied_other state.crosspoints change dest valid.ties apart)
     ] refl
 
--- a connect that is told as made is seen, and changes no other place
-pub connect-ChangesOnly : (state : State) (panel item : ℕ) (at : Point) (source : Option ℕ) → IsValid state → (step state (Told panel item (Connect at source))).answers ≡ Say (Connected at source) ∷ [] →
-    ChangesOnly state (step state (Told panel item (Connect at source))).state at source
-connect-ChangesOnly state panel item at source valid h =
-    let change = made state at source h in
-    rw change.1 (record {
-      seen = λ panel item. ap (λ s. Say (Tally at s) ∷ []) (standing-applied state at source change.0 valid.is_plant change.1);
-      others = λ place stands other tells. λ panel item.
-          ap (λ s. Say (Tally place s) ∷ []) (standing-others state at source change.0 place valid.is_plant change.1 other) ∙ tells panel item;
-    })
+-- an interrogate is answered with the source that stands, and with nothing else
+stands-answers : (state : State) (at : Point) (source : Option ℕ) → standing state at ≡ source → AnswersWith state at source
+stands-answers state at source h panel item = ap (λ s. Say (Tally at s) ∷ []) h
+
+answers-stands : (state : State) (at : Point) (source : Option ℕ) → AnswersWith state at source → standing state at ≡ source
+answers-stands state at source answers = let h = answers 0 0 in cc
+
+-- a connect that asks for a change is made, and any other isn't
+made : (state : State) (panel item : ℕ) (at : Point) (source : Option ℕ) (change : Change) → IsValid state → change_of state.plant at source ≡ Some change → IsMade state at source (step state (Told panel item (Connect at source)))
+made state panel item at source change valid h = rw h (record {
+  answer = refl;
+  stands = stands-answers (record state { crosspoints = applied state.crosspoints (change ∷ []) }) at source (standing-applied state at source change valid h);
+  unmoved = λ dest elsewhere. get-applied_other state.crosspoints change dest valid.ties (λ same. elsewhere ((change_of-is state.plant at source change h).0 ∙ ap Some (sym same)));
+  others = λ place stands other answers.
+      stands-answers (record state { crosspoints = applied state.crosspoints (change ∷ []) }) place stands (standing-others state at source change place valid h other ∙ answers-stands state place stands answers);
+})
+
+not_made : (state : State) (panel item : ℕ) (at : Point) (source : Option ℕ) → change_of state.plant at source ≡ None → IsNotMade state at (step state (Told panel item (Connect at source)))
+not_made state panel item at source h = rw h (record {
+  standing = standing state at;
+  stands = stands-answers state at (standing state at) refl;
+  answer = refl;
+  state = refl;
+})
+
+pub connect-IsMade : (state : State) (panel item : ℕ) (at : Point) (source : Option ℕ) → IsValid state → IsConnectable state.plant at source → IsMade state at source (step state (Told panel item (Connect at source)))
+connect-IsMade state panel item at source valid is =
+    let asks = connectable-change_of state.plant at source is in
+    made state panel item at source asks.0 valid asks.1
+
+pub connect-IsNotMade : (state : State) (panel item : ℕ) (at : Point) (source : Option ℕ) → ¬ IsConnectable state.plant at source → IsNotMade state at (step state (Told panel item (Connect at source)))
+connect-IsNotMade state panel item at source not =
+    elim (change_of state.plant at source) as (λ o. change_of state.plant at source ≡ o → IsNotMade state at (step state (Told panel item (Connect at source)))) [
+      | None ↦ λ h. not_made state panel item at source h
+      | Some change ↦ λ h. absurd (not (change_of-connectable state.plant at source change h))
+    ] refl
+
+-- what doesn't connect a place leaves the source that stands there
+keeps-connect : (state : State) (panel item : ℕ) (place at : Point) (source stands : Option ℕ) → IsValid state → place ≢ at → AnswersWith state place stands → AnswersWith (step state (Told panel item (Connect at source))).state place stands
+keeps-connect state panel item place at source stands valid other answers =
+    elim (change_of state.plant at source) as (λ o. change_of state.plant at source ≡ o → AnswersWith (step state (Told panel item (Connect at source))).state place stands) [
+      | None ↦ λ h. subst (λ (s : State). AnswersWith s place stands) (sym (not_made state panel item at source h).state) answers
+      | Some change ↦ λ h. (made state panel item at source change valid h).others place stands other answers
+    ] refl
+
+keeps : (state : State) (place : Point) (request : Request) (stands : Option ℕ) → IsValid state → LeavesAlone place request → AnswersWith state place stands → AnswersWith (step state request).state place stands
+keeps state place (Told panel item (Interrogate at)) stands valid alone answers = answers
+keeps state place (Told panel item (Connect at source)) stands valid alone answers =
+    keeps-connect state panel item place at source stands valid (λ same. alone panel item source (ap (λ (at : Point). Told panel item (Connect at source)) (sym same))) answers
+keeps state place (Told panel item (Tally at source)) stands valid alone answers = answers
+keeps state place (Told panel item (Connected at source)) stands valid alone answers = answers
+
+pub keep : (state : State) (place : Point) (later : List Request) (stands : Option ℕ) → IsValid state → All (LeavesAlone place) later → AnswersWith state place stands → AnswersWith (after state later) place stands
+keep state place [] stands valid alone answers = answers
+keep state place (request ∷ later) stands valid alone answers =
+    keep (step state request).state place later stands (IsValid-step state request valid) (λ k d below. alone (suc k) d (omega arith)) (keeps state place request stands valid (alone 0 request (omega arith)) answers)
+
+-- before the first connect, and outside the plant
+pub start-parked : (plant : PlantData) (at : Point) → AnswersWith (start plant) at None
+start-parked plant at = stands-answers (start plant) at None (
+    elim (dest_at plant at.matrix at.level at.dest) as (λ o. option_and_then (λ (dest : ℕ). option_and_then (source_number_of plant) (source_of (start plant).crosspoints dest)) o ≡ None) [
+      | None ↦ refl
+      | Some dest ↦ ap (λ (o : Option Spot). option_and_then (source_number_of plant) (option_map (λ (spot : Spot). spot.source) o)) (finite.get-empty {X = Spot} nat_cmp dest)
+    ])
+
+pub outside-parked : (state : State) (at : Point) → IsNone (dest_at state.plant at.matrix at.level at.dest) → AnswersWith state at None
+outside-parked state at none = stands-answers state at None (
+    elim (dest_at state.plant at.matrix at.level at.dest) as (λ o. IsNone o → option_and_then (λ (dest : ℕ). option_and_then (source_number_of state.plant) (source_of state.crosspoints dest)) o ≡ None) [
+      | None ↦ λ e. refl
+      | Some dest ↦ λ e. cc
+    ] none)
 
 same_plant : (state : State) (at : Point) (source : Option ℕ) (change : Option Change) → (connected state at source change).state.plant ≡ state.plant
 same_plant state at source None = refl
 same_plant state at source (Some change) = refl
 
 -- no message and no step changes the plant
-pub plant-told : (state : State) (message : Message) → (told state message).state.plant ≡ state.plant
-plant-told state (Interrogate at) = refl
-plant-told state (Connect at source) = same_plant state at source (change_of state.plant at source)
-plant-told state (Tally at source) = refl
-plant-told state (Connected at source) = refl
+pub plant-answered : (state : State) (message : Message) → (answered state message).state.plant ≡ state.plant
+plant-answered state (Interrogate at) = refl
+plant-answered state (Connect at source) = same_plant state at source (change_of state.plant at source)
+plant-answered state (Tally at source) = refl
+plant-answered state (Connected at source) = refl
 
 pub plant-step : (state : State) (request : Request) → (step state request).state.plant ≡ state.plant
-plant-step state (Told panel item message) = plant-told state message
+plant-step state (Told panel item message) = plant-answered state message

@@ -1,21 +1,24 @@
 -- Which states are valid, and what that says of the sources in them.
-use Rattle.std.proofs.Common.{◌≡◌, ℕ, ◌<◌, true, false, cond, Option, Some, None, IfSome, refl, sym, ap, subst, ◌∙◌}
+use Rattle.std.proofs.Common.{◌≡◌, ℕ, ◌<◌, true, false, not, cond, List, [], ◌∷◌, All, filter, Option, Some, None, IfSome, suc, refl, sym, ap, subst, ◌∙◌, arith}
 use Rattle.std.specs.Option.{option_map, option_and_then}
 use Rattle.std.specs.Ordering.{nat_cmp, eq_by_cmp}
 use Rattle.std.specs.Cmp.{nat_cmp_total, unsigned_tied}
 use Rattle.std.specs.FinMap as finite
 use Rattle.std.proofs.lemmas.Bool.{eqb-true}
+use Rattle.std.proofs.lemmas.List.Elements.{All-filter}
 use Rattle.swp08_messages.specs.declared.point.Point.{Point}
-use Rattle.plant_config.specs.Plant.{PlantData, IsPlant, dest_at, source_at, sources_of}
+use Rattle.plant_config.specs.Plant.{PlantData, IsPlant, sources_of}
+use Rattle.plant_config.specs.Sites.{dest_at, source_at}
 use Rattle.plant_config.specs.declared.records.Change.{Change}
-use Rattle.plant_config.proofs.Places.{dest_at-below, source_at-below}
-use Rattle.plant_core.specs.State.{State, IsCrosspoint, IsChangeOf, IsValid, start, applied}
+use Rattle.plant_config.proofs.SiteLemmas.{dest_at-below, source_at-below}
+use Rattle.plant_core.specs.State.{Spot, Crosspoints, IsCrosspoint, IsChangeOf, IsValid, start, source_of, is_idle, released, given, all_given, applied}
 use Rattle.plant_core.specs.Step.{wanted, change_of}
 
 pub IsValid-start : (plant : PlantData) → IsPlant plant → IsValid (start plant)
 IsValid-start plant is = record {
   is_plant = is;
-  is_crosspoint = λ dest source h. let parked = finite.get-empty {X = ℕ} nat_cmp dest in cc;
+  is_crosspoint = λ dest spot h. let parked = finite.get-empty {X = Spot} nat_cmp dest in cc;
+  ties = λ dest spot h. let parked = finite.get-empty {X = Spot} nat_cmp dest in cc;
 }
 
 -- a source that stands somewhere is of the plant
@@ -23,28 +26,75 @@ pub IsCrosspoint-below : (plant : PlantData) (dest source : ℕ) → IsPlant pla
 IsCrosspoint-below plant dest source is crosspoint =
     source_at-below plant crosspoint.matrix crosspoint.level crosspoint.source_number source is crosspoint.source_is
 
-pub IsValid-insert : (state : State) (dest source : ℕ) → IsValid state → IsCrosspoint state.plant dest source → IsValid (record state { crosspoints = finite.insert state.crosspoints dest source })
-IsValid-insert state dest source valid given = record {
-  is_plant = valid.is_plant;
-  is_crosspoint = λ q standing h.
-      elim (eq_by_cmp nat_cmp q dest) as (λ b. eq_by_cmp nat_cmp q dest ≡ b → cond b (Some source) (finite.get state.crosspoints q) ≡ Some standing → IsCrosspoint state.plant q standing) [
+-- a destination that has a source has a spot with it
+pub source_of-spot : (crosspoints : Crosspoints) (dest source : ℕ) → source_of crosspoints dest ≡ Some source → (spot : Spot) × (finite.get crosspoints dest ≡ Some spot) × (spot.source ≡ source)
+source_of-spot crosspoints dest source h =
+    elim (finite.get crosspoints dest) as (λ o. option_map (λ (spot : Spot). spot.source) o ≡ Some source → (spot : Spot) × (o ≡ Some spot) × (spot.source ≡ source)) [
+      | None ↦ λ e. cc
+      | Some spot ↦ λ e. (spot, refl, cc)
+    ] h
+
+module _ (plant : PlantData) where
+  -- what holds of each spot holds of each behind an insert, where it holds of the new one
+  spots-insert : (P : ℕ → Spot → Type 0) (crosspoints : Crosspoints) (dest : ℕ) (spot : Spot) → ((q : ℕ) (s : Spot) → finite.get crosspoints q ≡ Some s → P q s) → P dest spot →
+      (q : ℕ) (s : Spot) → finite.get (finite.insert crosspoints dest spot) q ≡ Some s → P q s
+  spots-insert P crosspoints dest spot all new q s h =
+      elim (eq_by_cmp nat_cmp q dest) as (λ b. eq_by_cmp nat_cmp q dest ≡ b → cond b (Some spot) (finite.get crosspoints q) ≡ Some s → P q s) [
         | true ↦ λ tied e.
             let here : q ≡ dest = eqb-true q dest (sym (unsigned_tied q dest) ∙ tied) in
-            let same : source ≡ standing = cc in
-            subst (λ q. IsCrosspoint state.plant q standing) (sym here) (subst (IsCrosspoint state.plant dest) same given)
-        | false ↦ λ apart e. valid.is_crosspoint q standing e
-      ] refl (sym (finite.get-insert nat_cmp_total state.crosspoints dest source q) ∙ h);
-}
+            let same : spot ≡ s = cc in
+            subst (λ q. P q s) (sym here) (subst (P dest) same new)
+        | false ↦ λ apart e. all q s e
+      ] refl (sym (finite.get-insert nat_cmp_total crosspoints dest spot q) ∙ h)
 
-pub IsValid-remove : (state : State) (dest : ℕ) → IsValid state → IsValid (record state { crosspoints = finite.remove state.crosspoints dest })
-IsValid-remove state dest valid = record {
-  is_plant = valid.is_plant;
-  is_crosspoint = λ q standing h.
-      elim (eq_by_cmp nat_cmp q dest) as (λ b. cond b None (finite.get state.crosspoints q) ≡ Some standing → IsCrosspoint state.plant q standing) [
+  spots-remove : (P : ℕ → Spot → Type 0) (crosspoints : Crosspoints) (dest : ℕ) → ((q : ℕ) (s : Spot) → finite.get crosspoints q ≡ Some s → P q s) →
+      (q : ℕ) (s : Spot) → finite.get (finite.remove crosspoints dest) q ≡ Some s → P q s
+  spots-remove P crosspoints dest all q s h =
+      elim (eq_by_cmp nat_cmp q dest) as (λ b. cond b None (finite.get crosspoints q) ≡ Some s → P q s) [
         | true ↦ λ e. cc
-        | false ↦ λ e. valid.is_crosspoint q standing e
-      ] (sym (finite.get-remove nat_cmp_total state.crosspoints dest q) ∙ h);
-}
+        | false ↦ λ e. all q s e
+      ] (sym (finite.get-remove nat_cmp_total crosspoints dest q) ∙ h)
+
+  pub IsValid-insert : (crosspoints : Crosspoints) (dest source : ℕ) → IsValid (record { plant = plant; crosspoints = crosspoints }) → IsCrosspoint plant dest source →
+      IsValid (record { plant = plant; crosspoints = finite.insert crosspoints dest (record { source = source; tie = None }) })
+  IsValid-insert crosspoints dest source valid is = record {
+    is_plant = valid.is_plant;
+    is_crosspoint = spots-insert (λ q s. IsCrosspoint plant q s.source) crosspoints dest _ valid.is_crosspoint is;
+    ties = spots-insert (λ q s. s.tie ≡ None) crosspoints dest _ valid.ties refl;
+  }
+
+  pub IsValid-remove : (crosspoints : Crosspoints) (dest : ℕ) → IsValid (record { plant = plant; crosspoints = crosspoints }) →
+      IsValid (record { plant = plant; crosspoints = finite.remove crosspoints dest })
+  IsValid-remove crosspoints dest valid = record {
+    is_plant = valid.is_plant;
+    is_crosspoint = spots-remove (λ q s. IsCrosspoint plant q s.source) crosspoints dest valid.is_crosspoint;
+    ties = spots-remove (λ q s. s.tie ≡ None) crosspoints dest valid.ties;
+  }
+
+  IsValid-released : (crosspoints : Crosspoints) (changes : List Change) → IsValid (record { plant = plant; crosspoints = crosspoints }) →
+      IsValid (record { plant = plant; crosspoints = released crosspoints changes })
+  IsValid-released crosspoints [] valid = valid
+  IsValid-released crosspoints (change ∷ changes) valid =
+      IsValid-released (finite.remove crosspoints change.dest) changes (IsValid-remove crosspoints change.dest valid)
+
+  IsValid-given : (crosspoints : Crosspoints) (dest : ℕ) (source : Option ℕ) → IsValid (record { plant = plant; crosspoints = crosspoints }) → IfSome source (IsCrosspoint plant dest) →
+      IsValid (record { plant = plant; crosspoints = given crosspoints dest source })
+  IsValid-given crosspoints dest None valid is = valid
+  IsValid-given crosspoints dest (Some source) valid is = IsValid-insert crosspoints dest source valid is
+
+  IsValid-all_given : (crosspoints : Crosspoints) (changes : List Change) → IsValid (record { plant = plant; crosspoints = crosspoints }) → All (IsChangeOf plant) changes →
+      IsValid (record { plant = plant; crosspoints = all_given crosspoints changes })
+  IsValid-all_given crosspoints [] valid all = valid
+  IsValid-all_given crosspoints (change ∷ changes) valid all =
+      let first : IsChangeOf plant change = all 0 change (omega arith) in
+      IsValid-all_given (given crosspoints change.dest change.source) changes (IsValid-given crosspoints change.dest change.source valid first.source) (λ k d below. all (suc k) d (omega arith))
+
+  -- a list of changes keeps a state valid
+  pub IsValid-applied : (crosspoints : Crosspoints) (changes : List Change) → IsValid (record { plant = plant; crosspoints = crosspoints }) → All (IsChangeOf plant) changes →
+      IsValid (record { plant = plant; crosspoints = applied crosspoints changes })
+  IsValid-applied crosspoints changes valid all =
+      let busy : List Change = filter (λ (change : Change). not (is_idle crosspoints change)) changes in
+      IsValid-all_given (released crosspoints busy) busy (IsValid-released crosspoints busy valid) (All-filter _ (IsChangeOf plant) changes all)
 
 -- what a connect asks for is of the level of its destination
 wanted-IfSome : (plant : PlantData) (at : Point) (source carried : Option ℕ) (dest : ℕ) → dest_at plant at.matrix at.level at.dest ≡ Some dest → wanted plant at source ≡ Some carried → IfSome carried (IsCrosspoint plant dest)
@@ -89,9 +139,3 @@ change_of-IsChangeOf plant at source change is h =
       dest = dest_at-below plant at.matrix at.level at.dest change.dest is parts.0;
       source = wanted-IfSome plant at source change.source change.dest parts.0 parts.1;
     }
-
--- a change keeps a state valid
-pub IsValid-applied : (state : State) (dest : ℕ) (source : Option ℕ) → IsValid state → IfSome source (IsCrosspoint state.plant dest) →
-    IsValid (record state { crosspoints = applied state.crosspoints (record { dest = dest; source = source }) })
-IsValid-applied state dest None valid given = IsValid-remove state dest valid
-IsValid-applied state dest (Some source) valid given = IsValid-insert state dest source valid given

@@ -1,10 +1,11 @@
--- What an event does to the state, and what is answered.
+-- What an event does to the state, and how it is answered.
 use Rattle.std.specs.Prelude.{ℕ, List, [], ◌∷◌, Option, Some, None}
 use Rattle.std.specs.Option.{option_map, option_and_then}
 use Rattle.swp08_messages.specs.declared.point.Point.{Point}
 use Rattle.swp08_messages.specs.declared.message.Message.{Message}
 use Rattle.swp08_messages.specs.declared.message.Message.TheVariants.{Interrogate, Connect, Tally, Connected}
-use Rattle.plant_config.specs.Plant.{PlantData, dest_at, source_at}
+use Rattle.plant_config.specs.Plant.{PlantData}
+use Rattle.plant_config.specs.Sites.{dest_at, source_at}
 use Rattle.plant_config.specs.declared.records.Change.{Change}
 use Rattle.plant_core.specs.declared.request.Request.{Request}
 use Rattle.plant_core.specs.declared.request.Request.TheVariants.{Told}
@@ -17,7 +18,7 @@ pub record Stepped : Type 0 where
   pub state : State
   pub answers : List Answer
 
--- nothing is changed, and this is said
+-- nothing is changed, and this is answered
 abbrev pub says : State → Message → Stepped
 says state message = record { state = state; answers = Say message ∷ [] }
 
@@ -31,20 +32,20 @@ abbrev pub change_of : PlantData → Point → Option ℕ → Option Change
 change_of plant at source =
     option_and_then (λ dest. option_map (λ carried. record { dest = dest; source = carried }) (wanted plant at source)) (dest_at plant at.matrix at.level at.dest)
 
--- A connect is made and told as made where it is permitted, which is where it is in range; else the source that stands
--- is told.
+-- A connect is made as a list of one change, and answered as made, where it is in range; else the answer is the source
+-- that stands.
 abbrev pub connected : State → Point → Option ℕ → Option Change → Stepped
 connected state at source None = says state (Tally at (standing state at))
 connected state at source (Some change) =
-    says (record state { crosspoints = applied state.crosspoints change }) (Connected at source)
+    says (record state { crosspoints = applied state.crosspoints (change ∷ []) }) (Connected at source)
 
--- what a message does. A report does nothing, and isn't answered.
-abbrev pub told : State → Message → Stepped
-told state (Interrogate at) = says state (Tally at (standing state at))
-told state (Connect at source) = connected state at source (change_of state.plant at source)
-told state (Tally at source) = record { state = state; answers = [] }
-told state (Connected at source) = record { state = state; answers = [] }
+-- what a message of a panel does. A report does nothing, and isn't answered.
+abbrev pub answered : State → Message → Stepped
+answered state (Interrogate at) = says state (Tally at (standing state at))
+answered state (Connect at source) = connected state at source (change_of state.plant at source)
+answered state (Tally at source) = record { state = state; answers = [] }
+answered state (Connected at source) = record { state = state; answers = [] }
 
 -- what an event does
 abbrev pub step : State → Request → Stepped
-step state (Told panel at message) = told state message
+step state (Told panel item message) = answered state message

@@ -1,26 +1,55 @@
 //! What is true of every step from every valid state, not only of those that a program makes.
 
-ghost use Rattle.std.specs.Prelude.{◌≡◌, ℕ, [], ◌∷◌, Option};
+ghost use Rattle.std.specs.Prelude.{◌≡◌, ℕ, List, [], ◌∷◌, All, Option, None, IsNone};
 ghost use Rattle.swp08_messages.specs.declared.point.Point.{Point};
-ghost use Rattle.swp08_messages.specs.declared.message.Message.TheVariants.{Connect, Connected};
+ghost use Rattle.swp08_messages.specs.declared.message.Message.TheVariants.{Interrogate, Connect};
 ghost use Rattle.plant_config.specs.Plant.{PlantData, IsPlant};
+ghost use Rattle.plant_config.specs.Sites.{dest_at};
+ghost use Rattle.plant_config.specs.declared.records.Change.{Change};
 ghost use Rattle.plant_core.specs.declared.request.Request.{Request};
 ghost use Rattle.plant_core.specs.declared.request.Request.TheVariants.{Told};
-ghost use Rattle.plant_core.specs.declared.answer.Answer.TheVariants.{Say};
-ghost use Rattle.plant_core.specs.State.{State, IsValid, start};
+ghost use Rattle.plant_core.specs.State.{State, IsValid, IsChangeOf, start, applied};
 ghost use Rattle.plant_core.specs.Step.{step};
-ghost use Rattle.plant_core.specs.Laws.{ChangesOnly};
+ghost use Rattle.plant_core.specs.Laws.{AnswersWith, IsConnectable, IsMade, IsNotMade, LeavesAlone, after};
 
-/// The state at the start is valid, every step leaves a valid state, and no step changes the plant.
+/// The state at the start is valid, every step leaves a valid state, and no step changes the plant. A list of changes
+/// leaves a valid state too.
 pub fn states_stay_valid()
     ensures first { (plant : PlantData) → IsPlant plant → IsValid (start plant) }
-    ensures stays { (state : State) (request : Request) → IsValid state → IsValid (step state request).state }
-    ensures plant { (state : State) (request : Request) → (step state request).state.plant ≡ state.plant }
+    ensures stays { (state : State) (request : Request) →
+        IsValid state → IsValid (step state request).state }
+    ensures plant { (state : State) (request : Request) →
+        (step state request).state.plant ≡ state.plant }
+    ensures changes { (state : State) (changes : List Change) →
+        IsValid state → All (IsChangeOf state.plant) changes →
+        IsValid (record state { crosspoints = applied state.crosspoints changes }) }
 {}
 
-/// A connect that is told as made is seen by each interrogate after it, and no other place changes.
-pub fn connects_are_seen()
-    ensures { (state : State) (panel item : ℕ) (at : Point) (source : Option ℕ) → IsValid state →
-        let made = step state (Told panel item (Connect at source)) in
-        made.answers ≡ Say (Connected at source) ∷ [] → ChangesOnly state made.state at source }
+/// A connect is made exactly where its place is in the plant, and its source is parked or in that level. Else nothing
+/// changes, and the source that stands is the answer.
+pub fn connects_are_made()
+    ensures made { (state : State) (panel item : ℕ) (at : Point) (source : Option ℕ) →
+        IsValid state → IsConnectable state.plant at source →
+        IsMade state at source (step state (Told panel item (Connect at source))) }
+    ensures not_made { (state : State) (panel item : ℕ) (at : Point) (source : Option ℕ) →
+        ¬ IsConnectable state.plant at source →
+        IsNotMade state at (step state (Told panel item (Connect at source))) }
+{}
+
+/// A connect that is made stands: whatever is asked behind it, each interrogate of its place is answered with its source,
+/// until that place is connected again.
+pub fn connects_stand()
+    ensures { (state : State) (panel item : ℕ) (at : Point) (source : Option ℕ) (later : List Request) →
+        IsValid state → IsConnectable state.plant at source → All (LeavesAlone at) later →
+        AnswersWith (after (step state (Told panel item (Connect at source))).state later) at source }
+{}
+
+/// An interrogate changes nothing. Before the first connect, and where the plant has no such place, it is answered with
+/// 'parked'.
+pub fn interrogates_only_ask()
+    ensures same { (state : State) (panel item : ℕ) (at : Point) →
+        (step state (Told panel item (Interrogate at))).state ≡ state }
+    ensures first { (plant : PlantData) (at : Point) → AnswersWith (start plant) at None }
+    ensures outside { (state : State) (at : Point) →
+        IsNone (dest_at state.plant at.matrix at.level at.dest) → AnswersWith state at None }
 {}

@@ -1,13 +1,15 @@
 //! The crosspoints as a list of rows.
 
 ghost use Rattle.std.specs.Prelude.{◌≡◌, ◌<◌, ◌==◌, not, filter, find, position, IfOk, vec_capacity};
-ghost use Rattle.std.specs.FinMap.{empty, get, insert, remove};
+ghost use Rattle.std.specs.FinMap.{empty, insert, remove};
+ghost use Rattle.plant_core.specs.State.{source_of};
+ghost use Rattle.plant_core.specs.RowsInside.{local};
 
 use plant_config::{DestId, SourceId};
 use std::alloc::{AllocError, Global};
 use std::marker::Model;
 
-/// The crosspoint of one destination that isn't parked.
+// The crosspoint of one destination that isn't parked.
 #[derive(Clone, Copy, Debug, PartialEq, Eq)]
 struct Row {
     dest: DestId,
@@ -16,7 +18,7 @@ struct Row {
 
 /// The crosspoints, one row for each destination that isn't parked, with room for each destination below a count.
 #[derive(Debug, Drop)]
-pub struct Rows {
+pub(crate) struct Rows {
     rows: Vec<Row>,
 }
 
@@ -25,11 +27,11 @@ impl Model for Rows {
     ghost use Rattle.std.specs.Ordering.{nat_cmp};
     ghost use Rattle.std.specs.FinMap as finite;
     ghost use Rattle.std.specs.Coded.{codes, coded_ℕ};
-    ghost use Rattle.plant_core.specs.Rows.{Kept, AreRows, crosspoints_of};
+    ghost use Rattle.plant_core.specs.RowsInside.{Kept, AreRows, crosspoints_of, spot_code};
 
     ghost Value = { Kept };
 
-    ghost coded = { Prim.hlevel (codes, finite.code {R = nat_cmp} coded_ℕ coded_ℕ) };
+    ghost coded = { Prim.hlevel (codes, finite.code {R = nat_cmp} coded_ℕ spot_code) };
 
     ghost view = { λ rows. record { crosspoints = crosspoints_of rows.rows.items; room = vec_capacity rows.rows } };
 
@@ -48,7 +50,7 @@ impl Rows {
 
     /// The source of a destination, `None` where it is parked.
     pub fn get(&self, dest: DestId) -> Option<SourceId>
-        ensures { result ≡ get self.now.crosspoints dest }
+        ensures { result ≡ source_of self.now.crosspoints dest }
     {
         let row = row_of(&self.rows, dest)?;
         Some(row.source)
@@ -57,10 +59,10 @@ impl Rows {
     /// Gives a destination a source.
     pub fn insert(&mut self, dest: DestId, source: SourceId)
         requires { dest < self.old.room }
-        ensures crosspoints { self.new.crosspoints ≡ insert self.old.crosspoints dest source }
+        ensures crosspoints { self.new.crosspoints ≡ insert self.old.crosspoints dest (local source) }
         ensures room { self.new.room ≡ self.old.room }
     {
-        match place_of(&self.rows, dest) {
+        match index_of(&self.rows, dest) {
             Some(row) => self.rows[row].source = source,
             None => self.rows.push_reserved(Row { dest, source }),
         }
@@ -75,7 +77,7 @@ impl Rows {
     }
 }
 
-/// Drops the rows of a destination, and keeps the room.
+// Drops the rows of a destination, and keeps the room.
 fn drop_rows_of(rows: &mut Vec<Row>, dest: DestId)
     ensures others { rows.new.items ≡ filter (λ row. not (row.dest == dest)) rows.old.items }
     ensures room { vec_capacity rows.new ≡ vec_capacity rows.old }
@@ -83,15 +85,15 @@ fn drop_rows_of(rows: &mut Vec<Row>, dest: DestId)
     rows.retain(|row| row.dest != dest);
 }
 
-/// A destination's row.
+// A destination's row.
 fn row_of(rows: &[Row], dest: DestId) -> Option<Row>
     ensures { result ≡ find (λ row. row.dest == dest) rows.now }
 {
     rows.iter().copied().find(|row| row.dest == dest)
 }
 
-/// The place of a destination's row.
-fn place_of(rows: &[Row], dest: DestId) -> Option<usize>
+// The index of a destination's row.
+fn index_of(rows: &[Row], dest: DestId) -> Option<usize>
     ensures { result ≡ position (λ row. row.dest == dest) rows.now }
 {
     rows.iter().position(|row| row.dest == dest)

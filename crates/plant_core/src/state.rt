@@ -1,15 +1,17 @@
+//! A plant and what stands in it, and its step.
+
 ghost use Rattle.std.specs.Prelude.{◌≡◌, [], ◌∷◌, IfOk};
-ghost use Rattle.std.specs.FinMap.{get};
 ghost use Rattle.swp08_messages.specs.Text.{InRange, IsPoint, IsSource, kind_of};
 ghost use Rattle.swp08_messages.specs.declared.message.Message.TheVariants.{Connect};
 ghost use Rattle.swp08_messages.specs.declared.message.MessageKind.TheVariants as kinds;
 ghost use Rattle.plant_config.specs.Plant.{IsPlant};
-ghost use Rattle.plant_core.specs.State.{start, standing, applied, Fits, IsValid, IsChangeOf};
-ghost use Rattle.plant_core.specs.Step.{step, told, change_of, wanted};
+ghost use Rattle.plant_core.specs.State.{start, source_of, standing, applied, Fits, IsValid, IsChangeOf};
+ghost use Rattle.plant_core.specs.Step.{step, answered, change_of, wanted};
 ghost use Rattle.plant_core.specs.Answer.{IsSayable};
 ghost use Rattle.plant_core.specs.declared.answer.Answer.TheVariants.{Say};
 
 use crate::answer::Answer;
+use crate::place::place_of;
 use crate::request::Request;
 use crate::rows::Rows;
 use plant_config::{Change, DestId, Plant, SourceId};
@@ -29,11 +31,11 @@ impl Model for PlantState {
     ghost use Rattle.std.specs.FinMap as finite;
     ghost use Rattle.std.specs.Coded.{codes, coded_ℕ};
     ghost use Rattle.plant_core.specs.State.{State};
-    ghost use Rattle.plant_core.specs.Rows.{state_of, IsKept};
+    ghost use Rattle.plant_core.specs.RowsInside.{state_of, IsKept, spot_code};
 
     ghost Value = { State };
 
-    ghost coded = { Prim.hlevel (codes, finite.code {R = nat_cmp} coded_ℕ coded_ℕ) };
+    ghost coded = { Prim.hlevel (codes, finite.code {R = nat_cmp} coded_ℕ spot_code) };
 
     ghost view = { λ state. state_of state.plant state.rows };
 
@@ -53,19 +55,19 @@ impl PlantState {
 
     /// The source of a destination, `None` where it is parked.
     pub fn source_at(&self, dest: DestId) -> Option<SourceId>
-        ensures source { result ≡ get self.now.crosspoints dest }
+        ensures source { result ≡ source_of self.now.crosspoints dest }
         ensures valid { IsValid self.now }
     {
         self.rows.get(dest)
     }
 
-    /// The source that stands at a place, by its number in its level. `None` where the place is parked or isn't in the
-    /// plant.
+    // The source that stands at a place, by its number in its level. `None` where the place is parked or isn't in the
+    // plant.
     fn standing(&self, at: Point) -> Option<u16>
         ensures source { result ≡ standing self.now at }
         ensures in_range { IsSource result }
     {
-        let dest = self.plant.dest(at.matrix, at.level, at.dest)?;
+        let dest = self.plant.dest_of(place_of(at))?;
         let source = self.source_at(dest)?;
         Some(self.plant.source_number(source))
     }
@@ -79,16 +81,16 @@ impl PlantState {
         ensures plant { self.new.plant ≡ self.old.plant }
     {
         match request {
-            Request::Told { message, .. } => Answer::Say(self.told(*message)),
+            Request::Told { message, .. } => Answer::Say(self.answer_to(*message)),
         }
     }
 
-    /// What is answered to a message.
-    fn told(&mut self, message: Message) -> Message
+    // What a message does, and its answer.
+    fn answer_to(&mut self, message: Message) -> Message
         requires asks { kind_of message ≡ kinds.Plant }
         requires in_range { InRange message }
-        ensures state { self.new ≡ (told self.old message).state }
-        ensures answer { (told self.old message).answers ≡ Say result ∷ [] }
+        ensures state { self.new ≡ (answered self.old message).state }
+        ensures answer { (answered self.old message).answers ≡ Say result ∷ [] }
         ensures in_range { InRange result }
     {
         match message {
@@ -101,12 +103,12 @@ impl PlantState {
         }
     }
 
-    /// Makes a connect where it is in range, and tells so; else tells the source that stands.
+    // Makes a connect where it is in range, and answers so; else answers with the source that stands.
     fn connect(&mut self, at: Point, source: Option<u16>) -> Message
         requires place { IsPoint at }
         requires source { IsSource source }
-        ensures state { self.new ≡ (told self.old (Connect at source)).state }
-        ensures answer { (told self.old (Connect at source)).answers ≡ Say result ∷ [] }
+        ensures state { self.new ≡ (answered self.old (Connect at source)).state }
+        ensures answer { (answered self.old (Connect at source)).answers ≡ Say result ∷ [] }
         ensures in_range { InRange result }
     {
         match self.change(at, source) {
@@ -121,17 +123,17 @@ impl PlantState {
         }
     }
 
-    /// The change that a connect asks for, `None` where the destination or the source is out of range.
+    // The change that a connect asks for, `None` where the destination or the source is out of range.
     fn change(&self, at: Point, source: Option<u16>) -> Option<Change>
         ensures change { result ≡ change_of self.now.plant at source }
         ensures plant { IsPlant self.now.plant }
     {
-        let dest = self.plant.dest(at.matrix, at.level, at.dest)?;
+        let dest = self.plant.dest_of(place_of(at))?;
         let source = self.wanted(at, source)?;
         Some(Change { dest, source })
     }
 
-    /// What the destination of a connect is to carry, `None` where the source is out of range.
+    // What the destination of a connect is to carry, `None` where the source is out of range.
     fn wanted(&self, at: Point, source: Option<u16>) -> Option<Option<SourceId>>
         ensures { result ≡ wanted self.now.plant at source }
     {
@@ -141,10 +143,10 @@ impl PlantState {
         }
     }
 
-    /// Makes a change.
+    // Makes a change.
     fn apply(&mut self, change: Change)
         requires { IsChangeOf self.old.plant change }
-        ensures { self.new ≡ record self.old { crosspoints = applied self.old.crosspoints change } }
+        ensures { self.new ≡ record self.old { crosspoints = applied self.old.crosspoints (change ∷ []) } }
     {
         match change.source {
             Some(source) => self.rows.insert(change.dest, source),

@@ -1,3 +1,5 @@
+//! The plant's answers, and what stands behind them.
+
 ghost use Rattle.std.specs.Prelude.{◌≡◌, ◌<◌, length};
 ghost use Rattle.swp08_messages.specs.declared.message.MessageKind.TheVariants as kinds;
 ghost use Rattle.swp08_messages.specs.Text.{InRange, kind_of};
@@ -8,7 +10,7 @@ use std::process::Abort;
 use std::test::Fail;
 use swp08_messages::{Message, Point};
 
-/// A destination of a level of matrix 0.
+// A destination of a level of matrix 0.
 fn place(level: u8, dest: u16) -> Point
     ensures { result ≡ record { matrix = 0; level = level; dest = dest } }
 {
@@ -19,7 +21,7 @@ fn place(level: u8, dest: u16) -> Point
     }
 }
 
-/// Panel 0 is answered so.
+// A message of panel 0 has this answer.
 fn answers(rt: &impl Abort, state: &mut PlantState, message: Message, answer: Message)
     requires panel { 0 < length state.old.plant.panels }
     requires asks { kind_of message ≡ kinds.Plant }
@@ -55,7 +57,7 @@ fn a_connect_is_seen_and_a_park(rt: HostRuntime) -> Result<(), Fail> {
 }
 
 #[test]
-fn out_of_range_what_stands_is_told(rt: HostRuntime) -> Result<(), Fail> {
+fn out_of_range_the_answer_is_what_stands(rt: HostRuntime) -> Result<(), Fail> {
     let plant = Plant::bench(rt.alloc())?;
     let mut state = PlantState::start(rt.alloc(), &plant)?;
     let at = place(0, 5);

@@ -1,4 +1,4 @@
-use Rattle.plant_core.proofs.Validity.{IsValid-start}
+use Rattle.plant_core.proofs.Validity.{IsValid-start, IsValid-applied}
 use Rattle.plant_core.proofs.Steps.{IsValid-step, plant-step}
 use Rattle.plant_core.proofs.laws.states_stay_valid.Goals as goal
 
@@ -10,3 +10,6 @@ returns-clause-stays c = IsValid-step
 
 pub returns-clause-plant : goal.returns-clause-plant
 returns-clause-plant c = plant-step
+
+pub returns-clause-changes : goal.returns-clause-changes
+returns-clause-changes c state changes valid all = IsValid-applied state.plant state.crosspoints changes valid all

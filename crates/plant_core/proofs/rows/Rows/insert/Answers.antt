@@ -4,6 +4,7 @@ use Rattle.std.specs.FinMap.{insert}
 use Rattle.std.proofs.lemmas.Bool.{eqb-true}
 use Rattle.std.proofs.lemmas.List.Quantifiers.{position-Some}
 use Rattle.plant_core.specs.declared.rows.Row.{Row}
+use Rattle.plant_core.specs.RowsInside.{local}
 use Rattle.plant_core.proofs.RowLists.{is_of, absent, set-insert, push-insert, AreRows-set, AreRows-push, length-lt-room}
 use Rattle.plant_core.proofs.rows.Rows.insert.Goals as goal
 
@@ -36,10 +37,10 @@ pub returns-in-Some-clause-crosspoints : goal.returns-in-Some-clause-crosspoints
 returns-in-Some-clause-crosspoints c =
     let place : position (is_of c.args.dest) c.self.inside.rows.items ≡ Some c.in-Some.row = sym (rw c.deref.ensures.value at c.in-Some.ensures) in
     rw (row_is _ _ _ c.index_mut.result.now place c.index_mut.ensures.value)
-    (set-insert c.self.inside.rows.items c.in-Some.row _ place ∙ ap (λ rows. insert rows.crosspoints c.args.dest c.args.source) c.self.view_is)
+    (set-insert c.self.inside.rows.items c.in-Some.row _ place ∙ ap (λ rows. insert rows.crosspoints c.args.dest (local c.args.source)) c.self.view_is)
 
 pub returns-in-None-clause-crosspoints : goal.returns-in-None-clause-crosspoints
 returns-in-None-clause-crosspoints c =
     let place : position (is_of c.args.dest) c.self.inside.rows.items ≡ None = sym (rw c.deref.ensures.value at c.in-None.ensures) in
     rw c.push_reserved.ensures.items
-    (push-insert c.self.inside.rows.items _ (absent _ c.args.dest place) ∙ ap (λ rows. insert rows.crosspoints c.args.dest c.args.source) c.self.view_is)
+    (push-insert c.self.inside.rows.items _ (absent _ c.args.dest place) ∙ ap (λ rows. insert rows.crosspoints c.args.dest (local c.args.source)) c.self.view_is)
