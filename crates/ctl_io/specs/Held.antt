@@ -1,6 +1,6 @@
 -- What files hold of a name. A name may be opened more than once, so they hold something of it for each of its openings
 -- from now, numbered from 0.
-use Rattle.std.specs.Prelude.{◌≡◌, ℕ, ◌+◌, List, Option, Some, IfSome}
+use Rattle.std.specs.Prelude.{◌≡◌, ◌≢◌, ◌<◌, ℕ, ◌+◌, List, length, Option, Some, IfSome}
 use Rattle.ctl_io.specs.declared.files.Found.{Found}
 use Rattle.ctl_io.specs.declared.files.Found.TheVariants.{Here, Missing, Failed}
 
@@ -15,6 +15,18 @@ abbrev pub IfHeld : Held → (List ℕ → Type 0) → Type 0
 IfHeld Unshown P = Unit {0}
 IfHeld NoFile P = ⊥
 IfHeld (Holds bytes) P = P bytes
+
+-- There is a file, and where the files show its bytes, they are these.
+abbrev pub IsHeld : Held → List ℕ → Type 0
+IsHeld held its = IfHeld held (λ bytes. its ≡ bytes)
+
+-- There is a file, and where the files show its bytes, they are more than the limit.
+abbrev pub IsLonger : ℕ → Held → Type 0
+IsLonger limit held = IfHeld held (λ bytes. limit < length bytes)
+
+-- There is a file, or the files don't show whether there is.
+abbrev pub MayBeHere : Held → Type 0
+MayBeHere held = IfHeld held (λ bytes. Unit {0})
 
 -- A source that is handed out has left what the files hold.
 abbrev pub HasLeft : Held → Option (List ℕ) → Type 0
@@ -33,6 +45,14 @@ Stays before now = (opening : ℕ) → now opening ≡ before opening
 -- The next opening of a name is gone: each finds what the one behind it would have found before.
 abbrev pub CountsOn : (ℕ → Held) → (ℕ → Held) → Type 0
 CountsOn before now = (opening : ℕ) → now opening ≡ before (opening + 1)
+
+-- The openings of every other name stay.
+abbrev pub OthersStay : List ℕ → (List ℕ → ℕ → Held) → (List ℕ → ℕ → Held) → Type 0
+OthersStay name before now = (other : List ℕ) → other ≢ name → Stays (before other) (now other)
+
+-- The openings of every name stay, but of the name that an object shows.
+abbrev pub AllStayBut : Option (List ℕ) → (List ℕ → ℕ → Held) → (List ℕ → ℕ → Held) → Type 0
+AllStayBut shown before now = (other : List ℕ) → shown ≢ Some other → Stays (before other) (now other)
 
 -- what becomes of the openings of a name where a source was asked for
 abbrev pub AfterFound : {S : Type 0} → Found S → (ℕ → Held) → (ℕ → Held) → Type 0

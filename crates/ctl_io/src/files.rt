@@ -1,9 +1,9 @@
 //! Files by their names, which hand out sources and sinks and take them back.
 
-ghost use Rattle.std.specs.Prelude.{◌≡◌, ◌≢◌, ◌<◌, ℕ, List, Some};
+ghost use Rattle.std.specs.Prelude.{◌≡◌, ◌<◌, ℕ, List};
 ghost use Rattle.ctl_io.specs.Faults.{counted, is_faulty};
 ghost use Rattle.ctl_io.specs.Sink.{IsEmpty};
-ghost use Rattle.ctl_io.specs.Held.{Held, HasLeft, MayBeMissing, Stays, AfterFound, IsNamed};
+ghost use Rattle.ctl_io.specs.Held.{Held, HasLeft, MayBeMissing, Stays, OthersStay, AllStayBut, AfterFound, IsNamed};
 ghost use Rattle.ctl_io.specs.Custody.{Custody, source_lent, sink_lent, source_returned, sink_returned};
 ghost use Rattle.ctl_io.specs.Files.{IfFound, IfMade, source_failed, sink_failed};
 
@@ -45,7 +45,7 @@ pub trait Files {
         ensures new { IfFound result (λ source. Self.S.faults source ≡ 0) }
         ensures missing { result ≡ Found.Missing → MayBeMissing (held self.old name.now 0) }
         ensures next { AfterFound result (held self.old name.now) (held self.new name.now) }
-        ensures others { (other : List ℕ) → other ≢ name.now → Stays (held self.old other) (held self.new other) }
+        ensures others { OthersStay name.now (held self.old) (held self.new) }
         ensures lent { custody self.new ≡ source_lent result (custody self.old) }
         ensures count { faults self.new ≡ counted (source_failed result) (faults self.old) };
 
@@ -54,21 +54,29 @@ pub trait Files {
         ensures empty { IfMade result (λ sink. IsEmpty (Self.K.written sink)) }
         ensures named { IfMade result (λ sink. IsNamed name.now (Self.K.name sink)) }
         ensures new { IfMade result (λ sink. Self.K.faults sink ≡ 0) }
-        ensures others { (other : List ℕ) → other ≢ name.now → Stays (held self.old other) (held self.new other) }
+        ensures others { OthersStay name.now (held self.old) (held self.new) }
         ensures lent { custody self.new ≡ sink_lent result (custody self.old) }
         ensures count { faults self.new ≡ counted (sink_failed result) (faults self.old) };
 
     /// Takes back a source that these files handed out.
     fn close_source(&mut self, source: Self::S)
         requires { 0 < (custody self.old).sources_out }
-        ensures returned { custody self.new ≡ source_returned (record { name = Self.S.name source; left = Self.S.left source; faults = Self.S.faults source }) (custody self.old) }
+        ensures returned { custody self.new ≡ source_returned (record {
+          name = Self.S.name source;
+          left = Self.S.left source;
+          faults = Self.S.faults source;
+        }) (custody self.old) }
         ensures same { (name : List ℕ) → Stays (held self.old name) (held self.new name) }
         ensures count { faults self.new ≡ counted (is_faulty (Self.S.faults source)) (faults self.old) };
 
     /// Takes back a sink that these files handed out.
     fn close_sink(&mut self, sink: Self::K)
         requires { 0 < (custody self.old).sinks_out }
-        ensures returned { custody self.new ≡ sink_returned (record { name = Self.K.name sink; written = Self.K.written sink; faults = Self.K.faults sink }) (custody self.old) }
-        ensures others { (other : List ℕ) → Self.K.name sink ≢ Some other → Stays (held self.old other) (held self.new other) }
+        ensures returned { custody self.new ≡ sink_returned (record {
+          name = Self.K.name sink;
+          written = Self.K.written sink;
+          faults = Self.K.faults sink;
+        }) (custody self.old) }
+        ensures others { AllStayBut (Self.K.name sink) (held self.old) (held self.new) }
         ensures count { faults self.new ≡ counted (is_faulty (Self.K.faults sink)) (faults self.old) };
 }

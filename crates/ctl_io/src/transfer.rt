@@ -1,6 +1,6 @@
 //! Sinks written and sources read as a whole.
 
-ghost use Rattle.std.specs.Prelude.{◌≡◌, ◌+◌, ◌<◌, ◌≤◌, not, length, IfOk, OnOk, OnErr, IsErrOf, IfSome, vec_capacity};
+ghost use Rattle.std.specs.Prelude.{◌≡◌, ◌+◌, ◌<◌, ◌≤◌, not, length, IfOk, OnOk, OnErr, IsErrOf, IfSome};
 ghost use Rattle.std.specs.Bool.{OnFalse, OnTrue};
 ghost use Rattle.ctl_io.specs.Faults.{counted};
 ghost use Rattle.ctl_io.specs.Sink.{appended, AppendsPart};
@@ -61,8 +61,10 @@ pub fn read_whole<S: Source>(
     ensures whole { IfOk result (λ whole. IfSome (S.left source.old) (λ all. whole.items ≡ all)) }
     ensures fits { IfOk result (λ whole. length whole.items ≤ limit) }
     ensures end { OnOk result (IsAtEnd (S.left source.new)) }
-    ensures too_long { IsErrOf result WholeFault.TooLong → TakesJust (limit + 1) (S.left source.old) (S.left source.new) }
-    ensures taken { (IsErrOf result WholeFault.TooLong → ⊥) → TakesAtMost limit (S.left source.old) (S.left source.new) }
+    ensures too_long { IsErrOf result WholeFault.TooLong →
+        TakesJust (limit + 1) (S.left source.old) (S.left source.new) }
+    ensures taken { ¬ IsErrOf result WholeFault.TooLong →
+        TakesAtMost limit (S.left source.old) (S.left source.new) }
     ensures name { S.name source.new ≡ S.name source.old }
     ensures count { S.faults source.new ≡ counted (whole_failed result) (S.faults source.old) }
 {
@@ -91,11 +93,14 @@ fn read_piece<S: Source>(
     most: usize,
 ) -> Result<Read, AllocError>
     requires { 0 < most }
-    ensures ok { IfOk result (λ read. IsWithin read most × TakesPiece (got read) whole.old.items whole.new.items (S.left source.old) (S.left source.new)) }
+    ensures within { IfOk result (λ read. IsWithin read most) }
+    ensures piece { IfOk result (λ read. TakesPiece
+        (got read) whole.old.items whole.new.items (S.left source.old) (S.left source.new)) }
     ensures end { IfOk result (λ read. read ≡ Read.End → IsAtEnd (S.left source.new)) }
     ensures no_memory { OnErr result (source.new ≡ source.old) }
     ensures name { S.name source.new ≡ S.name source.old }
-    ensures count { IfOk result (λ read. S.faults source.new ≡ counted (read_failed read) (S.faults source.old)) }
+    ensures count { IfOk result (λ read.
+        S.faults source.new ≡ counted (read_failed read) (S.faults source.old)) }
 {
     let mut buffer = [0; PIECE];
     let into = &mut buffer[..most.min(PIECE)];

@@ -1,8 +1,8 @@
 //! Files read whole by their names.
 
-ghost use Rattle.std.specs.Prelude.{◌≡◌, ◌≢◌, ◌<◌, ◌≤◌, ℕ, List, length, Err, IfOk};
+ghost use Rattle.std.specs.Prelude.{◌≡◌, ◌≤◌, length, Err, IfOk};
 ghost use Rattle.ctl_io.specs.Faults.{counted};
-ghost use Rattle.ctl_io.specs.Held.{IfHeld, MayBeMissing, Stays};
+ghost use Rattle.ctl_io.specs.Held.{IsHeld, IsLonger, MayBeHere, MayBeMissing, OthersStay};
 ghost use Rattle.ctl_io.specs.WholeFile.{file_failed, AfterFile, IsGivenBack};
 
 use crate::{Files, Found, WholeFault, read_whole};
@@ -27,13 +27,13 @@ pub fn read_file<F: Files>(
     name: &str,
     limit: usize,
 ) -> Result<Vec<u8>, FileFault>
-    ensures whole { IfOk result (λ whole. IfHeld (F.held files.old name.now 0) (λ bytes. whole.items ≡ bytes)) }
+    ensures whole { IfOk result (λ whole. IsHeld (F.held files.old name.now 0) whole.items) }
     ensures within { IfOk result (λ whole. length whole.items ≤ limit) }
     ensures missing { result ≡ Err FileFault.Missing → MayBeMissing (F.held files.old name.now 0) }
-    ensures too_long { result ≡ Err FileFault.TooLong → IfHeld (F.held files.old name.now 0) (λ bytes. limit < length bytes) }
-    ensures no_memory { result ≡ Err FileFault.NoMemory → IfHeld (F.held files.old name.now 0) (λ bytes. Unit {0}) }
+    ensures too_long { result ≡ Err FileFault.TooLong → IsLonger limit (F.held files.old name.now 0) }
+    ensures no_memory { result ≡ Err FileFault.NoMemory → MayBeHere (F.held files.old name.now 0) }
     ensures next { AfterFile result (F.held files.old name.now) (F.held files.new name.now) }
-    ensures others { (other : List ℕ) → other ≢ name.now → Stays (F.held files.old other) (F.held files.new other) }
+    ensures others { OthersStay name.now (F.held files.old) (F.held files.new) }
     ensures given_back { IsGivenBack name.now (F.custody files.old) (F.custody files.new) }
     ensures count { F.faults files.new ≡ counted (file_failed result) (F.faults files.old) }
 {

@@ -1,6 +1,6 @@
 //! Files in memory.
 
-ghost use Rattle.std.specs.Prelude.{◌≡◌, ◌<◌, Some, IfOk};
+ghost use Rattle.std.specs.Prelude.{◌≡◌, ◌<◌, IfOk};
 ghost use Rattle.ctl_io.specs.Files.{IfFound, IfMade};
 ghost use Rattle.ctl_io.specs.Memory.{IsNewSource, IsNewSink};
 ghost use Rattle.ctl_io.specs.MemFiles.{unasked, AreNewSources, AreNewSinks, held_of, custody_of, source_answer, without_source, after_source, sink_answer, without_sink, after_sink, after_close_source, after_close_sink};
@@ -53,7 +53,8 @@ impl MemFiles {
     ) -> Result<MemFiles, AllocError>
         requires new_sources { AreNewSources sources.items }
         requires new_sinks { AreNewSinks sinks.items }
-        ensures { IfOk result (λ files. files ≡ unasked sources.items sinks.items objects failing.items) }
+        ensures { IfOk result (λ files.
+            files ≡ unasked sources.items sinks.items objects failing.items) }
     {
         let names = names_of(alloc, &sources)?;
         let sources_back = Vec::with_capacity(alloc, objects)?;

@@ -29,7 +29,8 @@ impl MemSink {
     /// A sink with room for `room` bytes, which it takes now. `failing` holds the numbers, from 0, of the writes
     /// that fail.
     pub fn new(alloc: Global, room: usize, failing: Vec<u64>) -> Result<MemSink, AllocError>
-        ensures { IfOk result (λ sink. sink ≡ record { written = []; room = room; calls = uncalled failing.items }) }
+        ensures { IfOk result (λ sink.
+            sink ≡ record { written = []; room = room; calls = uncalled failing.items }) }
     {
         Ok(MemSink {
             written: Vec::with_capacity(alloc, room)?,

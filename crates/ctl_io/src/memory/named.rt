@@ -1,6 +1,6 @@
 //! Looking for a name among objects that have one.
 
-ghost use Rattle.std.specs.Prelude.{◌≡◌, ◌+◌, ℕ, List, find, IfNone, IfOk, OnSome, length, map};
+ghost use Rattle.std.specs.Prelude.{◌≡◌, ℕ, List, find, IfNone, IfOk, map};
 ghost use Rattle.std.specs.Str.{bytes_eq};
 ghost use Rattle.ctl_io.specs.MemFiles.{without_first, is_listed};
 
@@ -17,8 +17,10 @@ pub(crate) trait Named {
 
 /// Takes out the first object of this name.
 pub(crate) fn take_first<T: Named>(name: &[u8], entries: &mut Vec<T>) -> Option<T>
-    ensures found { result ≡ find (λ entry. bytes_eq (T.name_of entry) name.now) entries.old.items }
-    ensures rest { entries.new.items ≡ without_first (λ entry. bytes_eq (T.name_of entry) name.now) entries.old.items }
+    ensures found { result ≡
+        find (λ entry. bytes_eq (T.name_of entry) name.now) entries.old.items }
+    ensures rest { entries.new.items ≡
+        without_first (λ entry. bytes_eq (T.name_of entry) name.now) entries.old.items }
     ensures none { IfNone result (entries.new.items ≡ entries.old.items) }
 {
     for i in 0..entries.len() {

@@ -46,8 +46,10 @@ pub(crate) fn write_answer(written: io::Result<usize>, faults: &mut FaultCount) 
 /// A file that isn't found is missing, and every other error is a fault.
 pub(crate) fn found_answer<F>(opened: io::Result<F>, faults: &mut FaultCount) -> Found<F>
     ensures here { IfOk opened (λ file. result ≡ Found.Here file) }
-    ensures missing { IfErr opened (λ error. error_kind error ≡ ErrorKind.NotFound → result ≡ Found.Missing) }
-    ensures failed { IfErr opened (λ error. error_kind error ≢ ErrorKind.NotFound → result ≡ Found.Failed) }
+    ensures missing { IfErr opened (λ error.
+        error_kind error ≡ ErrorKind.NotFound → result ≡ Found.Missing) }
+    ensures failed { IfErr opened (λ error.
+        error_kind error ≢ ErrorKind.NotFound → result ≡ Found.Failed) }
     ensures count { faults.new ≡ counted (source_failed result) faults.old }
 {
     match opened {

@@ -34,7 +34,8 @@ impl<F: io::Write> FileSink<F> {
     pub fn take(&mut self, bytes: &[u8]) -> Write
         requires { 0 < length bytes.now }
         ensures within { IsWithin result (length bytes.now) }
-        ensures gave { Appends (F.contents self.old.file) (F.contents self.new.file) (take (took result) bytes.now) }
+        ensures gave { Appends (F.contents self.old.file) (F.contents self.new.file)
+            (take (took result) bytes.now) }
         ensures count { self.new.faults ≡ counted (write_failed result) self.old.faults }
     {
         write_answer(write_again(&mut self.file, bytes), &mut self.faults)

@@ -34,7 +34,8 @@ impl<F: io::Read> FileSource<F> {
     pub fn give(&mut self, into: &mut [u8]) -> Read
         requires { 0 < length into.old }
         ensures within { IsWithin result (length into.old) }
-        ensures gave { Consumes (F.remaining self.old.file) (F.remaining self.new.file) (take (got result) into.new) }
+        ensures gave { Consumes (F.remaining self.old.file) (F.remaining self.new.file)
+            (take (got result) into.new) }
         ensures ended { result ≡ Read.End → IsAtEnd (F.remaining self.new.file) }
         ensures count { self.new.faults ≡ counted (read_failed result) self.old.faults }
     {

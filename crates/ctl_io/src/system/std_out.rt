@@ -1,6 +1,6 @@
 //! The adapter over the standard output.
 
-ghost use Rattle.std.specs.Prelude.{◌≡◌, ◌<◌, None, length};
+ghost use Rattle.std.specs.Prelude.{◌≡◌, None};
 
 use crate::system::answers::write_answer;
 use crate::system::attempts::call_again;
