@@ -57,12 +57,6 @@ passes_noise bytes framer outside noise text stands =
       subst Kept (none ∙ sym (on.rest_goes_on ∙ ap (λ (behind : Reading). behind.rest) behind)) stands,
     )
 
--- no bytes
-pub passes_none : (framer : Framer) → PassesOver [] framer framer
-passes_none framer text stands =
-    let P : List ℕ → Type 0 = λ whole. (items whole ≡ items text) × StandsFor framer whole in
-    subst P (sym (append-nil text)) (refl, stands)
-
 -- bytes of a body, which are their own spelling, pass in a frame
 pub passes_body : (bytes : List ℕ) (before after : Framer) → before.state ≡ Inside → after.state ≡ Inside → doubled bytes ≡ bytes → after.front ≡ take most_kept (before.front ++ bytes) → PassesOver bytes before after
 unfolding StandsFor
@@ -98,6 +92,10 @@ pub passes_step : (byte : ℕ) (before after : Framer) → Steps before.state be
 passes_step byte before after steps text stands =
     let step = steps_at byte None before after steps text stands in
     (step.0 ∙ append-nil (items text), step.1)
+
+-- bytes, and the DLE behind them
+pub passes_dle : (piece : List ℕ) (count : ℕ) (a b c : Framer) → count < length piece → get_or piece count 0 ≡ dle → PassesOver (take count piece) a b → Steps b.state b.front dle None c.state c.front → PassesOver (take (count + 1) piece) a c
+passes_dle piece count a b c within is before steps = passes_byte piece count dle a b c within (sym is) before (passes_step dle b c steps)
 
 -- Where no item ends in a front of a piece, none ends in a shorter front.
 none_before : (text piece : List ℕ) (n m : ℕ) → n ≤ m → items (text ++ take m piece) ≡ items text → items (text ++ take n piece) ≡ items text

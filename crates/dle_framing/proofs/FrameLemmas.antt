@@ -188,10 +188,3 @@ doubled-room bytes i within =
       ap (length {A = ℕ}) split,
       length-append (doubled (take i bytes)) (doubled (get_or bytes i 0 ∷ [])),
     )
-
-pub doubled-next : (bytes : List ℕ) (i : ℕ) → i < length bytes → doubled (take (i + 1) bytes) ≡ doubled (take i bytes) ++ doubled (get_or bytes i 0 ∷ [])
-doubled-next bytes i within = ap doubled (take_more bytes i 0 within) ∙ flat_map-append _ (take i bytes) (get_or bytes i 0 ∷ [])
-
--- a byte is sent once or twice
-pub doubled-one : (byte : ℕ) → 1 ≤ length (doubled (byte ∷ []))
-doubled-one byte = omega (arith, length-doubled (byte ∷ []))

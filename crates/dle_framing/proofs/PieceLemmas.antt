@@ -2,25 +2,15 @@
 use Rattle.std.proofs.Common.{◌≡◌, ℕ, ◌+◌, List, [], ◌∷◌, ◌++◌, map, take, drop, Option, Some, Vec, sym, ap, ◌∙◌, subst}
 use Rattle.std.specs.Borrow.{Bor}
 use Rattle.std.specs.Option.{option_map, option_to_list}
-use Rattle.std.proofs.lemmas.List.{append-nil, append_assoc, map-append}
+use Rattle.std.proofs.lemmas.List.{append_assoc, map-append}
 use Rattle.dle_framing.specs.declared.framer.Framer.{Framer}
 use Rattle.dle_framing.specs.declared.item.Item.{Item}
 use Rattle.dle_framing.specs.Feeding.{Feeds, shown}
 use Rattle.dle_framing.specs.Framer.{StandsFor, GoesOver}
-use Rattle.dle_framing.specs.FramerInside.{Adds, AddsOnto}
+use Rattle.dle_framing.specs.FramerInside.{AddsOnto}
 use Rattle.dle_framing.specs.Items.{items}
 use Rattle.dle_framing.specs.Owned.{owned}
 use Rattle.dle_framing.proofs.FeedLemmas.{take-add}
-
--- nothing was fed
-pub adds_nothing : (framer : Framer) (given : List (Item (List ℕ))) → AddsOnto [] framer given framer given
-adds_nothing framer given = (
-  [],
-  sym (append-nil given),
-  λ text stands.
-      let P : List ℕ → Type 0 = λ whole. (items whole ≡ items text ++ []) × StandsFor framer whole in
-      subst P (sym (append-nil text)) (sym (append-nil (items text)), stands),
-)
 
 -- bytes, and then more
 pub adds_more : (first second : List ℕ) (a b c : Framer) (given then last : List (Item (List ℕ))) → AddsOnto first a given b then → AddsOnto second b then c last → AddsOnto (first ++ second) a given c last

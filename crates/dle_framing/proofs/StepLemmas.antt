@@ -54,11 +54,6 @@ step_at kept is byte item state front same step =
     let P : List ℕ → Type 0 = λ kept. (items (kept ++ byte ∷ []) ≡ option_to_list (option_map (found_in front) item)) × Keeps state front (rest (kept ++ byte ∷ [])) in
     subst P (sym same) step
 
-pub outside-noise : (front : List ℕ) (byte : ℕ) → nat_eq byte dle ≡ false → Steps Outside front byte None Outside front
-unfolding Steps
-outside-noise front byte other kept keeps =
-    step_at kept [] byte None Outside front keeps (stepped (byte ∷ []) None Outside front [] (reading-noise byte [] other ∙ reading-by_start []) refl)
-
 pub outside-dle : (front : List ℕ) → Steps Outside front dle None OutsideDle front
 unfolding Steps
 outside-dle front kept keeps =
@@ -98,16 +93,6 @@ control-noise front byte no_dle no_ack no_nak no_stx kept keeps =
 -- a front that keeps one byte more of each body that it is the front of
 abbrev pub KeepsByte : List ℕ → ℕ → List ℕ → Type 0
 KeepsByte front byte next_front = (body : List ℕ) → front ≡ take most_kept body → next_front ≡ take most_kept (body ++ byte ∷ [])
-
-pub inside-byte : (front : List ℕ) (byte : ℕ) (next_front : List ℕ) → nat_eq byte dle ≡ false → KeepsByte front byte next_front → Steps Inside front byte None Inside next_front
-unfolding Steps
-inside-byte front byte next_front other keeps_byte kept keeps =
-    let body = keeps.0 in
-    let text : dle ∷ stx ∷ (doubled body ++ byte ∷ []) ≡ dle ∷ stx ∷ doubled (body ++ byte ∷ []) = ap (λ (text : List ℕ). dle ∷ stx ∷ text) (doubled-push body byte other) in
-    step_at kept (dle ∷ stx ∷ doubled body) byte None Inside next_front keeps.2
-    (stepped (dle ∷ stx ∷ (doubled body ++ byte ∷ [])) None Inside next_front (dle ∷ stx ∷ doubled (body ++ byte ∷ []))
-    (ap reading text ∙ reading-open (body ++ byte ∷ []))
-    (body ++ byte ∷ [], keeps_byte body keeps.1, refl))
 
 pub inside-dle : (front : List ℕ) → Steps Inside front dle None InsideDle front
 unfolding Steps

@@ -1,5 +1,5 @@
 -- Which texts a framer stands for.
-use Rattle.std.specs.Prelude.{◌≡◌, ⊤, ℕ, List, ◌++◌}
+use Rattle.std.specs.Prelude.{⊤, ℕ, List, ◌++◌}
 use Rattle.std.specs.Borrow.{follows_so, MutBor, Fml}
 use mathlib.Core.Option.{none}
 use Rattle.dle_framing.specs.declared.framer.Framer.{Framer}

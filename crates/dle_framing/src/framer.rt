@@ -1,5 +1,5 @@
 //! A stream in pieces: what is kept of it between them, and the items that end in each.
-ghost use Rattle.std.specs.Prelude.{◌≡◌, ℕ, ◌<◌, ◌≤◌, List, [], length, take};
+ghost use Rattle.std.specs.Prelude.{◌≡◌, ℕ, ◌<◌, ◌≤◌, List, [], length, take, slice_index};
 ghost use Rattle.std.specs.Borrow.{sem};
 ghost use Rattle.std.specs.Option.{option_map};
 ghost use Rattle.dle_framing.specs.Feeding.{Feeds, shown};
@@ -34,7 +34,7 @@ pub struct Framer {
 
 impl Framer {
     ghost use Rattle.dle_framing.specs.Framer.{StandsFor, GoesOver, EndsOver};
-    ghost use Rattle.dle_framing.specs.StepsInside.{Steps, found_in};
+    ghost use Rattle.dle_framing.specs.StepsInside.{IsBehindDle, Steps, found_in};
     ghost use Rattle.dle_framing.specs.FramerInside.{PassesOver};
 
     /// A framer that was fed nothing.
@@ -51,8 +51,7 @@ impl Framer {
     pub fn reset(&mut self)
         ensures { StandsFor self.new [] }
     {
-        // The front says nothing outside a frame.
-        self.state = State::Outside;
+        *self = Framer::new();
     }
 
     /// Takes the next piece of the stream up to the end of the first item that ends in it. It answers how many bytes it
@@ -82,7 +81,7 @@ impl Framer {
     {
         let mut used = 0;
         loop {
-            used += self.take_run(&piece[used..]);
+            used += self.take_to_dle(&piece[used..]);
             if used == piece.len() {
                 return (used, None);
             }
@@ -109,43 +108,43 @@ impl Framer {
         }
     }
 
-    // Takes the bytes in front of the first DLE at once, where they are noise or belong to a body, and answers how many.
-    fn take_run(&mut self, piece: &[u8]) -> usize
+    // Takes the bytes up to the first DLE and the DLE at once, where none was taken, and answers how many.
+    fn take_to_dle(&mut self, piece: &[u8]) -> usize
         ensures within { result ≤ length piece.now }
         ensures passes { PassesOver (take result piece.now) self.old self.new }
+        ensures stops { result < length piece.now → IsBehindDle self.new.state }
     {
         match self.state {
-            State::Outside => dle_place(piece),
+            State::Outside => {
+                let count = dle_place(piece);
+                if count == piece.len() {
+                    return count;
+                }
+                self.state = State::OutsideDle;
+                count + 1
+            }
             State::Inside => {
                 let count = dle_place(piece);
                 self.front.extend(&piece[..count]);
-                count
+                if count == piece.len() {
+                    return count;
+                }
+                self.state = State::InsideDle;
+                count + 1
             }
             State::OutsideDle | State::InsideDle => 0,
         }
     }
 
-    // Takes one byte, and answers the item that ends with it. The DATA of a good one are the front of the body.
+    // Takes a byte behind a DLE, and answers the item that ends with it. The DATA of a good one are the front of the body.
     fn take(&mut self, byte: u8) -> Option<Item<()>>
+        requires { IsBehindDle self.old.state }
         ensures { Steps self.old.state self.old.front byte result self.new.state self.new.front }
     {
-        match self.state {
-            State::Outside => {
-                if byte == DLE {
-                    self.state = State::OutsideDle;
-                }
-                None
-            }
-            State::OutsideDle => self.take_control(byte),
-            State::Inside => {
-                if byte == DLE {
-                    self.state = State::InsideDle;
-                } else {
-                    self.front.push(byte);
-                }
-                None
-            }
-            State::InsideDle => self.take_inner_control(byte),
+        if let State::InsideDle = self.state {
+            self.take_inner_control(byte)
+        } else {
+            self.take_control(byte)
         }
     }
 
@@ -193,8 +192,8 @@ impl Framer {
                 self.state = State::Outside;
                 Some(self.ended())
             }
-            // Any other byte abandons the frame, and is used up with the DLE.
             _ => {
+                // The byte abandons the frame, and is used up with the DLE.
                 self.state = State::Outside;
                 None
             }
@@ -228,6 +227,7 @@ fn dle_place(text: &[u8]) -> usize
     ensures within { result ≤ length text.now }
     ensures noise { reading (take result text.now) ≡ only_rest [] }
     ensures single { doubled (take result text.now) ≡ take result text.now }
+    ensures found { result < length text.now → slice_index text.now result ≡ DLE }
 {
     for (place, byte) in text.iter().enumerate() {
         if *byte == DLE {

@@ -21,7 +21,8 @@ pub fn feed_all(
     ensures items { IfOk result (λ given. (text : List ℕ) → StandsFor framer.old text
         → items (text ++ joined pieces.now) ≡ items text ++ map owned given.items) }
     ensures stands { OnOk result (GoesOver (joined pieces.now) framer.old framer.new) }
-    ensures anew { StandsFor framer.old [] → IfOk result (λ given. map owned given.items ≡ items (joined pieces.now)) }
+    ensures anew { StandsFor framer.old []
+        → IfOk result (λ given. map owned given.items ≡ items (joined pieces.now)) }
 {
     let mut given = Vec::new(alloc);
     for piece in pieces {
@@ -37,7 +38,8 @@ fn feed_piece(
     piece: &[u8],
     given: &mut Vec<Item<Vec<u8>>>,
 ) -> Result<(), AllocError>
-    ensures { OnOk result (AddsOnto piece.now framer.old (map owned given.old.items) framer.new (map owned given.new.items)) }
+    ensures { OnOk result (AddsOnto piece.now framer.old (map owned given.old.items)
+        framer.new (map owned given.new.items)) }
 {
     let mut used = 0;
     while used < piece.len() {
@@ -55,7 +57,8 @@ fn feed_once(
 ) -> Result<usize, AllocError>
     ensures within { IfOk result (λ used. used ≤ length piece.now) }
     ensures progress { 0 < length piece.now → IfOk result (λ used. 0 < used) }
-    ensures adds { IfOk result (λ used. AddsOnto (take used piece.now) framer.old (map owned given.old.items) framer.new (map owned given.new.items)) }
+    ensures adds { IfOk result (λ used. AddsOnto (take used piece.now)
+        framer.old (map owned given.old.items) framer.new (map owned given.new.items)) }
 {
     let (used, item) = framer.feed(piece);
     if let Some(item) = item {

@@ -13,7 +13,8 @@ pub fn read_frame(bytes: &[u8], out: &mut Vec<u8>) -> bool
     requires { vec_len out.old + MAX_BODY ≤ vec_capacity out.old }
     ensures found { OnTrue result ((carried : List ℕ) × IsData carried × (bytes.now ≡ frame carried)
         × (out.new.items ≡ out.old.items ++ carried)) }
-    ensures none { OnFalse result ((carried : List ℕ) → IsData carried → bytes.now ≡ frame carried → ⊥) }
+    ensures none { OnFalse result ((carried : List ℕ) → IsData carried
+        → bytes.now ≡ frame carried → ⊥) }
     ensures same { OnFalse result (out.new.items ≡ out.old.items) }
     ensures room { vec_capacity out.new ≡ vec_capacity out.old }
 {
@@ -31,7 +32,8 @@ fn read_body(bytes: &[u8], out: &mut Vec<u8>) -> bool
     requires { vec_len out.old + MAX_BODY ≤ vec_capacity out.old }
     ensures found { OnTrue result ((body : List ℕ) × (bytes.now ≡ enclosed body)
         × (out.new.items ≡ out.old.items ++ body)) }
-    ensures none { OnFalse result ((body : List ℕ) → length body ≤ MAX_BODY → bytes.now ≡ enclosed body → ⊥) }
+    ensures none { OnFalse result ((body : List ℕ) → length body ≤ MAX_BODY
+        → bytes.now ≡ enclosed body → ⊥) }
     ensures kept { take (vec_len out.old) out.new.items ≡ out.old.items }
     ensures room { vec_capacity out.new ≡ vec_capacity out.old }
 {

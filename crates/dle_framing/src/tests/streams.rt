@@ -1,5 +1,5 @@
 //! Streams in pieces: worked texts cut in all ways, the limits of a body, and texts that look random.
-ghost use Rattle.std.specs.Prelude.{◌<◌, ◌≤◌, length, vec_len, IfOk};
+ghost use Rattle.std.specs.Prelude.{◌<◌, ◌≤◌, vec_len, IfOk};
 
 use super::{CONNECT, CONNECT_DATA, INTERROGATE, INTERROGATE_DATA};
 use crate::{Framer, Item, encode_frame, feed_all, frame_len, read_items};

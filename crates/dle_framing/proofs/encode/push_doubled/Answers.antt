@@ -1,7 +1,7 @@
-use Rattle.std.proofs.Common.{length, get_or, take, ap, arith}
+use Rattle.std.proofs.Common.{length, take, ap, arith}
 use Rattle.std.proofs.lemmas.List.{length-append}
 use Rattle.dle_framing.specs.Frame.{doubled}
-use Rattle.dle_framing.proofs.FrameLemmas.{doubled-room, doubled-next}
+use Rattle.dle_framing.proofs.FrameLemmas.{doubled-room}
 use Rattle.dle_framing.proofs.encode.push_doubled.Goals as goal
 
 pub push_byte-requires : goal.push_byte-requires

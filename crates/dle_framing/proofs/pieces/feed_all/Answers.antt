@@ -1,4 +1,4 @@
-use Rattle.std.proofs.Common.{◌≡◌, [], ◌++◌, List, ℕ, take, sym, ap, ◌∙◌}
+use Rattle.std.proofs.Common.{◌≡◌, [], ◌++◌, List, ℕ, sym, ap, ◌∙◌}
 use Rattle.std.proofs.lemmas.List.{take_all}
 use Rattle.std.specs.Borrow.{Bor}
 use Rattle.dle_framing.specs.declared.item.Item.{Item}

@@ -1,4 +1,4 @@
-use Rattle.std.proofs.Common.{length, take, ap, sym, ◌∙◌, arith}
+use Rattle.std.proofs.Common.{length, ap, sym, ◌∙◌, arith}
 use Rattle.std.proofs.lemmas.List.{length-take-le}
 use Rattle.dle_framing.proofs.FrontLemmas.{front-push, front-full}
 use Rattle.dle_framing.proofs.front.Front.push.Goals as goal
