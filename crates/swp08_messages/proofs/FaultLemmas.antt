@@ -1,19 +1,17 @@
 -- What the bytes behind a command are refused with, by the messages that other bytes spell.
-use Rattle.std.proofs.Common.{◌≡◌, ◌≢◌, ℕ, suc, ◌+◌, ◌<◌, ◌≤◌, ◌==◌, cond, nat_eq, nat_lt, true, false, List, [], ◌∷◌, ◌++◌, length, get_or, take, take_all, drop, map, ◌-◌, eqb-true, Option, Some, None, refl, sym, ap, ◌∙◌, subst, arith, MatchOption}
-use Rattle.std.specs.List.{AllByRecursion}
+use Rattle.std.proofs.Common.{◌≡◌, ◌≢◌, ℕ, suc, ◌+◌, ◌<◌, ◌≤◌, cond, nat_eq, nat_lt, true, false, List, [], ◌∷◌, ◌++◌, length, get_or, take, take_all, drop, map, ◌-◌, eqb-true, Some, None, refl, sym, ap, ◌∙◌, subst, arith, MatchOption}
 use Rattle.std.proofs.lemmas.Bool.Decides.{nat_tests}
 use Rattle.swp08_messages.specs.declared.fault.ReadFault.{ReadFault}
 use Rattle.swp08_messages.specs.declared.fault.ReadFault.TheVariants.{UnknownCommand, WrongLength, BadField}
 use Rattle.swp08_messages.specs.declared.field.Field.{Field}
 use Rattle.swp08_messages.specs.declared.message.Message.{Message}
 use Rattle.swp08_messages.specs.Row.{row}
-use Rattle.swp08_messages.specs.Text.{text}
 use Rattle.swp08_messages.specs.Spelled.{SpellFields, Spells}
-use Rattle.swp08_messages.specs.Refused.{HasBadField, IsRefused}
+use Rattle.swp08_messages.specs.Refused.{IsRefused}
 use Rattle.swp08_messages.specs.ReadingInside.{limit_of, message_of, first_bad, fault_of}
 use Rattle.swp08_messages.proofs.FieldLemmas.{limit_of-positive}
 use Rattle.swp08_messages.proofs.SpelledLemmas.{length-SpellFields, spelled_below}
-use Rattle.swp08_messages.proofs.ReadingLemmas.{limits_of, Below, IsRead, message_of-reads, limits_of-command, length-limits, length-text}
+use Rattle.swp08_messages.proofs.ReadingLemmas.{limits_of, Below, message_of-reads, message_of-none, limits_of-command, length-limits, length-text}
 
 first_bad-none : (place : ℕ) (fields : List Field) (bytes : List ℕ) → length bytes ≡ length fields → first_bad place fields bytes ≡ None → Below bytes (map limit_of fields)
 first_bad-none place [] [] same e = tt
@@ -120,15 +118,11 @@ byte_of-parts : (front : List ℕ) (byte : ℕ) (rest : List ℕ) → get_or (fr
 byte_of-parts [] byte rest = refl
 byte_of-parts (a ∷ front) byte rest = byte_of-parts front byte rest
 
-is_read : (command : ℕ) (behind : List ℕ) (message : Message) → message_of command behind ≡ Some message → IsRead command behind message
-is_read command behind message e =
-    subst (λ o. MatchOption o ((m : Message) → (row m).command ≢ command) (IsRead command behind)) e (message_of-reads command behind)
-
 -- DATA without a fault spells what is read of it.
 read_ok : (command : ℕ) (behind : List ℕ) (message : Message) → message_of command behind ≡ Some message → fault_of (row message).fields behind ≡ None → Spells (command ∷ behind) message
 read_ok command behind message e none =
     elim (nat_eq (length behind) (length (row message).fields)) as (λ t. nat_eq (length behind) (length (row message).fields) ≡ t → cond t (first_bad 1 (row message).fields behind) (Some (WrongLength (1 + length behind) (1 + length (row message).fields))) ≡ None → Spells (command ∷ behind) message) [
-      | true ↦ λ same none. (is_read command behind message e).spells (first_bad-none 1 (row message).fields behind (eqb-true _ _ same) none)
+      | true ↦ λ same none. (message_of-reads command behind message e).spells (first_bad-none 1 (row message).fields behind (eqb-true _ _ same) none)
       | false ↦ λ other none. absurd cc
     ] refl none
 
@@ -156,14 +150,14 @@ wrong_length command behind message is other = (
 bad_field : (command : ℕ) (behind : List ℕ) (message : Message) (fault : ReadFault) → ((k : ℕ) → get_or behind k 0 < 256) → message_of command behind ≡ Some message
     → StandsWrong 1 behind (limits_of message) fault → IsRefused (command ∷ behind) fault
 bad_field command behind message fault fits e wrong =
-    let read = is_read command behind message e in
+    let read = message_of-reads command behind message e in
     let fill = wrong.front ++ zeros (wrong.limit ∷ wrong.after) in
     let byte_fits : wrong.byte < 256 =
     subst (λ n. n < 256) (byte_of-parts wrong.front wrong.byte wrong.rest) (subst (λ bs. get_or bs (length wrong.front) 0 < 256) wrong.parts (fits (length wrong.front))) in
-    let again : MatchOption (message_of command fill) ((m : Message) → (row m).command ≢ command) (IsRead command fill) = message_of-reads command fill in
-    elim (message_of command fill) as (λ o. MatchOption o ((m : Message) → (row m).command ≢ command) (IsRead command fill) → IsRefused (command ∷ behind) fault) [
-      | None ↦ λ unknown. absurd (unknown message read.command_is)
-      | Some m ↦ λ found.
+    elim (message_of command fill) as (λ o. message_of command fill ≡ o → IsRefused (command ∷ behind) fault) [
+      | None ↦ λ none. absurd (message_of-none command fill none message read.command_is)
+      | Some m ↦ λ some.
+          let found = message_of-reads command fill m some in
           let limits_are : limits_of m ≡ wrong.before ++ wrong.limit ∷ wrong.after =
           limits_of-command m message (found.command_is ∙ sym read.command_is) ∙ wrong.limits_are in
           let below = Below-zeros (row m).fields wrong.before (wrong.limit ∷ wrong.after) wrong.front limits_are wrong.below in
@@ -187,13 +181,13 @@ bad_field command behind message fault fits e wrong =
                 absurd (omega (arith, under, wrong.over));
           } in
           subst (IsRefused (command ∷ behind)) (sym wrong.fault_is) refused
-    ] again
+    ] refl
 
 -- DATA with a fault is refused with it.
 read_err : (command : ℕ) (behind : List ℕ) (message : Message) (fault : ReadFault) → ((k : ℕ) → get_or behind k 0 < 256) → message_of command behind ≡ Some message
     → fault_of (row message).fields behind ≡ Some fault → IsRefused (command ∷ behind) fault
 read_err command behind message fault fits e some =
-    let read = is_read command behind message e in
+    let read = message_of-reads command behind message e in
     elim (nat_eq (length behind) (length (row message).fields)) as (λ t. nat_eq (length behind) (length (row message).fields) ≡ t → cond t (first_bad 1 (row message).fields behind) (Some (WrongLength (1 + length behind) (1 + length (row message).fields))) ≡ Some fault → IsRefused (command ∷ behind) fault) [
       | true ↦ λ same some. bad_field command behind message fault fits e (first_bad-some 1 (row message).fields behind fault (eqb-true _ _ same) some)
       | false ↦ λ other some.
@@ -207,7 +201,7 @@ read_unknown : (command : ℕ) (behind : List ℕ) → message_of command behind
 read_unknown command behind e = record {
   behind = behind;
   parts = refl;
-  never = subst (λ o. MatchOption o ((m : Message) → (row m).command ≢ command) (IsRead command behind)) e (message_of-reads command behind);
+  never = message_of-none command behind e;
 }
 
 -- The same of whole DATA, by its first byte and the bytes behind it.

@@ -1,5 +1,5 @@
 -- What holds of one field and its byte.
-use Rattle.std.proofs.Common.{◌≡◌, ℕ, ◌+◌, ◌*◌, ◌/◌, ◌%◌, ◌<◌, Option, Some, None, refl, arith}
+use Rattle.std.proofs.Common.{◌≡◌, ℕ, ◌<◌, Option, Some, None, refl, arith}
 use Rattle.swp08_messages.specs.declared.field.Field.{Field}
 use Rattle.swp08_messages.specs.declared.field.Field.TheVariants.{MatrixLevel, DestHigh, CrosspointHigh, DestLow, SourceLow}
 use Rattle.swp08_messages.specs.Field.{number_of, IsSource, byte_of, looked_at, HasRoom}

@@ -3,3 +3,4 @@ pub mod SpelledLemmas
 pub mod ReadingLemmas
 pub mod RefusedLemmas
 pub mod FaultLemmas
+pub mod Examples

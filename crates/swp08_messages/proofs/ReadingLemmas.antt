@@ -1,5 +1,5 @@
 -- A message by the bytes as they come: which DATA spells it, and where it has the limits of every message of its command.
-use Rattle.std.proofs.Common.{◌≡◌, ◌≢◌, ℕ, suc, ◌+◌, ◌*◌, ◌/◌, ◌%◌, ◌<◌, cond, nat_eq, true, false, List, [], ◌∷◌, ◌++◌, length, slice_index, map, Option, Some, None, refl, sym, ap, ◌∙◌, subst, arith, eqb-true, MatchOption}
+use Rattle.std.proofs.Common.{◌≡◌, ◌≢◌, ℕ, suc, ◌+◌, ◌*◌, ◌/◌, ◌%◌, ◌<◌, cond, nat_eq, true, false, List, [], ◌∷◌, length, map, Option, Some, None, refl, sym, ap, ◌∙◌, subst, arith, eqb-true, MatchOption}
 use Rattle.std.proofs.lemmas.Bool.Decides.{nat_tests}
 use Rattle.std.specs.List.{AllByRecursion}
 use Rattle.swp08_messages.specs.declared.point.Point.{Point}
@@ -10,7 +10,7 @@ use Rattle.swp08_messages.specs.Field.{number_of, IsSource, HasRoom, byte_of}
 use Rattle.swp08_messages.specs.Row.{row, destination, crosspoint}
 use Rattle.swp08_messages.specs.Text.{text, InRange}
 use Rattle.swp08_messages.specs.Spelled.{SpellFields, Spells}
-use Rattle.swp08_messages.specs.ReadingInside.{limit_of, point_of, source_of, point_in, source_in, message_of}
+use Rattle.swp08_messages.specs.ReadingInside.{limit_of, source_of, point_in, source_in, message_of}
 use Rattle.swp08_messages.proofs.FieldLemmas.{number_of-below}
 use Rattle.swp08_messages.proofs.SpelledLemmas.{Spells-text}
 
@@ -135,13 +135,6 @@ pub record IsRead (command : ℕ) (bytes : List ℕ) (message : Message) : Type 
   pub command_is : (row message).command ≡ command
   pub spells : Below bytes (limits_of message) → Spells (command ∷ bytes) message
 
--- the numbers of the messages
-other_command : (command : ℕ) → command ≢ 1 → command ≢ 2 → command ≢ 3 → command ≢ 4 → (m : Message) → (row m).command ≢ command
-other_command command not_1 not_2 not_3 not_4 (Interrogate at) e = not_1 (sym e)
-other_command command not_1 not_2 not_3 not_4 (Connect at source) e = not_2 (sym e)
-other_command command not_1 not_2 not_3 not_4 (Tally at source) e = not_3 (sym e)
-other_command command not_1 not_2 not_3 not_4 (Connected at source) e = not_4 (sym e)
-
 reads : (command : ℕ) (bytes : List ℕ) (message : Message) → (Below bytes (limits_of message) → SpellThem bytes (row message).fields)
     → command ≡ (row message).command → IsRead command bytes message
 reads command bytes message spell is = record {
@@ -150,24 +143,28 @@ reads command bytes message spell is = record {
 }
 
 -- by a command's number
-by_number : (command number : ℕ) (bytes : List ℕ) (here there : Option Message)
-    → (command ≡ number → MatchOption here ((m : Message) → (row m).command ≢ command) (IsRead command bytes))
-    → (command ≢ number → MatchOption there ((m : Message) → (row m).command ≢ command) (IsRead command bytes))
-    → MatchOption (cond (nat_eq command number) here there) ((m : Message) → (row m).command ≢ command) (IsRead command bytes)
-by_number command number bytes here there is_number is_other =
-    elim (nat_eq command number) as (λ b. nat_eq command number ≡ b → MatchOption (cond b here there) ((m : Message) → (row m).command ≢ command) (IsRead command bytes)) [
-      | true ↦ λ e. is_number (eqb-true _ _ e)
-      | false ↦ λ e. is_other (λ same. grind (arith, nat_tests))
+reads_at : (command number : ℕ) (bytes : List ℕ) (message here : Message) (there : Option Message)
+    → (command ≡ number → IsRead command bytes here) → (there ≡ Some message → IsRead command bytes message)
+    → cond (nat_eq command number) (Some here) there ≡ Some message → IsRead command bytes message
+reads_at command number bytes message here there is_here is_there =
+    elim (nat_eq command number) as (λ b. nat_eq command number ≡ b → cond b (Some here) there ≡ Some message → IsRead command bytes message) [
+      | true ↦ λ e is. let same : here ≡ message = cc in subst (IsRead command bytes) same (is_here (eqb-true _ _ e))
+      | false ↦ λ e is. is_there is
     ] refl
 
 -- What is read of a command is a message of it, which DATA below the limits spells.
-pub message_of-reads : (command : ℕ) (bytes : List ℕ) → MatchOption (message_of command bytes) ((m : Message) → (row m).command ≢ command) (IsRead command bytes)
-message_of-reads command bytes =
-    by_number command 1 bytes _ _ (reads command bytes (Interrogate (point_in bytes)) (destination-in bytes)) (λ not_1.
-    by_number command 2 bytes _ _ (reads command bytes (Connect (point_in bytes) (source_in bytes)) (crosspoint-in bytes)) (λ not_2.
-    by_number command 3 bytes _ _ (reads command bytes (Tally (point_in bytes) (source_in bytes)) (crosspoint-in bytes)) (λ not_3.
-    by_number command 4 bytes _ _ (reads command bytes (Connected (point_in bytes) (source_in bytes)) (crosspoint-in bytes)) (λ not_4.
-    other_command command not_1 not_2 not_3 not_4))))
+pub message_of-reads : (command : ℕ) (bytes : List ℕ) (message : Message) → message_of command bytes ≡ Some message → IsRead command bytes message
+message_of-reads command bytes message =
+    reads_at command 1 bytes message _ _ (reads command bytes (Interrogate (point_in bytes)) (destination-in bytes)) (
+    reads_at command 2 bytes message _ _ (reads command bytes (Connect (point_in bytes) (source_in bytes)) (crosspoint-in bytes)) (
+    reads_at command 3 bytes message _ _ (reads command bytes (Tally (point_in bytes) (source_in bytes)) (crosspoint-in bytes)) (
+    reads_at command 4 bytes message _ _ (reads command bytes (Connected (point_in bytes) (source_in bytes)) (crosspoint-in bytes)) (
+    λ none. absurd cc))))
+
+-- Of which nothing is read is the command of no message.
+pub message_of-none : (command : ℕ) (bytes : List ℕ) → message_of command bytes ≡ None → (message : Message) → (row message).command ≢ command
+message_of-none command bytes none message is =
+    subst (λ o. MatchOption o ⊥ (λ m. limits_of m ≡ limits_of message)) (ap (λ c. message_of c bytes) is ∙ none) (limits_of-message_of message bytes)
 
 -- A message that DATA spells is what is read of it.
 pub message_of-Spells : (command : ℕ) (bytes : List ℕ) (message : Message) → Spells (command ∷ bytes) message → message_of command bytes ≡ Some message

@@ -5,7 +5,6 @@ use Rattle.swp08_messages.specs.declared.fault.ReadFault.{ReadFault}
 use Rattle.swp08_messages.specs.declared.fault.ReadFault.TheVariants.{UnknownCommand, WrongLength, BadField}
 use Rattle.swp08_messages.specs.declared.message.Message.{Message}
 use Rattle.swp08_messages.specs.Row.{row}
-use Rattle.swp08_messages.specs.Text.{text}
 use Rattle.swp08_messages.specs.Spelled.{Spells}
 use Rattle.swp08_messages.specs.Refused.{HasUnknownCommand, HasWrongLength, HasBadField, IsRefused}
 use Rattle.swp08_messages.proofs.ReadingLemmas.{length-text-command}

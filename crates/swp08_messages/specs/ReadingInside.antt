@@ -1,11 +1,12 @@
 -- How DATA is read in the crate: a message by its bytes as they come, whose row they are then held to.
-use Rattle.std.specs.Prelude.{ℕ, ◌+◌, ◌*◌, ◌/◌, ◌%◌, ◌==◌, nat_lt, if◌then◌else◌, List, [], ◌∷◌, length, slice_index, map, Option, Some, None}
+use Rattle.std.specs.Prelude.{ℕ, ◌+◌, ◌*◌, ◌/◌, ◌%◌, ◌==◌, nat_lt, if◌then◌else◌, List, [], ◌∷◌, length, slice_index, Option, Some, None}
 use Rattle.swp08_messages.specs.declared.fault.ReadFault.{ReadFault}
 use Rattle.swp08_messages.specs.declared.fault.ReadFault.TheVariants.{WrongLength, BadField}
 use Rattle.swp08_messages.specs.declared.field.Field.{Field}
 use Rattle.swp08_messages.specs.declared.field.Field.TheVariants.{MatrixLevel, DestHigh, CrosspointHigh, DestLow, SourceLow}
 use Rattle.swp08_messages.specs.declared.point.Point.{Point}
 use Rattle.swp08_messages.specs.declared.message.Message.{Message}
+use Rattle.swp08_messages.specs.Field.{part, parked}
 use Rattle.swp08_messages.specs.declared.message.Message.TheVariants.{Interrogate, Connect, Tally, Connected}
 
 -- the least number that is no byte of a field
@@ -13,16 +14,16 @@ abbrev pub limit_of : Field → ℕ
 limit_of (MatrixLevel matrix level) = 256
 limit_of (DestHigh dest) = 256
 limit_of (CrosspointHigh dest source) = 256
-limit_of (DestLow dest) = 128
-limit_of (SourceLow source) = 128
+limit_of (DestLow dest) = part
+limit_of (SourceLow source) = part
 
 -- the destination that these bytes give
 abbrev pub point_of : ℕ → ℕ → ℕ → Point
-point_of place high low = record { matrix = place / 16; level = place % 16; dest = high / 16 % 8 * 128 + low }
+point_of place high low = record { matrix = place / 16; level = place % 16; dest = high / 16 % 8 * part + low }
 
 -- the source that these bytes give
 abbrev pub source_of : ℕ → ℕ → Option ℕ
-source_of high low = if high % 8 * 128 + low == 1023 then None else Some (high % 8 * 128 + low)
+source_of high low = if high % 8 * part + low == parked then None else Some (high % 8 * part + low)
 
 -- the destination and the source that the bytes behind a command give, a missing byte taken as 0
 abbrev pub point_in : List ℕ → Point

@@ -5,7 +5,7 @@ ghost use Rattle.std.specs.Prelude.{◌≡◌, slice_index};
 ghost use Rattle.swp08_messages.specs.Row.{destination, crosspoint};
 ghost use Rattle.swp08_messages.specs.ReadingInside.{message_of, point_in, source_in};
 
-use crate::field::Field;
+use crate::field::{Field, PART};
 use crate::message::Message;
 use crate::point::{PARKED, Point};
 use crate::row::Fields;
@@ -73,7 +73,7 @@ fn point_in(behind: &[u8]) -> Point
     Point {
         matrix: place / 16,
         level: place % 16,
-        dest: u16::from(high) * 128 + u16::from(low),
+        dest: u16::from(high) * PART + u16::from(low),
     }
 }
 
@@ -82,6 +82,6 @@ fn source_in(behind: &[u8]) -> Option<u16>
     ensures { result ≡ source_in behind.now }
 {
     let high = byte_at(behind, 1) % 8;
-    let number = u16::from(high) * 128 + u16::from(byte_at(behind, 3));
+    let number = u16::from(high) * PART + u16::from(byte_at(behind, 3));
     if number == PARKED { None } else { Some(number) }
 }

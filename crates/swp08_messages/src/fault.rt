@@ -1,3 +1,5 @@
+//! Why DATA is no message.
+
 use thiserror::Error;
 
 /// Why DATA is no message: the first of these faults. The commands and their lengths are those of the SW-P-08 General

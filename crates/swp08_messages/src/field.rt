@@ -6,6 +6,15 @@ ghost use Rattle.swp08_messages.specs.ReadingInside.{limit_of};
 
 use crate::point::{PARKED, is_source};
 
+// Matrices, and the levels of each, are numbered below this.
+const LEVELS: u8 = 16;
+
+// Destinations are numbered below this.
+const DESTS: u16 = 1024;
+
+/// The high part of a number is the number DIV this, its low part the number MOD this.
+pub(crate) const PART: u16 = 128;
+
 /// What one byte behind a command says, and of what. A number is sent in two parts: the high parts, DIV 128, of one or
 /// two numbers share a byte, the multiplier, and each low part, MOD 128, has a byte.
 #[derive(Clone, Copy, Debug, PartialEq, Eq)]
@@ -35,9 +44,9 @@ impl Field {
         ensures { IsTrue result ↔ HasRoom self }
     {
         match self {
-            Field::MatrixLevel(matrix, level) => matrix < 16 && level < 16,
-            Field::DestHigh(dest) | Field::DestLow(dest) => dest < 1024,
-            Field::CrosspointHigh(dest, source) => dest < 1024 && is_source(source),
+            Field::MatrixLevel(matrix, level) => matrix < LEVELS && level < LEVELS,
+            Field::DestHigh(dest) | Field::DestLow(dest) => dest < DESTS,
+            Field::CrosspointHigh(dest, source) => dest < DESTS && is_source(source),
             Field::SourceLow(source) => is_source(source),
         }
     }
@@ -62,7 +71,7 @@ impl Field {
     {
         match self {
             Field::MatrixLevel(..) | Field::DestHigh(_) | Field::CrosspointHigh(..) => 256,
-            Field::DestLow(_) | Field::SourceLow(_) => 128,
+            Field::DestLow(_) | Field::SourceLow(_) => PART,
         }
     }
 }
@@ -80,11 +89,11 @@ fn high_part(number: u16) -> u8
     requires { number < dests }
     ensures { result ≡ number / 128 }
 {
-    (number / 128) as u8
+    (number / PART) as u8
 }
 
 fn low_part(number: u16) -> u8
     ensures { result ≡ number % 128 }
 {
-    (number % 128) as u8
+    (number % PART) as u8
 }

@@ -19,8 +19,10 @@ pub fn one_message()
 
 /// DATA spells a message or is refused, never both, and is refused with one fault.
 pub fn one_reading(bytes: &[u8])
-    ensures some { ((message : Message) × Spells bytes.now message) ⊎ ((fault : ReadFault) × IsRefused bytes.now fault) }
-    ensures not_both { (message : Message) (fault : ReadFault) → Spells bytes.now message → IsRefused bytes.now fault → ⊥ }
+    ensures some { ((message : Message) × Spells bytes.now message)
+        ⊎ ((fault : ReadFault) × IsRefused bytes.now fault) }
+    ensures not_both { (message : Message) (fault : ReadFault)
+        → Spells bytes.now message → IsRefused bytes.now fault → ⊥ }
     ensures one { (f g : ReadFault) → IsRefused bytes.now f → IsRefused bytes.now g → f ≡ g }
 {
     let _ = Message::read(bytes);
@@ -31,5 +33,5 @@ pub fn text_bytes()
     ensures some { (message : Message) → 1 ≤ length (text message) }
     ensures most { (message : Message) → length (text message) ≤ max_len }
     ensures max_len { Message.MAX_LEN ≡ max_len }
-    ensures bytes { (message : Message) → InRange message → All (λ byte. byte < 256) (text message) }
+    ensures bytes { (message : Message) → InRange message → All (λ b. b < 256) (text message) }
 {}

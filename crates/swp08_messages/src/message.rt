@@ -107,7 +107,8 @@ impl Message {
         ensures text { MatchOption result
             ((message : Message) → InRange message → bytes.now ≡ text message → ⊥)
             (λ message. InRange message × (bytes.now ≡ text message)) }
-        ensures only { (message : Message) → InRange message → bytes.now ≡ text message → result ≡ Some message }
+        ensures only { (message : Message)
+            → InRange message → bytes.now ≡ text message → result ≡ Some message }
     {
         let [_, behind @ ..] = bytes else {
             return None;

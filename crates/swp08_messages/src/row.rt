@@ -3,6 +3,7 @@
 ghost use Rattle.std.specs.Prelude.{◌≡◌, ◌+◌, ◌≤◌, ◌∷◌, ◌++◌, ◌↔◌, IsTrue, map, vec_len, vec_capacity};
 ghost use Rattle.std.specs.List.{AllByRecursion};
 ghost use Rattle.swp08_messages.specs.Field.{HasRoom, byte_of};
+ghost use Rattle.swp08_messages.specs.Text.{max_len};
 ghost use Rattle.swp08_messages.specs.ReadingInside.{fault_of};
 
 use crate::fault::ReadFault;
@@ -10,7 +11,7 @@ use crate::field::Field;
 use crate::message::MessageKind;
 use arrayvec::ArrayVec;
 
-/// The fields behind a command, in order.
+/// The fields behind a command, in order: one fewer than the most bytes of a message's DATA.
 pub(crate) type Fields = ArrayVec<Field, 7>;
 
 /// A message as it is written: its command, what it is for, and what each byte behind the command says.
@@ -37,8 +38,9 @@ impl Row {
     /// Appends the command and the byte of each field.
     pub(crate) fn write(&self, out: &mut Vec<u8>)
         requires in_range { AllByRecursion HasRoom self.now.fields.items }
-        requires room { vec_len out.old + 8 ≤ vec_capacity out.old }
-        ensures text { out.new.items ≡ out.old.items ++ self.now.command ∷ map byte_of self.now.fields.items }
+        requires room { vec_len out.old + max_len ≤ vec_capacity out.old }
+        ensures text { out.new.items
+            ≡ out.old.items ++ self.now.command ∷ map byte_of self.now.fields.items }
         ensures room { vec_capacity out.new ≡ vec_capacity out.old }
     {
         out.push_reserved(self.command);
