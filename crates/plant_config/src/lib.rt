@@ -2,6 +2,8 @@
 //! changes. It is seen as plain data, by the same definitions that the crates above use.
 #![tactic(auto)]
 
+#[cfg(test)]
+mod example;
 mod laws;
 mod limits;
 mod numbers;

@@ -1,14 +1,20 @@
+//! The bench plant, and the numbers of its places.
+
 use crate::{DestId, Level, Panel, PanelNo, Plant, Point, SourceId};
 use std::test::Fail;
 
-/// Matrix, level and number of a destination and of a source, and the number of each in the whole bench plant.
-const PLACES: [(u8, u8, u16, Option<u32>); 6] = [
+// Matrix, level and number of a destination and of a source, and the number of each in the whole bench plant.
+const PLACES: [(u8, u8, u16, Option<u32>); 10] = [
     (0, 0, 0, Some(0)),
     (0, 0, 5, Some(5)),
     (0, 0, 31, Some(31)),
     (0, 0, 32, None),
     (0, 5, 0, None),
     (1, 0, 0, None),
+    (16, 0, 0, None),
+    (0, 16, 0, None),
+    (0, 0, 1024, None),
+    (0, 0, 65535, None),
 ];
 
 #[test]

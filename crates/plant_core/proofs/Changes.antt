@@ -7,12 +7,8 @@ use Rattle.std.specs.FinMap as finite
 use Rattle.std.proofs.lemmas.Bool.{eqb-true, eq-eqb, ne_eqb}
 use Rattle.plant_config.specs.declared.records.Change.{Change}
 use Rattle.plant_core.specs.State.{Spot, Crosspoints, source_of, is_idle, released, given, all_given, applied}
+use Rattle.plant_core.specs.RowsInside.{written}
 use Rattle.plant_core.proofs.Validity.{source_of-spot}
-
--- the crosspoints with one destination written
-abbrev pub written : Crosspoints → ℕ → Option ℕ → Crosspoints
-written crosspoints dest None = finite.remove crosspoints dest
-written crosspoints dest (Some source) = finite.insert crosspoints dest (record { source = source; tie = None })
 
 -- no destination has a tie
 abbrev pub NoTies : Crosspoints → Type 0
@@ -81,17 +77,6 @@ applied-one crosspoints dest source no_ties =
       | true ↦ λ idle. written-same crosspoints dest source no_ties (same_source _ _ idle)
       | false ↦ λ busy. given-removed crosspoints dest source
     ] refl
-
--- what the code writes is what the list of one change makes
-pub inserted : (crosspoints new : Crosspoints) (dest : ℕ) (carried : Option ℕ) (source : ℕ) → NoTies crosspoints → carried ≡ Some source →
-    new ≡ finite.insert crosspoints dest (record { source = source; tie = None }) → new ≡ applied crosspoints (record { dest = dest; source = carried } ∷ [])
-inserted crosspoints new dest carried source no_ties is h =
-    h ∙ ap (written crosspoints dest) (sym is) ∙ sym (applied-one crosspoints dest carried no_ties)
-
-pub removed : (crosspoints new : Crosspoints) (dest : ℕ) (carried : Option ℕ) → NoTies crosspoints → carried ≡ None →
-    new ≡ finite.remove crosspoints dest → new ≡ applied crosspoints (record { dest = dest; source = carried } ∷ [])
-removed crosspoints new dest carried no_ties is h =
-    h ∙ ap (written crosspoints dest) (sym is) ∙ sym (applied-one crosspoints dest carried no_ties)
 
 tied_self : (dest : ℕ) → eq_by_cmp nat_cmp dest dest ≡ true
 tied_self dest = unsigned_tied dest dest ∙ eq-eqb dest dest refl

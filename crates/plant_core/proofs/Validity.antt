@@ -12,6 +12,7 @@ use Rattle.plant_config.specs.Sites.{dest_at, source_at}
 use Rattle.plant_config.specs.declared.records.Change.{Change}
 use Rattle.plant_config.proofs.SiteLemmas.{dest_at-below, source_at-below}
 use Rattle.plant_core.specs.State.{Spot, Crosspoints, IsCrosspoint, IsChangeOf, IsValid, start, source_of, is_idle, released, given, all_given, applied}
+use Rattle.plant_core.specs.RowsInside.{written}
 use Rattle.plant_core.specs.Step.{wanted, change_of}
 
 pub IsValid-start : (plant : PlantData) → IsPlant plant → IsValid (start plant)
@@ -55,7 +56,7 @@ module _ (plant : PlantData) where
         | false ↦ λ e. all q s e
       ] (sym (finite.get-remove nat_cmp_total crosspoints dest q) ∙ h)
 
-  pub IsValid-insert : (crosspoints : Crosspoints) (dest source : ℕ) → IsValid (record { plant = plant; crosspoints = crosspoints }) → IsCrosspoint plant dest source →
+  IsValid-insert : (crosspoints : Crosspoints) (dest source : ℕ) → IsValid (record { plant = plant; crosspoints = crosspoints }) → IsCrosspoint plant dest source →
       IsValid (record { plant = plant; crosspoints = finite.insert crosspoints dest (record { source = source; tie = None }) })
   IsValid-insert crosspoints dest source valid is = record {
     is_plant = valid.is_plant;
@@ -63,13 +64,18 @@ module _ (plant : PlantData) where
     ties = spots-insert (λ q s. s.tie ≡ None) crosspoints dest _ valid.ties refl;
   }
 
-  pub IsValid-remove : (crosspoints : Crosspoints) (dest : ℕ) → IsValid (record { plant = plant; crosspoints = crosspoints }) →
+  IsValid-remove : (crosspoints : Crosspoints) (dest : ℕ) → IsValid (record { plant = plant; crosspoints = crosspoints }) →
       IsValid (record { plant = plant; crosspoints = finite.remove crosspoints dest })
   IsValid-remove crosspoints dest valid = record {
     is_plant = valid.is_plant;
     is_crosspoint = spots-remove (λ q s. IsCrosspoint plant q s.source) crosspoints dest valid.is_crosspoint;
     ties = spots-remove (λ q s. s.tie ≡ None) crosspoints dest valid.ties;
   }
+
+  pub IsValid-written : (crosspoints : Crosspoints) (dest : ℕ) (source : Option ℕ) → IsValid (record { plant = plant; crosspoints = crosspoints }) → IfSome source (IsCrosspoint plant dest) →
+      IsValid (record { plant = plant; crosspoints = written crosspoints dest source })
+  IsValid-written crosspoints dest None valid is = IsValid-remove crosspoints dest valid
+  IsValid-written crosspoints dest (Some source) valid is = IsValid-insert crosspoints dest source valid is
 
   IsValid-released : (crosspoints : Crosspoints) (changes : List Change) → IsValid (record { plant = plant; crosspoints = crosspoints }) →
       IsValid (record { plant = plant; crosspoints = released crosspoints changes })

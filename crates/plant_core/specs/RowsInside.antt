@@ -1,7 +1,7 @@
 -- How a state is kept: the crosspoints as a list of rows.
-use Rattle.std.specs.Prelude.{◌≡◌, ℕ, ◌<◌, nat_eq, List, All, map, Option, None, refl}
+use Rattle.std.specs.Prelude.{◌≡◌, ℕ, ◌<◌, nat_eq, List, All, map, Option, Some, None, refl}
 use Rattle.std.specs.List.{IsDistinct}
-use Rattle.std.specs.FinMap.{from_entries}
+use Rattle.std.specs.FinMap.{from_entries, insert, remove}
 use Rattle.std.specs.Coded.{Coded, code_by, coded×, coded_ℕ, coded_option}
 use Rattle.plant_config.specs.Plant.{PlantData, destinations_of}
 use Rattle.plant_core.specs.declared.rows.Row.{Row}
@@ -20,6 +20,12 @@ pub record Kept : Type 0 where
 abbrev pub local : ℕ → Spot
 local source = record { source = source; tie = None }
 
+-- the crosspoints with one destination written
+abbrev pub written : Crosspoints → ℕ → Option ℕ → Crosspoints
+written crosspoints dest None = remove crosspoints dest
+written crosspoints dest (Some source) = insert crosspoints dest (local source)
+
+-- the crosspoints that rows say
 abbrev pub crosspoints_of : List Row → Crosspoints
 crosspoints_of rows = from_entries (map (λ row. (row.dest, local row.source)) rows)
 

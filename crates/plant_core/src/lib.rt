@@ -4,6 +4,8 @@
 #![tactic(auto)]
 
 mod answer;
+#[cfg(test)]
+mod example;
 mod laws;
 mod place;
 mod request;

@@ -3,7 +3,7 @@
 ghost use Rattle.std.specs.Prelude.{◌≡◌, ◌<◌, ◌==◌, not, filter, find, position, IfOk, vec_capacity};
 ghost use Rattle.std.specs.FinMap.{empty, insert, remove};
 ghost use Rattle.plant_core.specs.State.{source_of};
-ghost use Rattle.plant_core.specs.RowsInside.{local};
+ghost use Rattle.plant_core.specs.RowsInside.{local, written};
 
 use plant_config::{DestId, SourceId};
 use std::alloc::{AllocError, Global};
@@ -56,8 +56,20 @@ impl Rows {
         Some(row.source)
     }
 
-    /// Gives a destination a source.
-    pub fn insert(&mut self, dest: DestId, source: SourceId)
+    /// Writes one destination: gives it a source, or parks it.
+    pub fn set(&mut self, dest: DestId, source: Option<SourceId>)
+        requires { dest < self.old.room }
+        ensures crosspoints { self.new.crosspoints ≡ written self.old.crosspoints dest source }
+        ensures room { self.new.room ≡ self.old.room }
+    {
+        match source {
+            Some(source) => self.insert(dest, source),
+            None => self.remove(dest),
+        }
+    }
+
+    // Gives a destination a source.
+    fn insert(&mut self, dest: DestId, source: SourceId)
         requires { dest < self.old.room }
         ensures crosspoints { self.new.crosspoints ≡ insert self.old.crosspoints dest (local source) }
         ensures room { self.new.room ≡ self.old.room }
@@ -68,8 +80,8 @@ impl Rows {
         }
     }
 
-    /// Parks a destination.
-    pub fn remove(&mut self, dest: DestId)
+    // Parks a destination.
+    fn remove(&mut self, dest: DestId)
         ensures crosspoints { self.new.crosspoints ≡ remove self.old.crosspoints dest }
         ensures room { self.new.room ≡ self.old.room }
     {

@@ -2,7 +2,7 @@
 
 ghost use Rattle.std.specs.Prelude.{◌≡◌, [], ◌∷◌, IfOk};
 ghost use Rattle.swp08_messages.specs.Text.{InRange, IsPoint, IsSource, kind_of};
-ghost use Rattle.swp08_messages.specs.declared.message.Message.TheVariants.{Connect};
+ghost use Rattle.swp08_messages.specs.declared.message.Message.TheVariants.{Connect, Tally};
 ghost use Rattle.swp08_messages.specs.declared.message.MessageKind.TheVariants as kinds;
 ghost use Rattle.plant_config.specs.Plant.{IsPlant};
 ghost use Rattle.plant_core.specs.State.{start, source_of, standing, applied, Fits, IsValid, IsChangeOf};
@@ -72,6 +72,18 @@ impl PlantState {
         Some(self.plant.source_number(source))
     }
 
+    // The tally of a place.
+    fn tally(&self, at: Point) -> Message
+        requires { IsPoint at }
+        ensures tally { result ≡ Tally at (standing self.now at) }
+        ensures in_range { InRange result }
+    {
+        Message::Tally {
+            at,
+            source: self.standing(at),
+        }
+    }
+
     /// One event: what it does to the state, and its one answer, which can be spelled.
     pub fn step(&mut self, request: &Request) -> Answer
         requires { Fits self.old request.now }
@@ -94,10 +106,7 @@ impl PlantState {
         ensures in_range { InRange result }
     {
         match message {
-            Message::Interrogate { at } => Message::Tally {
-                at,
-                source: self.standing(at),
-            },
+            Message::Interrogate { at } => self.tally(at),
             Message::Connect { at, source } => self.connect(at, source),
             Message::Tally { .. } | Message::Connected { .. } => unreachable!(),
         }
@@ -116,10 +125,7 @@ impl PlantState {
                 self.apply(change);
                 Message::Connected { at, source }
             }
-            None => Message::Tally {
-                at,
-                source: self.standing(at),
-            },
+            None => self.tally(at),
         }
     }
 
@@ -148,9 +154,6 @@ impl PlantState {
         requires { IsChangeOf self.old.plant change }
         ensures { self.new ≡ record self.old { crosspoints = applied self.old.crosspoints (change ∷ []) } }
     {
-        match change.source {
-            Some(source) => self.rows.insert(change.dest, source),
-            None => self.rows.remove(change.dest),
-        }
+        self.rows.set(change.dest, change.source);
     }
 }

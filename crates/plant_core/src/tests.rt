@@ -67,16 +67,40 @@ fn out_of_range_the_answer_is_what_stands(rt: HostRuntime) -> Result<(), Fail> {
 
     // No such source, no such destination, no such level.
     let stands = Message::Tally { at, source };
-    let too_high = Message::Connect {
-        at,
-        source: Some(32),
-    };
-    answers(&rt, &mut state, too_high, stands);
+    for number in [32, 1022] {
+        let source = Some(number);
+        answers(&rt, &mut state, Message::Connect { at, source }, stands);
+    }
     let at = place(0, 32);
     let parked = Message::Tally { at, source: None };
     answers(&rt, &mut state, Message::Connect { at, source }, parked);
     let at = place(5, 5);
     let parked = Message::Tally { at, source: None };
     answers(&rt, &mut state, Message::Interrogate { at }, parked);
+    Ok(())
+}
+
+#[test]
+fn an_idle_connect_is_made_and_others_stay(rt: HostRuntime) -> Result<(), Fail> {
+    let plant = Plant::bench(rt.alloc())?;
+    let mut state = PlantState::start(rt.alloc(), &plant)?;
+    let source = Some(3);
+    for dest in [0, 5, 31] {
+        let at = place(0, dest);
+        let made = Message::Connected { at, source };
+        answers(&rt, &mut state, Message::Connect { at, source }, made);
+    }
+    let at = place(0, 5);
+    let made = Message::Connected { at, source };
+    answers(&rt, &mut state, Message::Connect { at, source }, made);
+    let park = Message::Connect { at, source: None };
+    let parked = Message::Connected { at, source: None };
+    answers(&rt, &mut state, park, parked);
+    answers(&rt, &mut state, park, parked);
+    for (dest, source) in [(0, Some(3)), (5, None), (31, Some(3))] {
+        let at = place(0, dest);
+        let stands = Message::Tally { at, source };
+        answers(&rt, &mut state, Message::Interrogate { at }, stands);
+    }
     Ok(())
 }
