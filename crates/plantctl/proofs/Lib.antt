@@ -1,3 +1,3 @@
-pub mod Causes
-pub mod Ends
-pub mod Forms
+pub mod StopLemmas
+pub mod ReplayEndsLemmas
+pub mod RunEndsLemmas

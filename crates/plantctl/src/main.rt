@@ -1,17 +1,26 @@
-//! `plantctl`, the controller of a television plant's routers. Its top call is `run_quiet`, which does all that the program
-//! does; `main` hands it the words of the command line, the real files and the standard output.
+//! `plantctl`, the controller of a television plant's routers. Its top call is `run_quiet`, which does all that the
+//! program does; `main` hands it the words of the command line, the real files and the standard output. What the
+//! exit statuses tell are the laws of `laws`.
 #![tactic(auto)]
 
-mod file;
-mod report;
+mod laws;
+mod plant;
+mod replay;
 mod run;
+mod stop;
 mod words;
 
+pub use laws::{
+    file_refused, files_stay, output_fault, replayed, script_refused, statuses, usage_told,
+};
 pub use run::run_quiet;
 
 #[cfg(test)]
+mod example;
+#[cfg(test)]
 mod tests;
 
+use crate::stop::{Stop, report};
 use ctl_io::{StdFiles, StdOut};
 use std::io::ErrorKind;
 use std::process::ExitCode;
@@ -22,7 +31,9 @@ fn main(rt: HostRuntime) -> ExitCode {
     let mut out = StdOut::new(&rt);
     let status = match words::arguments(&rt) {
         Ok(words) => run_quiet(alloc, &words, &mut files, &mut out),
-        Err(error) if error.kind() == ErrorKind::OutOfMemory => run::out_of_memory(&mut out),
+        Err(error) if error.kind() == ErrorKind::OutOfMemory => {
+            report(&mut out, Err(Stop::NoMemory)).number()
+        }
         // Arguments that are no text have no form, as no words have none.
         Err(_) => run_quiet(alloc, &[], &mut files, &mut out),
     };

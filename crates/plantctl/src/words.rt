@@ -1,32 +1,57 @@
 //! The words of the command line.
 
-ghost use Rattle.std.specs.Prelude.{◌↔◌, IsTrue, MatchOption};
-ghost use Rattle.plantctl.specs.Words.{AsksReplay, HasNoForm, IsName, texts};
+ghost use Rattle.std.specs.Prelude.{◌↔◌, [], ◌∷◌, codes, IsTrue, MatchOption};
+ghost use Rattle.plantctl.specs.Words.{HasNoForm, IsName, texts};
+ghost use Rattle.plantctl.specs.StopInside.{AsksFor};
 
+use crate::plant::PlantWord;
 use std::rt::Env;
 use std::{env, io};
 
-/// No word that names something begins with it.
-pub(crate) const DASH: u8 = b'-';
+// No word that names something begins with it.
+const DASH: u8 = b'-';
 
-/// The name of the script that the words ask to replay on the bench plant, `None` where they have no form.
-pub(crate) fn script_name(words: &[String]) -> Option<&str>
-    ensures { MatchOption result (HasNoForm (texts words.now)) (λ name. AsksReplay (texts words.now) name.now) }
+/// What the words ask.
+#[derive(Clone, Copy, Debug, PartialEq, Eq)]
+pub(crate) enum Command<'a> {
+    /// Replay the script of this name on a plant.
+    Replay { plant: PlantWord, script: &'a str },
+}
+
+// `None` where the words have no form.
+pub(crate) fn read_words(words: &[String]) -> Option<Command<'_>>
+    ensures { MatchOption result
+        (HasNoForm (texts words.now))
+        (λ command. AsksFor (texts words.now) command) }
 {
-    match words {
-        [command, plant, script] => {
-            let script = script.as_str();
-            if command.as_str() == "replay" && plant.as_str() == "bench" && is_name(script) {
-                Some(script)
-            } else {
-                None
-            }
-        }
+    let [first, others @ ..] = words else {
+        return None;
+    };
+    match first.as_str() {
+        "replay" => read_replay(others),
         _ => None,
     }
 }
 
-/// Whether a word names something: it isn't empty and doesn't begin with a dash.
+// The command of the words behind `replay`.
+fn read_replay(words: &[String]) -> Option<Command<'_>>
+    ensures { MatchOption result
+        (HasNoForm (codes "replay" ∷ texts words.now))
+        (λ command. AsksFor (codes "replay" ∷ texts words.now) command) }
+{
+    let [plant, script] = words else {
+        return None;
+    };
+    let plant = PlantWord::read(plant.as_str())?;
+    let script = script.as_str();
+    if is_name(script) {
+        Some(Command::Replay { plant, script })
+    } else {
+        None
+    }
+}
+
+// Whether a word names something: it isn't empty and doesn't begin with a dash.
 fn is_name(word: &str) -> bool
     ensures { IsTrue result ↔ IsName word.now }
 {

@@ -1,5 +1,5 @@
-pub mod Lines
-pub mod Messages
-pub mod Oneness
-pub mod Telling
-pub mod Working
+pub mod LinesLemmas
+pub mod LineSpellsLemmas
+pub mod LinesSpellLemmas
+pub mod RepliesLemmas
+pub mod IsReplayLemmas

@@ -1,13 +1,34 @@
-//! What holds of every script.
+//! What holds of every message's frame and of every script.
 
-ghost use Rattle.std.specs.Prelude.{◌≡◌, ℕ, List};
+ghost use Rattle.std.specs.Prelude.{◌≡◌, ◌⊎◌, ℕ, List, [], ◌∷◌};
+ghost use Rattle.dle_framing.specs.declared.item.Item.TheVariants.{Good};
+ghost use Rattle.dle_framing.specs.Frame.{frame};
+ghost use Rattle.dle_framing.specs.Laws.{IsReadAs};
+ghost use Rattle.swp08_messages.specs.declared.message.Message.{Message};
+ghost use Rattle.swp08_messages.specs.Text.{text, InRange};
+ghost use Rattle.swp08_messages.specs.Spelled.{Spells};
 ghost use Rattle.plant_config.specs.Plant.{PlantData};
 ghost use Rattle.record_replay.specs.Script.{IsFirstBad};
 ghost use Rattle.record_replay.specs.Replay.{IsReplay};
 
-/// A script has one replay text on a plant, or one first bad line, and never both.
+/// The frame of a message is read as one good item with the message's DATA and no rest. These DATA spell the
+/// message, and no other.
+pub fn one_item()
+    ensures item { (message : Message) → InRange message
+        → IsReadAs (frame (text message)) (Good (text message) ∷ []) }
+    ensures own { (message : Message) → InRange message → Spells (text message) message }
+    ensures only { (message other : Message) → InRange message
+        → Spells (text message) other → other ≡ message }
+{}
+
+/// A script has a replay text on each plant or a first bad line, never both, and one alone of either.
 pub fn one_replay()
-    ensures text { (plant : PlantData) (script a b : List ℕ) → IsReplay plant script a → IsReplay plant script b → a ≡ b }
+    ensures always { (plant : PlantData) (script : List ℕ)
+        → ((output : List ℕ) × IsReplay plant script output)
+        ⊎ ((number : ℕ) × IsFirstBad script number) }
+    ensures text { (plant : PlantData) (script a b : List ℕ)
+        → IsReplay plant script a → IsReplay plant script b → a ≡ b }
     ensures line { (script : List ℕ) (m n : ℕ) → IsFirstBad script m → IsFirstBad script n → m ≡ n }
-    ensures apart { (plant : PlantData) (script output : List ℕ) (number : ℕ) → IsReplay plant script output → IsFirstBad script number → ⊥ }
+    ensures apart { (plant : PlantData) (script output : List ℕ) (number : ℕ)
+        → IsReplay plant script output → IsFirstBad script number → ⊥ }
 {}

@@ -1,12 +1,16 @@
-//! Replays: scripts of what panels sent, worked on one plant by one thread. A script's lines are all read before the first
-//! is worked, so a script with a bad line writes nothing. What is written is the script's one replay text.
+//! Replays: scripts of what panels sent, replayed on one plant by one thread. A script's lines are all read before
+//! the first is worked, so a script with a bad line writes nothing. What is written is the script's one replay
+//! text.
 #![tactic(auto)]
 
-mod answer;
 mod laws;
-mod read_line;
+mod line;
+mod output;
 mod replay;
 mod script;
 
-pub use laws::one_replay;
+pub use laws::{one_item, one_replay};
 pub use replay::{ReplayFault, replay_script};
+
+#[cfg(test)]
+mod example;

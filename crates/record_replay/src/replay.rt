@@ -1,26 +1,25 @@
-//! A script is read whole, and then worked.
+//! A script is read whole, and then its works are done.
 
-ghost use Rattle.std.specs.Prelude.{◌≡◌, ◌⊎◌, ◌<◌, Err, ℕ, OnOk, OnErr, IfOk, All, take, length};
-ghost use Rattle.ctl_io.specs.Faults.{Rose, KeepsCount};
-ghost use Rattle.ctl_io.specs.Sink.{appended};
+ghost use Rattle.std.specs.Prelude.{◌≡◌, ◌<◌, ◌⊎◌, Err, ℕ, OnOk, OnErr, IfOk, All, length, IsErrOf};
+ghost use Rattle.ctl_io.specs.Faults.{counted};
+ghost use Rattle.ctl_io.specs.Sink.{appended, AppendsPart};
 ghost use Rattle.record_replay.specs.declared.replay.ReplayFault.TheVariants.{NoMemory};
-ghost use Rattle.record_replay.specs.Script.{lines, TellAll, IsFirstBad, Asks};
-ghost use Rattle.record_replay.specs.Replay.{HasReplayed, HasReplayedPart, replies};
+ghost use Rattle.record_replay.specs.Script.{lines, LinesSpell, IsFirstBad, IsWork};
+ghost use Rattle.record_replay.specs.Replay.{HasReplayed, HasReplayedFront, output_failed, replies};
 
-use crate::answer::answer_line;
-use crate::read_line::read_line;
+use crate::line::{Work, read_line, request};
+use crate::output::reply_line;
 use crate::script::split_line;
 use ctl_io::{Sink, write_all};
 use plant_config::Plant;
 use plant_core::PlantState;
 use std::alloc::{AllocError, AllocFailed, Global};
-use swp08_messages::Message;
 
 /// Why a replay ended early.
 #[derive(Clone, Copy, Debug, PartialEq, Eq)]
 pub enum ReplayFault {
     NoMemory,
-    /// The line of this number, counted from 1, is the first that has no form of a script. Nothing was written.
+    /// The line of this number, counted from 1, is the first that spells nothing.
     BadLine(u64),
     /// A write of the output failed.
     OutputFault,
@@ -42,62 +41,75 @@ impl<T: Drop> From<AllocFailed<T>> for ReplayFault {
     }
 }
 
-/// Works a script's lines in order on one plant, from its start, and writes an output line for each.
+/// Does the works of a script's lines in order on one plant, from its start, and writes an output line for
+/// each.
 pub fn replay_script<K: Sink>(
     alloc: Global,
     plant: &Plant,
     script: &[u8],
     out: &mut K,
 ) -> Result<(), ReplayFault>
-    ensures ok { OnOk result (HasReplayed plant.now script.now (K.written out.old) (K.written out.new)) }
-    ensures bad_line { (number : ℕ) → result ≡ Err (ReplayFault.BadLine number) → IsFirstBad script.now number × (K.written out.new ≡ K.written out.old) }
-    ensures output_fault { result ≡ Err ReplayFault.OutputFault → Rose (K.faults out.old) (K.faults out.new) }
+    ensures ok { OnOk result
+        (HasReplayed plant.now script.now (K.written out.old) (K.written out.new)) }
+    ensures bad_line { (number : ℕ) → result ≡ Err (ReplayFault.BadLine number)
+        → IsFirstBad script.now number }
+    ensures output_fault { IsErrOf result ReplayFault.OutputFault
+        → HasReplayedFront plant.now script.now (K.written out.old) (K.written out.new) }
+    // Memory ran out before anything was written, or behind a front of the replay text.
+    ensures no_memory { IsErrOf result ReplayFault.NoMemory
+        → (K.written out.new ≡ K.written out.old)
+        ⊎ HasReplayedFront plant.now script.now (K.written out.old) (K.written out.new) }
 
-    // Whatever ends it early, a front of the replay text was written, or nothing.
-    ensures part { OnErr result ((K.written out.new ≡ K.written out.old) ⊎ HasReplayedPart plant.now script.now (K.written out.old) (K.written out.new)) }
-    ensures count { KeepsCount (K.faults out.old) (K.faults out.new) }
+    // A bad line leaves the output.
+    ensures same { (number : ℕ) → result ≡ Err (ReplayFault.BadLine number)
+        → K.written out.new ≡ K.written out.old }
+    // The output's count of faults rose by one at a fault of the output, and else stayed.
+    ensures count { K.faults out.new ≡ counted (output_failed result) (K.faults out.old) }
 {
-    let messages = read_script(alloc, script)?;
+    let works = read_script(alloc, script)?;
     let mut state = PlantState::start(alloc, plant)?;
-    work(alloc, &mut state, &messages, out)
+    do_works(alloc, &mut state, &works, out)
 }
 
-/// The messages that a script's lines tell, or the number of the first line that tells none.
-fn read_script(alloc: Global, script: &[u8]) -> Result<Vec<Message>, ReplayFault>
-    ensures told { IfOk result (λ messages. TellAll (lines script.now) messages.items) }
-    ensures bad_line { (number : ℕ) → result ≡ Err (ReplayFault.BadLine number) → IsFirstBad script.now number }
+// The works that a script's lines spell, or the number of the first line that spells none.
+fn read_script(alloc: Global, script: &[u8]) -> Result<Vec<Work>, ReplayFault>
+    ensures spelled { IfOk result (λ works. LinesSpell (lines script.now) works.items) }
+    ensures bad_line { (number : ℕ) → result ≡ Err (ReplayFault.BadLine number)
+        → IsFirstBad script.now number }
     ensures no_output { result ≡ Err ReplayFault.OutputFault → ⊥ }
 {
-    let mut messages = Vec::new(alloc);
+    let mut works = Vec::new(alloc);
     let mut rest = script;
     while !rest.is_empty() {
         let (line, after) = split_line(rest);
         match read_line(alloc, line)? {
-            Some(message) => messages.push(message)?,
-            None => return Err(ReplayFault::BadLine(messages.len() as u64 + 1)),
+            Some(work) => works.push(work)?,
+            None => return Err(ReplayFault::BadLine(works.len() as u64 + 1)),
         }
         rest = after;
     }
-    Ok(messages)
+    Ok(works)
 }
 
-/// Works messages in order from this state, and writes an output line for each.
-fn work<K: Sink>(
+// Does works in order from this state, and writes an output line for each.
+fn do_works<K: Sink>(
     alloc: Global,
     state: &mut PlantState,
-    messages: &[Message],
+    works: &[Work],
     out: &mut K,
 ) -> Result<(), ReplayFault>
-    requires asks { All Asks messages.now }
+    requires works { All IsWork works.now }
     requires panel { 0 < length state.old.plant.panels }
-    ensures ok { OnOk result (K.written out.new ≡ appended (K.written out.old) (replies state.old 0 messages.now)) }
+    ensures ok { OnOk result
+        (K.written out.new ≡ appended (K.written out.old) (replies state.old 0 works.now)) }
+    ensures front { OnErr result
+        (AppendsPart (replies state.old 0 works.now) (K.written out.old) (K.written out.new)) }
     ensures bad_line { (number : ℕ) → result ≡ Err (ReplayFault.BadLine number) → ⊥ }
-    ensures output_fault { result ≡ Err ReplayFault.OutputFault → Rose (K.faults out.old) (K.faults out.new) }
-    ensures part { OnErr result ((count : ℕ) × (K.written out.new ≡ appended (K.written out.old) (take count (replies state.old 0 messages.now)))) }
-    ensures count { KeepsCount (K.faults out.old) (K.faults out.new) }
+    ensures count { K.faults out.new ≡ counted (output_failed result) (K.faults out.old) }
 {
-    for (item, message) in messages.iter().enumerate() {
-        let line = answer_line(alloc, state, item as u64, *message)?;
+    for (item, work) in works.iter().enumerate() {
+        let answer = state.step(&request(work, item as u64));
+        let line = reply_line(alloc, work.panel, &answer)?;
         if !write_all(out, line.as_bytes()) {
             return Err(ReplayFault::OutputFault);
         }

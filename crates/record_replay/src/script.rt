@@ -3,14 +3,14 @@
 ghost use Rattle.std.specs.Prelude.{◌≡◌, ◌<◌, ◌∷◌, length};
 ghost use Rattle.record_replay.specs.Script.{lines};
 
-/// Ends a line.
+// Ends a line.
 pub(crate) const LF: u8 = b'\n';
 
 pub(crate) const SPACE: u8 = b' ';
-/// The most bytes of a line, its LF not counted.
+// The most bytes of a line, its LF not counted.
 pub(crate) const MAX_LINE: usize = 65_536;
 
-/// The first line of a text, and what is behind it.
+// The first line of a text, and what is behind it.
 pub(crate) fn split_line(text: &[u8]) -> (&[u8], &[u8])
     requires { 0 < length text.now }
     ensures lines { lines text.now ≡ result.0.now ∷ lines result.1.now }

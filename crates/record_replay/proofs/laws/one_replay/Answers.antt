@@ -1,5 +1,8 @@
-use Rattle.record_replay.proofs.Oneness.{one_text, one_line, apart}
+use Rattle.record_replay.proofs.IsReplayLemmas.{always, one_text, one_line, apart}
 use Rattle.record_replay.proofs.laws.one_replay.Goals as goal
+
+pub returns-clause-always : goal.returns-clause-always
+returns-clause-always c = always
 
 pub returns-clause-text : goal.returns-clause-text
 returns-clause-text c = one_text

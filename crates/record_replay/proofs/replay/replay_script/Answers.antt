@@ -1,8 +1,8 @@
 use Rattle.std.proofs.Common.{subst, sym}
 use Rattle.std.specs.Prelude.{All}
-use Rattle.record_replay.specs.Script.{Asks, lines}
-use Rattle.record_replay.proofs.Telling.{all_ask}
+use Rattle.record_replay.specs.Script.{IsWork, lines}
+use Rattle.record_replay.proofs.LinesSpellLemmas.{all_work}
 use Rattle.record_replay.proofs.replay.replay_script.Goals as goal
 
-pub work-requires-clause-asks : goal.work-requires-clause-asks
-work-requires-clause-asks g c = subst (All Asks) (sym c.deref.ensures.value) (all_ask (lines c.args.script.now) _ c.in_ok-messages.ensures.told)
+pub do_works-requires-clause-works : goal.do_works-requires-clause-works
+do_works-requires-clause-works g c = λ lifetimes lives. subst (All IsWork) (sym c.deref.ensures.value) (all_work (lines c.args.script.now) _ c.in_ok-works.ensures.spelled)

@@ -1,5 +1,5 @@
 use Rattle.std.proofs.Common.{arith}
-use Rattle.record_replay.proofs.Lines.{first_line, only_line}
+use Rattle.record_replay.proofs.LinesLemmas.{first_line, only_line}
 use Rattle.record_replay.proofs.script.split_line.Goals as goal
 
 pub returns-then-byte-eq-LF-clause-lines : goal.returns-then-byte-eq-LF-clause-lines

@@ -1,4 +1,4 @@
-use Rattle.record_replay.proofs.Lines.{NoneEnds}
+use Rattle.record_replay.proofs.LinesLemmas.{NoneEnds}
 use Rattle.record_replay.proofs.script.split_line.Given as goal
 
 abbrev pub invariant-loop-end : goal.invariant-loop-end

@@ -1,0 +1,8 @@
+use Rattle.plantctl.proofs.RunEndsLemmas.{done, ran_out}
+use Rattle.plantctl.proofs.laws.replayed.Goals as goal
+
+pub returns-clause-done : goal.returns-clause-done
+returns-clause-done c = done
+
+pub returns-clause-no_memory : goal.returns-clause-no_memory
+returns-clause-no_memory c = ran_out

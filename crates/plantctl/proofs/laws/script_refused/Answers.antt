@@ -1,0 +1,11 @@
+use Rattle.plantctl.proofs.RunEndsLemmas.{script_cause, refused_always, accepted_always}
+use Rattle.plantctl.proofs.laws.script_refused.Goals as goal
+
+pub returns-clause-cause : goal.returns-clause-cause
+returns-clause-cause c = script_cause
+
+pub returns-clause-refused : goal.returns-clause-refused
+returns-clause-refused c = refused_always
+
+pub returns-clause-accepted : goal.returns-clause-accepted
+returns-clause-accepted c = accepted_always

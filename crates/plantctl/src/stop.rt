@@ -1,0 +1,162 @@
+//! Why a run stops, its exit status, and the line that goes with it.
+
+ghost use Rattle.std.specs.Prelude.{◌≡◌, ◌++◌, not};
+ghost use Rattle.std.specs.Bool.{OnTrue, OnFalse};
+ghost use Rattle.ctl_io.specs.Faults.{counted};
+ghost use Rattle.ctl_io.specs.Sink.{appended, AppendsPart};
+ghost use Rattle.record_replay.specs.declared.replay.ReplayFault.TheVariants as faults;
+ghost use Rattle.plantctl.specs.declared.stop.Stop.TheVariants.{NoMemory};
+ghost use Rattle.plantctl.specs.StopInside.{number_of, line_of, stop_status, stop_of_file, stop_of_replay, Reports};
+
+use ctl_io::{FileFault, Sink, write_all};
+use itoa::Buffer;
+use record_replay::ReplayFault;
+use std::alloc::AllocError;
+
+const USAGE: &[u8] =
+    b"usage: plantctl check PLANT, replay PLANT SCRIPT, audit PLANT TRACE.., serve PLANT [PREFIX], drill NUMBER PANELS MESSAGES\n";
+
+/// An exit status.
+#[derive(Clone, Copy, Debug, PartialEq, Eq)]
+pub(crate) enum Status {
+    Done = 0,
+    NoMemory = 1,
+    /// The words have no form.
+    Usage = 2,
+    /// A file is missing, or the files had a fault.
+    File = 3,
+    /// A line of the script has no form, or the script is too long.
+    Script = 5,
+    /// A write of the output failed.
+    Output = 7,
+}
+
+impl Status {
+    /// Its number.
+    pub(crate) fn number(self) -> u8
+        ensures { result ≡ number_of self }
+    {
+        self as u8
+    }
+}
+
+/// Why a run stops before all was done.
+#[derive(Clone, Copy, Debug, PartialEq, Eq)]
+pub(crate) enum Stop<'a> {
+    NoMemory,
+    /// The words have no form.
+    Usage,
+    /// The files have no such name.
+    FileMissing(&'a str),
+    /// The files failed, or a read of this file did.
+    FileFault(&'a str),
+    /// The line of this number, counted from 1, has no form.
+    LineRefused(u64),
+    ScriptTooLong,
+    /// A write of the output failed.
+    OutputFault,
+}
+
+impl From<AllocError> for Stop<'_> {
+    ghost from_gives = { λ _ stop. stop ≡ NoMemory };
+
+    fn from(_: AllocError) -> Self {
+        Stop::NoMemory
+    }
+}
+
+impl From<ReplayFault> for Stop<'_> {
+    ghost from_gives = { λ fault stop. stop ≡ stop_of_replay fault };
+
+    fn from(fault: ReplayFault) -> Self {
+        match fault {
+            ReplayFault::NoMemory => Stop::NoMemory,
+            ReplayFault::BadLine(number) => Stop::LineRefused(number),
+            ReplayFault::OutputFault => Stop::OutputFault,
+        }
+    }
+}
+
+impl<'a> Stop<'a> {
+    // The stop for a fault of the script of this name.
+    pub(crate) fn of_script(fault: FileFault, name: &'a str) -> Stop<'a>
+        ensures { result ≡ stop_of_file fault name.entry }
+    {
+        match fault {
+            FileFault::NoMemory => Stop::NoMemory,
+            FileFault::Missing => Stop::FileMissing(name),
+            FileFault::Failed => Stop::FileFault(name),
+            FileFault::TooLong => Stop::ScriptTooLong,
+        }
+    }
+
+    // Its status, where its line can be written.
+    fn status(&self) -> Status
+        ensures { number_of result ≡ stop_status self.now }
+    {
+        match self {
+            Stop::NoMemory => Status::NoMemory,
+            Stop::Usage => Status::Usage,
+            Stop::FileMissing(_) | Stop::FileFault(_) => Status::File,
+            Stop::LineRefused(_) | Stop::ScriptTooLong => Status::Script,
+            Stop::OutputFault => Status::Output,
+        }
+    }
+
+    // Appends its line, and answers whether it could.
+    fn write<K: Sink>(&self, out: &mut K) -> bool
+        ensures all { OnTrue result
+            (K.written out.new ≡ appended (K.written out.old) (line_of self.now)) }
+        ensures front { OnFalse result
+            (AppendsPart (line_of self.now) (K.written out.old) (K.written out.new)) }
+        ensures count { K.faults out.new ≡ counted (not result) (K.faults out.old) }
+    {
+        match self {
+            Stop::NoMemory => write_all(out, b"no memory\n"),
+            Stop::Usage => write_all(out, USAGE),
+            Stop::FileMissing(name) => write_parts(out, b"file ", name.as_bytes(), b" missing\n"),
+            Stop::FileFault(name) => write_parts(out, b"file ", name.as_bytes(), b" fault\n"),
+            Stop::LineRefused(number) => {
+                let mut buffer = Buffer::new();
+                let digits = buffer.format(*number).as_bytes();
+                write_parts(out, b"script line ", digits, b" refused\n")
+            }
+            Stop::ScriptTooLong => write_all(out, b"script too long\n"),
+            Stop::OutputFault => true,
+        }
+    }
+}
+
+// Appends these parts one after the other, and answers whether it could.
+fn write_parts<K: Sink>(out: &mut K, front: &[u8], middle: &[u8], end: &[u8]) -> bool
+    ensures all { OnTrue result
+        (K.written out.new ≡ appended (K.written out.old) (front.now ++ middle.now ++ end.now)) }
+    ensures front { OnFalse result
+        (AppendsPart (front.now ++ middle.now ++ end.now) (K.written out.old) (K.written out.new)) }
+    ensures count { K.faults out.new ≡ counted (not result) (K.faults out.old) }
+{
+    write_pair(out, front, middle) && write_all(out, end)
+}
+
+// Appends two parts one after the other, and answers whether it could.
+fn write_pair<K: Sink>(out: &mut K, front: &[u8], end: &[u8]) -> bool
+    ensures all { OnTrue result
+        (K.written out.new ≡ appended (K.written out.old) (front.now ++ end.now)) }
+    ensures front { OnFalse result
+        (AppendsPart (front.now ++ end.now) (K.written out.old) (K.written out.new)) }
+    ensures count { K.faults out.new ≡ counted (not result) (K.faults out.old) }
+{
+    write_all(out, front) && write_all(out, end)
+}
+
+/// Appends the line of a stop, and answers the status. Where the line can't be written, that is the output's.
+pub(crate) fn report<K: Sink>(out: &mut K, ended: Result<(), Stop>) -> Status
+    ensures { Reports ended.entry (number_of result)
+        (K.written out.old) (K.written out.new) (K.faults out.old) (K.faults out.new) }
+{
+    match ended {
+        Ok(()) => Status::Done,
+        Err(stop) if stop.write(out) => stop.status(),
+        Err(_) => Status::Output,
+    }
+}

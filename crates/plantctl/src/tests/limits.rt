@@ -1,0 +1,41 @@
+//! The limits of a script, each with a row at it and a row past it.
+
+use super::{NOTHING, REPLAY, outcome};
+use std::test::Fail;
+
+// 64 MiB
+const LONGEST_SCRIPT: usize = 67_108_864;
+
+const LONGEST_LINE: usize = 65_536;
+
+#[test]
+fn a_script_past_the_limit_is_too_long(rt: HostRuntime) -> Result<(), Fail> {
+    let alloc = rt.alloc();
+    for (length, output) in [
+        (LONGEST_SCRIPT, "script line 1 refused\n"),
+        (LONGEST_SCRIPT + 1, "script too long\n"),
+    ] {
+        let script = vec![in alloc; b'#'; length]?;
+        let (status, out) = outcome(alloc, &REPLAY, script, NOTHING)?;
+        assert_eq!(rt; out.written(), output.as_bytes());
+        assert_eq!(rt; status, 5);
+    }
+    Ok(())
+}
+
+#[test]
+fn a_line_past_the_limit_is_refused(rt: HostRuntime) -> Result<(), Fail> {
+    let alloc = rt.alloc();
+    for (length, status, output) in [
+        (LONGEST_LINE, 0, "< 0 10061002030007057F056D1003\n"),
+        (LONGEST_LINE + 1, 5, "script line 1 refused\n"),
+    ] {
+        // The rest of the line is spaces, which are dropped.
+        let mut script = b"> 0 10020100000504F61003".to_vec(alloc)?;
+        script.resize(length, b' ')?;
+        let (found, out) = outcome(alloc, &REPLAY, script, NOTHING)?;
+        assert_eq!(rt; out.written(), output.as_bytes());
+        assert_eq!(rt; found, status);
+    }
+    Ok(())
+}
