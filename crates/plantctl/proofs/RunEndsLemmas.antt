@@ -1,19 +1,17 @@
 -- What the end of a run tells by its status.
-use Rattle.std.proofs.Common.{◌≡◌, ◌≢◌, ◌⊎◌, inl, inr, ℕ, ◌+◌, Bool, true, false, ◌<◌, ◌≤◌, List, [], ◌∷◌, length, refl, sym, ◌∙◌, ap, subst, arith}
-use Rattle.std.specs.Prelude.{codes}
+use Rattle.std.proofs.Common.{◌≡◌, ◌≢◌, ◌⊎◌, inl, inr, ℕ, Bool, true, false, List, refl, sym, ◌∙◌, ap, subst, arith}
 use Rattle.ctl_io.specs.Sink.{appended}
 use Rattle.ctl_io.specs.Custody.{Custody}
 use Rattle.ctl_io.specs.Faults.{one_more, counted}
-use Rattle.ctl_io.specs.Held.{Held, Holds, NoFile, Unshown, IfHeld, MayBeMissing, Stays}
+use Rattle.ctl_io.specs.Held.{Held, Holds, NoFile, Stays}
 use Rattle.plant_config.specs.Plant.{PlantData}
-use Rattle.record_replay.specs.Script.{IsFirstBad}
-use Rattle.record_replay.specs.Replay.{IsReplay, IsReplayFront}
+use Rattle.record_replay.specs.Replay.{IsReplay}
 use Rattle.record_replay.proofs.IsReplayLemmas.{apart}
 use Rattle.plantctl.specs.World.{World}
 use Rattle.plantctl.specs.End.{End, Done, NoMemory, Usage, FileMissing, FileFault, LineRefused, ScriptTooLong, status_of, text_of, is_file_fault}
 use Rattle.plantctl.specs.Lines.{usage, file_missing, file_fault}
-use Rattle.plantctl.specs.Words.{Command, Replay, LeadsTo, Ask, HasNoForm}
-use Rattle.plantctl.specs.Replay.{longest_script, IfFits, ReplayEnds}
+use Rattle.plantctl.specs.Words.{Command, Replay, Ask, HasNoForm}
+use Rattle.plantctl.specs.Replay.{IfFits, ReplayEnds}
 use Rattle.plantctl.specs.Run.{CommandEnds, LeavesFiles, ReadsOnly, EndsAtWords, EndsByCommand, IsWritten, IsCutShort, RunEnds}
 use Rattle.plantctl.proofs.ReplayEndsLemmas.{if_held}
 use Rattle.plantctl.specs.Statuses.{AskReplay, WasReplayed, RanOutOfMemory, WasMissing, HadFileFault, RefusedLine, RefusedLength, IsAccepted, IsRefused, WasKept}

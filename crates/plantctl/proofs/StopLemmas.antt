@@ -1,5 +1,5 @@
 -- A run that stopped, and its report.
-use Rattle.std.proofs.Common.{◌≡◌, ℕ, ◌<◌, ◌⊎◌, inl, inr, Bool, true, false, List, [], ◌∷◌, ◌+◌, ◌++◌, length, take, Option, None, Some, Result, Ok, Err, refl, sym, ◌∙◌, ap, subst, append_assoc, arith}
+use Rattle.std.proofs.Common.{◌≡◌, ℕ, ◌⊎◌, inl, inr, Bool, true, false, List, [], ◌∷◌, ◌+◌, ◌++◌, length, take, Option, Result, Ok, Err, sym, ◌∙◌, ap, subst, append_assoc, arith}
 use Rattle.std.specs.Prelude.{codes}
 use Rattle.std.specs.Fmt.{decimal}
 use Rattle.std.specs.Bool.{OnTrue, OnFalse}
@@ -14,8 +14,8 @@ use Rattle.plantctl.specs.World.{World}
 use Rattle.plantctl.specs.Lines.{line_refused}
 use Rattle.plantctl.specs.End.{End, text_of, status_of}
 use Rattle.plantctl.specs.Words.{Command, Replay}
-use Rattle.plantctl.specs.Run.{ReadsOnly, LeavesFiles, EndsAtWords, EndsByCommand, IsWritten, IsCutShort, RunEnds}
-use Rattle.plantctl.specs.StopInside.{line_of, stop_status, rest_of, stopped_by_output, stopped_by_files, IsFrontOf, ComesTo, Reports, RunStops}
+use Rattle.plantctl.specs.Run.{LeavesFiles, EndsAtWords, EndsByCommand, IsWritten, IsCutShort, RunEnds}
+use Rattle.plantctl.specs.StopInside.{line_of, stop_status, stopped_by_output, IsFrontOf, ComesTo, Reports, RunStops}
 
 -- a shorter front of what comes behind a front is a shorter front
 pub front-part : (front line : List ℕ) (before mid now : Option (List ℕ)) → mid ≡ appended before front → AppendsPart line mid now → AppendsPart (front ++ line) before now

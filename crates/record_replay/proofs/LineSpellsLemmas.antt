@@ -24,7 +24,7 @@ use Rattle.swp08_messages.specs.declared.message.MessageKind.{MessageKind}
 use Rattle.swp08_messages.specs.declared.message.MessageKind.TheVariants as kinds
 use Rattle.swp08_messages.specs.declared.fault.ReadFault.{ReadFault}
 use Rattle.swp08_messages.specs.Row.{row}
-use Rattle.swp08_messages.specs.Text.{text, kind_of, InRange}
+use Rattle.swp08_messages.specs.Text.{text, kind_of}
 use Rattle.swp08_messages.specs.Spelled.{Spells}
 use Rattle.swp08_messages.specs.ReadingInside.{message_of, fault_of}
 use Rattle.swp08_messages.proofs.SpelledLemmas.{Spells-text, All-text}
@@ -32,7 +32,7 @@ use Rattle.swp08_messages.proofs.ReadingLemmas.{message_of-Spells, one_message, 
 use Rattle.swp08_messages.proofs.RefusedLemmas.{not_both}
 use Rattle.swp08_messages.proofs.FaultLemmas.{tail-cons, tail, data_ok, data_err}
 use Rattle.record_replay.specs.declared.line.Work.{Work}
-use Rattle.record_replay.specs.Script.{space, longest_line, Asks, IsWork, LineSpells, HexSpells}
+use Rattle.record_replay.specs.Script.{space, longest_line, Asks, LineSpells, HexSpells}
 
 -- a message's DATA can be framed
 pub IsData-text : (message : Message) → IsData (text message)

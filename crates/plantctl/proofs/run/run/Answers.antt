@@ -1,4 +1,4 @@
-use Rattle.std.proofs.Common.{inl, inr, [], refl, sym}
+use Rattle.std.proofs.Common.{inl, [], refl, sym}
 use Rattle.ctl_io.proofs.SinkLemmas.{appended-nil}
 use Rattle.plantctl.specs.End.{Usage}
 use Rattle.plantctl.proofs.run.run.Goals as goal

@@ -1,7 +1,3 @@
-use Rattle.std.proofs.Common.{sym, ◌∙◌, subst}
-use Rattle.record_replay.specs.declared.line.Work.{Work}
-use Rattle.record_replay.specs.Script.{LineSpells}
-use Rattle.dle_framing.specs.Frame.{frame}
 use Rattle.record_replay.proofs.LineSpellsLemmas.{with_front, without_front, no_form, no_hex, no_frame, line_spells}
 use Rattle.record_replay.proofs.line.read_line.Goals as goal
 
