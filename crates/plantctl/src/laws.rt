@@ -51,7 +51,8 @@ pub fn file_refused()
 /// and one that is accepted is never refused.
 pub fn script_refused()
     ensures cause { (words : List (List ℕ)) (before now : World)
-        → RunEnds words before now 5 → RefusedLine words before now ⊎ RefusedLength words before now }
+        → RunEnds words before now 5
+        → RefusedLine words before now ⊎ RefusedLength words before now }
     ensures refused { (words : List (List ℕ)) (before now : World) (status : ℕ)
         (plant : PlantData) (name script : List ℕ)
         → AskReplay words plant name → before.held name 0 ≡ Holds script → IsRefused script

@@ -24,15 +24,18 @@ pub(crate) fn replay<'a, F: Files, K: Sink>(
     files: &mut F,
     out: &mut K,
 ) -> Result<(), Stop<'a>>
-    ensures ends { StopsFor result (ReplayEnds (plant_of plant) name.now (F.held files.old name.now 0))
+    ensures ends { StopsFor result
+        (ReplayEnds (plant_of plant) name.now (F.held files.old name.now 0))
         (K.written out.old) (K.written out.new) }
     ensures given_back { IsGivenBack name.now (F.custody files.old) (F.custody files.new) }
     ensures opened { Stays (F.held files.old name.now) (F.held files.new name.now)
         ⊎ CountsOn (F.held files.old name.now) (F.held files.new name.now) }
     ensures others { (other : List ℕ) → other ≢ name.now
         → Stays (F.held files.old other) (F.held files.new other) }
-    ensures file_count { F.faults files.new ≡ counted (stopped_by_files result) (F.faults files.old) }
-    ensures output_count { K.faults out.new ≡ counted (stopped_by_output result) (K.faults out.old) }
+    ensures file_count { F.faults files.new
+        ≡ counted (stopped_by_files result) (F.faults files.old) }
+    ensures output_count { K.faults out.new
+        ≡ counted (stopped_by_output result) (K.faults out.old) }
 {
     let script = match read_file(alloc, files, name, MAX_SCRIPT) {
         Ok(script) => script,

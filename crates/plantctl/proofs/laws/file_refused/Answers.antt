@@ -1,4 +1,4 @@
-use Rattle.plantctl.proofs.RunEndsLemmas.{file_cause, missing_always}
+use Rattle.plantctl.proofs.StatusesLemmas.{file_cause, missing_always}
 use Rattle.plantctl.proofs.laws.file_refused.Goals as goal
 
 pub returns-clause-cause : goal.returns-clause-cause

@@ -1,4 +1,4 @@
-use Rattle.plantctl.proofs.RunEndsLemmas.{given_back, no_sink, others_stay, faults_stay, faults_rise}
+use Rattle.plantctl.proofs.FilesLeftLemmas.{given_back, no_sink, others_stay, faults_stay, faults_rise}
 use Rattle.plantctl.proofs.laws.files_stay.Goals as goal
 
 pub returns-clause-given_back : goal.returns-clause-given_back

@@ -1,4 +1,4 @@
-use Rattle.plantctl.proofs.RunEndsLemmas.{done, ran_out}
+use Rattle.plantctl.proofs.StatusesLemmas.{done, ran_out}
 use Rattle.plantctl.proofs.laws.replayed.Goals as goal
 
 pub returns-clause-done : goal.returns-clause-done

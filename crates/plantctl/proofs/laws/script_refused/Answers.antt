@@ -1,4 +1,4 @@
-use Rattle.plantctl.proofs.RunEndsLemmas.{script_cause, refused_always, accepted_always}
+use Rattle.plantctl.proofs.StatusesLemmas.{script_cause, refused_always, accepted_always}
 use Rattle.plantctl.proofs.laws.script_refused.Goals as goal
 
 pub returns-clause-cause : goal.returns-clause-cause

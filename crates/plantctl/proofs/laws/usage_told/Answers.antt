@@ -1,4 +1,4 @@
-use Rattle.plantctl.proofs.RunEndsLemmas.{usage_no_form, usage_line, usage_always}
+use Rattle.plantctl.proofs.StatusesLemmas.{usage_no_form, usage_line, usage_always}
 use Rattle.plantctl.proofs.laws.usage_told.Goals as goal
 
 pub returns-clause-no_form : goal.returns-clause-no_form
