@@ -6,7 +6,8 @@ use Rattle.std.specs.Cmp.{nat_cmp_total, unsigned_tied}
 use Rattle.std.specs.FinMap as finite
 use Rattle.std.proofs.lemmas.Bool.{eqb-true, eq-eqb, ne_eqb}
 use Rattle.plant_config.specs.declared.records.Change.{Change}
-use Rattle.plant_core.specs.State.{Spot, Crosspoints, source_of, is_idle, released, given, all_given, applied}
+use Rattle.plant_core.specs.State.{State, Spot, Crosspoints, source_of, is_idle, released, given, all_given, applied}
+use Rattle.plant_core.specs.Step.{noticed, changed}
 use Rattle.plant_core.specs.RowsInside.{written}
 use Rattle.plant_core.proofs.Validity.{source_of-spot}
 
@@ -20,7 +21,7 @@ one : (crosspoints : Crosspoints) (change : Change) →
 one crosspoints change =
     elim (is_idle crosspoints change) as (λ b. all_given (released crosspoints (cond (not b) (change ∷ []) [])) (cond (not b) (change ∷ []) []) ≡ cond b crosspoints (given (finite.remove crosspoints change.dest) change.dest change.source)) [ true ↦ refl | false ↦ refl ]
 
-same_source : (a b : Option ℕ) → option_eq nat_eq a b ≡ true → a ≡ b
+pub same_source : (a b : Option ℕ) → option_eq nat_eq a b ≡ true → a ≡ b
 same_source None None h = refl
 same_source None (Some y) h = cc
 same_source (Some x) None h = cc
@@ -104,3 +105,16 @@ pub source_of-applied : (crosspoints : Crosspoints) (change : Change) → NoTies
 source_of-applied crosspoints change no_ties =
     ap (λ (x : Crosspoints). source_of x change.dest) (applied-one crosspoints change.dest change.source no_ties)
     ∙ source_of-written crosspoints change.dest change.source
+
+-- an idle change changes nothing
+pub changed-idle : (state : State) (asker : ℕ) (change : Change) → is_idle state.crosspoints change ≡ true → changed state asker change ≡ state
+changed-idle state asker change idle =
+    let same : applied state.crosspoints (change ∷ []) ≡ state.crosspoints =
+    one state.crosspoints change ∙ ap (λ b. cond b state.crosspoints (given (finite.remove state.crosspoints change.dest) change.dest change.source)) idle in
+    λ i. record state { crosspoints = same i; boards = cond (idle i) state.boards (noticed state.boards asker change.dest) }
+
+-- any other is made, and the others hear of it
+pub changed-busy : (state : State) (asker : ℕ) (change : Change) → is_idle state.crosspoints change ≡ false →
+    record state { crosspoints = applied state.crosspoints (change ∷ []); boards = noticed state.boards asker change.dest } ≡ changed state asker change
+changed-busy state asker change busy =
+    λ i. record state { crosspoints = applied state.crosspoints (change ∷ []); boards = cond (sym busy i) state.boards (noticed state.boards asker change.dest) }

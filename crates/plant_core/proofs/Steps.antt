@@ -3,9 +3,7 @@ use Rattle.std.proofs.Common.{◌≡◌, ◌≢◌, ℕ, List, [], ◌∷◌, Al
 use Rattle.std.specs.Option.{option_map, option_and_then}
 use Rattle.std.specs.FinMap as finite
 use Rattle.std.specs.Ordering.{nat_cmp}
-use Rattle.std.proofs.lemmas.List.Elements.{All-nil, All-push}
 use Rattle.swp08_messages.specs.declared.point.Point.{Point}
-use Rattle.swp08_messages.specs.declared.message.Message.{Message}
 use Rattle.swp08_messages.specs.declared.message.Message.TheVariants.{Interrogate, Connect, Tally, Connected}
 use Rattle.plant_config.specs.declared.records.Point as places
 use Rattle.plant_config.specs.declared.records.Change.{Change}
@@ -13,31 +11,32 @@ use Rattle.plant_config.specs.Plant.{PlantData, IsPlant}
 use Rattle.plant_config.specs.Sites.{dest_at, source_at, source_number_of}
 use Rattle.plant_config.proofs.SiteLemmas.{dest_at-point_of, source_at-source_number_of}
 use Rattle.plant_core.specs.declared.request.Request.{Request}
-use Rattle.plant_core.specs.declared.request.Request.TheVariants.{Told}
+use Rattle.plant_core.specs.declared.request.Request.TheVariants.{Told, Poll, Leave}
 use Rattle.plant_core.specs.declared.answer.Answer.TheVariants.{Say}
-use Rattle.plant_core.specs.State.{Spot, State, IsValid, IsChangeOf, source_of, standing, applied, start}
-use Rattle.plant_core.specs.Step.{step, answered, connected, wanted, change_of}
+use Rattle.plant_core.specs.State.{Spot, State, IsValid, source_of, standing, applied, start}
+use Rattle.plant_core.specs.Step.{step, connected, changed, wanted, change_of}
 use Rattle.plant_core.specs.Laws.{AnswersWith, IsConnectable, IsMade, IsNotMade, LeavesAlone, after}
-use Rattle.plant_core.proofs.Validity.{change_of-is, change_of-IsChangeOf, IsValid-applied}
+use Rattle.plant_core.proofs.Validity.{change_of-is, change_of-IsChangeOf, IsValid-changed, IsValid-take, IsValid-leave}
 use Rattle.plant_core.proofs.Changes.{source_of-applied, get-applied_other}
 
-IsValid-connected : (state : State) (at : Point) (source : Option ℕ) → IsValid state → IsValid (connected state at source (change_of state.plant at source)).state
-IsValid-connected state at source valid =
-    elim (change_of state.plant at source) as (λ o. change_of state.plant at source ≡ o → IsValid (connected state at source o).state) [
+IsValid-connected : (state : State) (panel : ℕ) (at : Point) (source : Option ℕ) → IsValid state → IsValid (connected state panel at source (change_of state.plant at source)).state
+IsValid-connected state panel at source valid =
+    elim (change_of state.plant at source) as (λ o. change_of state.plant at source ≡ o → IsValid (connected state panel at source o).state) [
       | None ↦ λ h. valid
-      | Some change ↦ λ h.
-          IsValid-applied state.plant state.crosspoints (change ∷ []) valid (All-push (IsChangeOf state.plant) [] change (All-nil (IsChangeOf state.plant)) (change_of-IsChangeOf state.plant at source change valid.is_plant h))
+      | Some change ↦ λ h. IsValid-changed state panel change valid (change_of-IsChangeOf state.plant at source change valid.is_plant h)
     ] refl
 
 -- every step leaves a valid state
 pub IsValid-step : (state : State) (request : Request) → IsValid state → IsValid (step state request).state
 IsValid-step state (Told panel item (Interrogate at)) valid = valid
-IsValid-step state (Told panel item (Connect at source)) valid = IsValid-connected state at source valid
+IsValid-step state (Told panel item (Connect at source)) valid = IsValid-connected state panel at source valid
 IsValid-step state (Told panel item (Tally at source)) valid = valid
 IsValid-step state (Told panel item (Connected at source)) valid = valid
+IsValid-step state (Poll panel item turn) valid = IsValid-take state panel valid
+IsValid-step state (Leave panel) valid = IsValid-leave state panel valid
 
 -- what a destination was to carry, read as a number of its level, is what was asked for
-wanted-number : (plant : PlantData) (at : Point) (source carried : Option ℕ) → IsPlant plant → wanted plant at source ≡ Some carried → option_and_then (source_number_of plant) carried ≡ source
+pub wanted-number : (plant : PlantData) (at : Point) (source carried : Option ℕ) → IsPlant plant → wanted plant at source ≡ Some carried → option_and_then (source_number_of plant) carried ≡ source
 wanted-number plant at None carried is h =
     let parked : None ≡ carried = cc in
     subst (λ carried. option_and_then (source_number_of plant) carried ≡ None) parked refl
@@ -50,7 +49,7 @@ wanted-number plant at (Some number) carried is h =
     ] refl h
 
 -- one destination has one place
-one_place : (plant : PlantData) (at place : Point) (dest : ℕ) → IsPlant plant → dest_at plant at.matrix at.level at.dest ≡ Some dest → dest_at plant place.matrix place.level place.dest ≡ Some dest → place ≡ at
+pub one_place : (plant : PlantData) (at place : Point) (dest : ℕ) → IsPlant plant → dest_at plant at.matrix at.level at.dest ≡ Some dest → dest_at plant place.matrix place.level place.dest ≡ Some dest → place ≡ at
 one_place plant at place dest is first second =
     let here : places.Point = record { matrix = at.matrix; level = at.level; dest = at.dest } in
     let there : places.Point = record { matrix = place.matrix; level = place.level; dest = place.dest } in
@@ -59,7 +58,7 @@ one_place plant at place dest is first second =
     λ i. record { matrix = (same i).matrix; level = (same i).level; dest = (same i).dest }
 
 -- a place that may be given a source asks for a change, and no other does
-connectable-change_of : (plant : PlantData) (at : Point) (source : Option ℕ) → IsConnectable plant at source → (change : Change) × (change_of plant at source ≡ Some change)
+pub connectable-change_of : (plant : PlantData) (at : Point) (source : Option ℕ) → IsConnectable plant at source → (change : Change) × (change_of plant at source ≡ Some change)
 connectable-change_of plant at source is =
     let Asks : Option ℕ → Type 0 = λ o. (change : Change) × (option_and_then (λ (dest : ℕ). option_map (λ (carried : Option ℕ). let c : Change = record { dest = dest; source = carried } in c) (wanted plant at source)) o ≡ Some change) in
     elim (dest_at plant at.matrix at.level at.dest) as (λ o. IsSome o → Asks o) [
@@ -77,7 +76,7 @@ connectable-change_of plant at source is =
           | Some source ↦ λ e. (Some source, refl)
         ] has
 
-change_of-connectable : (plant : PlantData) (at : Point) (source : Option ℕ) (change : Change) → change_of plant at source ≡ Some change → IsConnectable plant at source
+pub change_of-connectable : (plant : PlantData) (at : Point) (source : Option ℕ) (change : Change) → change_of plant at source ≡ Some change → IsConnectable plant at source
 change_of-connectable plant at source change h =
     let parts = change_of-is plant at source change h in
     record { has_place = rw parts.0 refl; has_source = has plant at source change.source parts.1 }
@@ -111,20 +110,20 @@ standing-others state at source change place valid h other =
     ] refl
 
 -- an interrogate is answered with the source that stands, and with nothing else
-stands-answers : (state : State) (at : Point) (source : Option ℕ) → standing state at ≡ source → AnswersWith state at source
+pub stands-answers : (state : State) (at : Point) (source : Option ℕ) → standing state at ≡ source → AnswersWith state at source
 stands-answers state at source h panel item = ap (λ s. Say (Tally at s) ∷ []) h
 
-answers-stands : (state : State) (at : Point) (source : Option ℕ) → AnswersWith state at source → standing state at ≡ source
+pub answers-stands : (state : State) (at : Point) (source : Option ℕ) → AnswersWith state at source → standing state at ≡ source
 answers-stands state at source answers = let h = answers 0 0 in cc
 
 -- a connect that asks for a change is made, and any other isn't
 made : (state : State) (panel item : ℕ) (at : Point) (source : Option ℕ) (change : Change) → IsValid state → change_of state.plant at source ≡ Some change → IsMade state at source (step state (Told panel item (Connect at source)))
 made state panel item at source change valid h = rw h (record {
   answer = refl;
-  stands = stands-answers (record state { crosspoints = applied state.crosspoints (change ∷ []) }) at source (standing-applied state at source change valid h);
+  stands = stands-answers (changed state panel change) at source (standing-applied state at source change valid h);
   unmoved = λ dest elsewhere. get-applied_other state.crosspoints change dest valid.ties (λ same. elsewhere ((change_of-is state.plant at source change h).0 ∙ ap Some (sym same)));
   others = λ place stands other answers.
-      stands-answers (record state { crosspoints = applied state.crosspoints (change ∷ []) }) place stands (standing-others state at source change place valid h other ∙ answers-stands state place stands answers);
+      stands-answers (changed state panel change) place stands (standing-others state at source change place valid h other ∙ answers-stands state place stands answers);
 })
 
 not_made : (state : State) (panel item : ℕ) (at : Point) (source : Option ℕ) → change_of state.plant at source ≡ None → IsNotMade state at (step state (Told panel item (Connect at source)))
@@ -161,6 +160,8 @@ keeps state place (Told panel item (Connect at source)) stands valid alone answe
     keeps-connect state panel item place at source stands valid (λ same. alone panel item source (ap (λ (at : Point). Told panel item (Connect at source)) (sym same))) answers
 keeps state place (Told panel item (Tally at source)) stands valid alone answers = answers
 keeps state place (Told panel item (Connected at source)) stands valid alone answers = answers
+keeps state place (Poll panel item turn) stands valid alone answers = answers
+keeps state place (Leave panel) stands valid alone answers = answers
 
 pub keep : (state : State) (place : Point) (later : List Request) (stands : Option ℕ) → IsValid state → All (LeavesAlone place) later → AnswersWith state place stands → AnswersWith (after state later) place stands
 keep state place [] stands valid alone answers = answers
@@ -182,16 +183,15 @@ outside-parked state at none = stands-answers state at None (
       | Some dest ↦ λ e. cc
     ] none)
 
-same_plant : (state : State) (at : Point) (source : Option ℕ) (change : Option Change) → (connected state at source change).state.plant ≡ state.plant
-same_plant state at source None = refl
-same_plant state at source (Some change) = refl
+same_plant : (state : State) (panel : ℕ) (at : Point) (source : Option ℕ) (change : Option Change) → (connected state panel at source change).state.plant ≡ state.plant
+same_plant state panel at source None = refl
+same_plant state panel at source (Some change) = refl
 
--- no message and no step changes the plant
-pub plant-answered : (state : State) (message : Message) → (answered state message).state.plant ≡ state.plant
-plant-answered state (Interrogate at) = refl
-plant-answered state (Connect at source) = same_plant state at source (change_of state.plant at source)
-plant-answered state (Tally at source) = refl
-plant-answered state (Connected at source) = refl
-
+-- no step changes the plant
 pub plant-step : (state : State) (request : Request) → (step state request).state.plant ≡ state.plant
-plant-step state (Told panel item message) = plant-answered state message
+plant-step state (Told panel item (Interrogate at)) = refl
+plant-step state (Told panel item (Connect at source)) = same_plant state panel at source (change_of state.plant at source)
+plant-step state (Told panel item (Tally at source)) = refl
+plant-step state (Told panel item (Connected at source)) = refl
+plant-step state (Poll panel item turn) = refl
+plant-step state (Leave panel) = refl

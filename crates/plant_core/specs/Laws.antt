@@ -7,9 +7,11 @@ use Rattle.plant_config.specs.Plant.{PlantData}
 use Rattle.plant_config.specs.Sites.{dest_at, source_at}
 use Rattle.plant_core.specs.declared.request.Request.{Request}
 use Rattle.plant_core.specs.declared.request.Request.TheVariants.{Told}
+use Rattle.history_lock.specs.Step.{Stepped}
+use Rattle.plant_core.specs.declared.answer.Answer.{Answer}
 use Rattle.plant_core.specs.declared.answer.Answer.TheVariants.{Say}
 use Rattle.plant_core.specs.State.{State}
-use Rattle.plant_core.specs.Step.{Stepped, step}
+use Rattle.plant_core.specs.Step.{step}
 
 -- Whoever interrogates a place is answered with this source, and with nothing else.
 abbrev pub AnswersWith : State → Point → Option ℕ → Type 0
@@ -22,14 +24,14 @@ pub record IsConnectable (plant : PlantData) (at : Point) (source : Option ℕ) 
 
 -- A connect is made: it is answered so, its source stands at its place, no other destination changes, and so every other
 -- place answers as before.
-pub record IsMade (old : State) (at : Point) (source : Option ℕ) (stepped : Stepped) : Type 0 where
+pub record IsMade (old : State) (at : Point) (source : Option ℕ) (stepped : Stepped State Answer) : Type 0 where
   pub answer : stepped.answers ≡ Say (Connected at source) ∷ []
   pub stands : AnswersWith stepped.state at source
   pub unmoved : (dest : ℕ) → dest_at old.plant at.matrix at.level at.dest ≢ Some dest → get stepped.state.crosspoints dest ≡ get old.crosspoints dest
   pub others : (place : Point) (stands : Option ℕ) → place ≢ at → AnswersWith old place stands → AnswersWith stepped.state place stands
 
 -- A connect isn't made: nothing changes, and the answer is a tally of the source that stands.
-pub record IsNotMade (old : State) (at : Point) (stepped : Stepped) : Type 0 where
+pub record IsNotMade (old : State) (at : Point) (stepped : Stepped State Answer) : Type 0 where
   pub standing : Option ℕ
   pub stands : AnswersWith old at standing
   pub answer : stepped.answers ≡ Say (Tally at standing) ∷ []

@@ -2,8 +2,11 @@ pub use Rattle.plant_config.specs.Plant
 pub use Rattle.plant_config.specs.Sites
 pub use Rattle.plant_config.specs.Bench
 pub use Rattle.swp08_messages.specs.Text
+pub use Rattle.change_boards.specs.Board
+pub use Rattle.change_boards.specs.Notices
 pub mod State
 pub mod RowsInside
 pub mod Answer
 pub mod Step
 pub mod Laws
+pub mod NoticeLaws

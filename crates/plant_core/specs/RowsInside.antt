@@ -4,6 +4,7 @@ use Rattle.std.specs.List.{IsDistinct}
 use Rattle.std.specs.FinMap.{from_entries, insert, remove}
 use Rattle.std.specs.Coded.{Coded, code_by, coded×, coded_ℕ, coded_option}
 use Rattle.plant_config.specs.Plant.{PlantData, destinations_of}
+use Rattle.change_boards.specs.Board.{Board}
 use Rattle.plant_core.specs.declared.rows.Row.{Row}
 use Rattle.plant_core.specs.State.{Spot, Crosspoints, State, IsValid}
 
@@ -34,11 +35,11 @@ pub record AreRows (rows : List Row) (room : ℕ) : Type 0 where
   pub distinct : IsDistinct nat_eq (map (λ row. row.dest) rows)
   pub below : All (λ row. row.dest < room) rows
 
--- the state that a plant and its rows stand for
-abbrev pub state_of : PlantData → Kept → State
-state_of plant rows = record { plant = plant; crosspoints = rows.crosspoints }
+-- the state that a plant, its rows and its boards stand for
+abbrev pub state_of : PlantData → Kept → List Board → State
+state_of plant rows boards = record { plant = plant; crosspoints = rows.crosspoints; boards = boards }
 
--- The rows of a plant stand for a valid state, and have room for each destination and no more.
-pub record IsKept (plant : PlantData) (rows : Kept) : Type 0 where
-  pub valid : IsValid (state_of plant rows)
+-- The rows and the boards of a plant stand for a valid state, and the rows have room for each destination and no more.
+pub record IsKept (plant : PlantData) (rows : Kept) (boards : List Board) : Type 0 where
+  pub valid : IsValid (state_of plant rows boards)
   pub room : rows.room ≡ destinations_of plant

@@ -1,5 +1,5 @@
 -- The state of a plant, as plain data, and what a list of changes makes of it.
-use Rattle.std.specs.Prelude.{◌≡◌, ℕ, ◌<◌, nat_eq, length, Bool, not, List, [], ◌∷◌, filter, Option, Some, None, IfSome}
+use Rattle.std.specs.Prelude.{◌≡◌, ℕ, ◌<◌, nat_eq, length, Bool, false, not, List, [], ◌∷◌, filter, Option, Some, None, IfSome}
 use Rattle.std.specs.Option.{option_map, option_and_then, option_eq}
 use Rattle.std.specs.Ordering.{nat_cmp}
 use Rattle.std.specs.FinMap.{FinMap, empty, get, insert, remove}
@@ -9,8 +9,13 @@ use Rattle.swp08_messages.specs.Text.{InRange, kind_of}
 use Rattle.plant_config.specs.Plant.{PlantData, IsPlant, destinations_of}
 use Rattle.plant_config.specs.Sites.{dest_at, source_at, source_number_of}
 use Rattle.plant_config.specs.declared.records.Change.{Change}
+use Rattle.change_boards.specs.Board.{Board}
+use Rattle.change_boards.specs.Notices as notices
+use Rattle.change_boards.specs.Notices.{has}
+use Rattle.change_boards.specs.Laws.{AreBoards}
+use Rattle.change_boards.specs.declared.sort.Sort.TheVariants.{Protect}
 use Rattle.plant_core.specs.declared.request.Request.{Request}
-use Rattle.plant_core.specs.declared.request.Request.TheVariants.{Told}
+use Rattle.plant_core.specs.declared.request.Request.TheVariants.{Told, Poll, Leave}
 
 -- what a destination carries: a source, and the tie that brings it there, none for a source of the level itself
 pub record Spot : Type 0 where
@@ -21,14 +26,15 @@ pub record Spot : Type 0 where
 abbrev pub Crosspoints : Type 0
 Crosspoints = FinMap nat_cmp Spot
 
--- a plant, which no step changes, and what stands in it
+-- a plant, which no step changes, what its destinations carry, and what each panel has yet to hear of
 pub record State : Type 0 where
   pub plant : PlantData
   pub crosspoints : Crosspoints
+  pub boards : List Board
 
--- the state at the start: every destination is parked
+-- the state at the start: every destination is parked, there are no notices, and no panel has left
 abbrev pub start : PlantData → State
-start plant = record { plant = plant; crosspoints = empty }
+start plant = record { plant = plant; crosspoints = empty; boards = notices.start (length plant.panels) }
 
 -- the source of a destination, none where it is parked
 abbrev pub source_of : Crosspoints → ℕ → Option ℕ
@@ -78,17 +84,28 @@ pub record IsCrosspoint (plant : PlantData) (dest source : ℕ) : Type 0 where
   pub dest_is : dest_at plant matrix level dest_number ≡ Some dest
   pub source_is : source_at plant matrix level source_number ≡ Some source
 
--- A state is valid where its plant is, each destination carries a source of its own level, and none has a tie.
+-- A state is valid where its plant is, each destination carries a source of its own level, and none has a tie. Each panel
+-- of the plant has a board, with notices of the plant's destinations, none where the panel has left. No event gives a
+-- protect notice.
 pub record IsValid (state : State) : Type 0 where
   pub is_plant : IsPlant state.plant
   pub is_crosspoint : (dest : ℕ) (spot : Spot) → get state.crosspoints dest ≡ Some spot → IsCrosspoint state.plant dest spot.source
   pub ties : (dest : ℕ) (spot : Spot) → get state.crosspoints dest ≡ Some spot → spot.tie ≡ None
+  pub boards : AreBoards state.boards (length state.plant.panels) (destinations_of state.plant)
+  pub no_protects : (panel dest : ℕ) → has state.boards panel dest Protect ≡ false
 
 -- A change is of a destination of the plant, which it parks or gives a source of its own level.
 pub record IsChangeOf (plant : PlantData) (change : Change) : Type 0 where
   pub dest : change.dest < destinations_of plant
   pub source : IfSome change.source (IsCrosspoint plant change.dest)
 
--- A request fits where its panel is in the plant, and its message asks something of the plant and is in its ranges.
+-- A request fits a plant where its panel is in it; a message that is told asks something of the plant, and is in its
+-- ranges.
+abbrev pub FitsPlant : PlantData → Request → Type 0
+FitsPlant plant (Told panel item message) = (panel < length plant.panels) × (kind_of message ≡ Plant) × InRange message
+FitsPlant plant (Poll panel item turn) = panel < length plant.panels
+FitsPlant plant (Leave panel) = panel < length plant.panels
+
+-- What stands in a state doesn't matter for what fits.
 abbrev pub Fits : State → Request → Type 0
-Fits state (Told panel item message) = (panel < length state.plant.panels) × (kind_of message ≡ Plant) × InRange message
+Fits state request = FitsPlant state.plant request

@@ -1,25 +1,26 @@
 -- What an event does to the state, and how it is answered.
-use Rattle.std.specs.Prelude.{ℕ, List, [], ◌∷◌, Option, Some, None}
-use Rattle.std.specs.Option.{option_map, option_and_then}
+use Rattle.std.specs.Prelude.{ℕ, if◌then◌else◌, List, [], ◌∷◌, map, slice_set, Option, Some, None}
+use Rattle.std.specs.Option.{option_map, option_and_then, option_to_list}
 use Rattle.swp08_messages.specs.declared.point.Point.{Point}
 use Rattle.swp08_messages.specs.declared.message.Message.{Message}
 use Rattle.swp08_messages.specs.declared.message.Message.TheVariants.{Interrogate, Connect, Tally, Connected}
 use Rattle.plant_config.specs.Plant.{PlantData}
-use Rattle.plant_config.specs.Sites.{dest_at, source_at}
+use Rattle.plant_config.specs.Sites.{dest_at, source_at, point_of}
 use Rattle.plant_config.specs.declared.records.Change.{Change}
+use Rattle.plant_config.specs.declared.records.Point as places
+use Rattle.change_boards.specs.Board.{Board, marked, next}
+use Rattle.change_boards.specs.Notices.{board_of, with_take, with_leave}
+use Rattle.change_boards.specs.declared.sort.Sort.{Sort}
+use Rattle.change_boards.specs.declared.sort.Sort.TheVariants.{Source, Protect}
+use Rattle.history_lock.specs.Step.{Stepped}
 use Rattle.plant_core.specs.declared.request.Request.{Request}
-use Rattle.plant_core.specs.declared.request.Request.TheVariants.{Told}
+use Rattle.plant_core.specs.declared.request.Request.TheVariants.{Told, Poll, Leave}
 use Rattle.plant_core.specs.declared.answer.Answer.{Answer}
 use Rattle.plant_core.specs.declared.answer.Answer.TheVariants.{Say}
-use Rattle.plant_core.specs.State.{State, standing, applied}
+use Rattle.plant_core.specs.State.{State, standing, is_idle, applied}
 
--- what an event leaves, and its answers in order
-pub record Stepped : Type 0 where
-  pub state : State
-  pub answers : List Answer
-
--- nothing is changed, and this is answered
-abbrev pub says : State → Message → Stepped
+-- this is the state, and this is answered
+abbrev pub says : State → Message → Stepped State Answer
 says state message = record { state = state; answers = Say message ∷ [] }
 
 -- What a destination is to carry: parked, or a source of its own level. `None` where the level has no such source.
@@ -32,20 +33,57 @@ abbrev pub change_of : PlantData → Point → Option ℕ → Option Change
 change_of plant at source =
     option_and_then (λ dest. option_map (λ carried. record { dest = dest; source = carried }) (wanted plant at source)) (dest_at plant at.matrix at.level at.dest)
 
--- A connect is made as a list of one change, and answered as made, where it is in range; else the answer is the source
--- that stands.
-abbrev pub connected : State → Point → Option ℕ → Option Change → Stepped
-connected state at source None = says state (Tally at (standing state at))
-connected state at source (Some change) =
-    says (record state { crosspoints = applied state.crosspoints (change ∷ []) }) (Connected at source)
+-- The boards once a panel has changed a destination's source: all are marked but its own. A mark changes nothing where the
+-- panel has left.
+abbrev pub noticed : List Board → ℕ → ℕ → List Board
+noticed boards asker dest = slice_set (map (λ board. marked board dest Source) boards) asker (board_of boards asker)
+
+-- a change is made as a list of one
+abbrev pub with_change : State → Change → State
+with_change state change = record state { crosspoints = applied state.crosspoints (change ∷ []) }
+
+-- the state after a panel's change: an idle one gives no notice
+abbrev pub changed : State → ℕ → Change → State
+changed state asker change = record (with_change state change) {
+  boards = if is_idle state.crosspoints change then state.boards else noticed state.boards asker change.dest;
+}
+
+-- A connect that is in range is made and answered so; else the answer is the source that stands.
+abbrev pub connected : State → ℕ → Point → Option ℕ → Option Change → Stepped State Answer
+connected state panel at source None = says state (Tally at (standing state at))
+connected state panel at source (Some change) = says (changed state panel change) (Connected at source)
 
 -- what a message of a panel does. A report does nothing, and isn't answered.
-abbrev pub answered : State → Message → Stepped
-answered state (Interrogate at) = says state (Tally at (standing state at))
-answered state (Connect at source) = connected state at source (change_of state.plant at source)
-answered state (Tally at source) = record { state = state; answers = [] }
-answered state (Connected at source) = record { state = state; answers = [] }
+abbrev pub answered : State → ℕ → Message → Stepped State Answer
+answered state panel (Interrogate at) = says state (Tally at (standing state at))
+answered state panel (Connect at source) = connected state panel at source (change_of state.plant at source)
+answered state panel (Tally at source) = record { state = state; answers = [] }
+answered state panel (Connected at source) = record { state = state; answers = [] }
 
--- what an event does
-abbrev pub step : State → Request → Stepped
-step state (Told panel item message) = answered state message
+-- a plant's place as messages have it
+abbrev pub message_place : places.Point → Point
+message_place place = record { matrix = place.matrix; level = place.level; dest = place.dest }
+
+-- a place and the source that stands there, told as a connect that was made
+abbrev pub told_at : State → Point → Answer
+told_at state at = Say (Connected at (standing state at))
+
+-- What a panel is told for a notice: which source stands at the destination by now. A protect notice, of which there is
+-- none, says nothing.
+abbrev pub notice_of : State → Option (ℕ × Sort) → List Answer
+notice_of state None = []
+notice_of state (Some (dest, Source)) = option_to_list (option_map (λ place. told_at state (message_place place)) (point_of state.plant dest))
+notice_of state (Some (dest, Protect)) = []
+
+-- the answers to a poll, which are for the panel's next notice
+abbrev pub poll_answers : State → ℕ → List Answer
+poll_answers state panel = notice_of state (next (board_of state.boards panel))
+
+-- What an event does. A poll takes the next notice of its panel, and a panel that leaves loses its notices.
+abbrev pub step : State → Request → Stepped State Answer
+step state (Told panel item message) = answered state panel message
+step state (Poll panel item turn) = record {
+  state = record state { boards = with_take state.boards panel };
+  answers = poll_answers state panel;
+}
+step state (Leave panel) = record { state = record state { boards = with_leave state.boards panel }; answers = [] }

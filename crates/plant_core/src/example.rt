@@ -1,35 +1,42 @@
 //! One short use of the crate.
 
 use crate::{Answer, PlantState, Request};
+use history_lock::{Machine, OutBox};
 use plant_config::{PanelNo, Plant};
 use std::test::Fail;
 use swp08_messages::{Message, Point};
 
 #[test]
-fn one_panel_connects_and_another_asks(rt: HostRuntime) -> Result<(), Fail> {
+fn one_panel_connects_and_another_hears_of_it(rt: HostRuntime) -> Result<(), Fail> {
     let plant = Plant::bench(rt.alloc())?;
     let mut state = PlantState::start(rt.alloc(), &plant)?;
+    let mut out = OutBox::new(rt.alloc(), state.room())?;
     let at = Point {
         matrix: 0,
         level: 0,
         dest: 5,
     };
     let source = Some(3);
+    let made = Answer::Say(Message::Connected { at, source });
 
     let connect = Request::Told {
         panel: PanelNo::of(1),
         at: 0,
         message: Message::Connect { at, source },
     };
-    let made = Answer::Say(Message::Connected { at, source });
-    assert_eq!(rt; state.step(&connect), made);
+    state.step(&connect, &mut out);
+    assert_eq!(rt; out.items(), [made].as_slice());
 
-    let interrogate = Request::Told {
+    let poll = Request::Poll {
         panel: PanelNo::of(0),
         at: 0,
-        message: Message::Interrogate { at },
+        turn: 0,
     };
-    let stands = Answer::Say(Message::Tally { at, source });
-    assert_eq!(rt; state.step(&interrogate), stands);
+    out.clear();
+    state.step(&poll, &mut out);
+    assert_eq!(rt; out.items(), [made].as_slice());
+    out.clear();
+    state.step(&poll, &mut out);
+    assert_eq!(rt; out.items(), [].as_slice());
     Ok(())
 }

@@ -1,9 +1,12 @@
 //! A script is read whole, and then its works are done.
 
-ghost use Rattle.std.specs.Prelude.{◌≡◌, ◌<◌, ◌⊎◌, Err, ℕ, OnOk, OnErr, IfOk, All, length, IsErrOf};
+ghost use Rattle.std.specs.Prelude.{◌≡◌, ◌<◌, ◌≤◌, ◌⊎◌, Err, ℕ, [], ◌∷◌, OnOk, OnErr, IfOk, All, length, IsErrOf};
 ghost use Rattle.ctl_io.specs.Faults.{counted};
 ghost use Rattle.ctl_io.specs.Sink.{appended, AppendsPart};
 ghost use Rattle.record_replay.specs.declared.replay.ReplayFault.TheVariants.{NoMemory};
+ghost use Rattle.plant_core.specs.State.{Fits};
+ghost use Rattle.plant_core.specs.Step.{step};
+ghost use Rattle.plant_core.specs.Answer.{IsSayable, IsAnswerCount, room_of};
 ghost use Rattle.record_replay.specs.Script.{lines, LinesSpell, IsFirstBad, IsWork};
 ghost use Rattle.record_replay.specs.Replay.{HasReplayed, HasReplayedFront, output_failed, replies};
 
@@ -11,8 +14,9 @@ use crate::line::{Work, read_line, request};
 use crate::output::reply_line;
 use crate::script::split_line;
 use ctl_io::{Sink, write_all};
+use history_lock::OutBox;
 use plant_config::Plant;
-use plant_core::PlantState;
+use plant_core::{Answer, PlantState, Request};
 use std::alloc::{AllocError, AllocFailed, Global};
 
 /// Why a replay ended early.
@@ -68,7 +72,8 @@ pub fn replay_script<K: Sink>(
 {
     let works = read_script(alloc, script)?;
     let mut state = PlantState::start(alloc, plant)?;
-    do_works(alloc, &mut state, &works, out)
+    let mut answers = OutBox::new(alloc, PlantState::room_of(plant))?;
+    do_works(alloc, &mut state, &works, &mut answers, out)
 }
 
 // The works that a script's lines spell, or the number of the first line that spells none.
@@ -96,10 +101,13 @@ fn do_works<K: Sink>(
     alloc: Global,
     state: &mut PlantState,
     works: &[Work],
+    answers: &mut OutBox<Answer>,
     out: &mut K,
 ) -> Result<(), ReplayFault>
     requires works { All IsWork works.now }
     requires panel { 0 < length state.old.plant.panels }
+    requires empty { answers.old.items ≡ [] }
+    requires places { room_of state.old.plant ≤ answers.old.places }
     ensures ok { OnOk result
         (K.written out.new ≡ appended (K.written out.old) (replies state.old 0 works.now)) }
     ensures front { OnErr result
@@ -108,11 +116,33 @@ fn do_works<K: Sink>(
     ensures count { K.faults out.new ≡ counted (output_failed result) (K.faults out.old) }
 {
     for (item, work) in works.iter().enumerate() {
-        let answer = state.step(&request(work, item as u64));
+        let answer = step(state, &request(work, item as u64), answers);
         let line = reply_line(alloc, work.panel, &answer)?;
         if !write_all(out, line.as_bytes()) {
             return Err(ReplayFault::OutputFault);
         }
     }
     Ok(())
+}
+
+// Lets the plant step on what a panel sent, and takes the one answer out of the box again.
+fn step(state: &mut PlantState, request: &Request, answers: &mut OutBox<Answer>) -> Answer
+    requires fits { Fits state.old request.now }
+    requires told { (count : ℕ) → IsAnswerCount request.now count → count ≡ 1 }
+    requires empty { answers.old.items ≡ [] }
+    requires places { room_of state.old.plant ≤ answers.old.places }
+    ensures state { state.new ≡ (step state.old request.now).state }
+    ensures answer { (step state.old request.now).answers ≡ result ∷ [] }
+    ensures sayable { IsSayable result }
+    ensures empty { answers.new.items ≡ [] }
+    ensures places { answers.new.places ≡ answers.old.places }
+    ensures plant { state.new.plant ≡ state.old.plant }
+{
+    state.step(request, answers);
+    let answer = match answers.items() {
+        [answer] => *answer,
+        _ => unreachable!(),
+    };
+    answers.clear();
+    answer
 }

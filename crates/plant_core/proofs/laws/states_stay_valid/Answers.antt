@@ -12,4 +12,4 @@ pub returns-clause-plant : goal.returns-clause-plant
 returns-clause-plant c = plant-step
 
 pub returns-clause-changes : goal.returns-clause-changes
-returns-clause-changes c state changes valid all = IsValid-applied state.plant state.crosspoints changes valid all
+returns-clause-changes c state changes valid all = IsValid-applied state.plant state.boards state.crosspoints changes valid all

@@ -19,12 +19,14 @@ pub loop-item-preserved : goal.loop-item-preserved
 loop-item-preserved g c =
     let line = line-made c.loop-item.state c.args.works.now c.loop-item.item c.index-works-item.result c.request.result c.step-answer.result _ c.index-works-item.is c.request.ensures
     c.step-answer.ensures.answer (c.as_bytes.ensures.value ∙ c.in_ok-line.ensures) in
-    let left = state-left c.loop-item.state c.step-answer.new.self c.args.works.now c.loop-item.item c.index-works-item.result c.request.result c.index-works-item.is c.request.ensures
+    let left = state-left c.loop-item.state c.step-answer.new.state c.args.works.now c.loop-item.item c.index-works-item.result c.request.result c.index-works-item.is c.request.ensures
     c.step-answer.ensures.state in
-    let written = went_on c.args.state.now c.loop-item.state c.step-answer.new.self c.args.works.now c.loop-item.item c.index-works-item.result _ _ _ _
+    let written = went_on c.args.state.now c.loop-item.state c.step-answer.new.state c.args.works.now c.loop-item.item c.index-works-item.result _ _ _ _
     c.loop-item.invariant.written c.loop-item-test.true line left c.if-not-write_all.ensures.all in
     record {
       written = written;
       panel = subst (λ (p : PlantData). 0 < length p.panels) (sym written.plant) c.requires.panel;
       count = grind arith;
+      empty = c.step-answer.ensures.empty;
+      places = rw (c.step-answer.ensures.places, c.step-answer.ensures.plant) c.loop-item.invariant.places;
     }

@@ -1,4 +1,5 @@
-use Rattle.std.proofs.Common.{◌≡◌, ◌<◌, length}
+use Rattle.std.proofs.Common.{◌≡◌, ◌<◌, ◌≤◌, [], length}
+use Rattle.plant_core.specs.Answer.{room_of}
 use Rattle.record_replay.proofs.RepliesLemmas.{WrittenSoFar}
 use Rattle.record_replay.proofs.replay.do_works.Given as goal
 
@@ -7,4 +8,6 @@ invariant-loop-item g l = record {
   written : WrittenSoFar l.fn.state l.state l.works l.item (g.K.Sink.written l.fn.out) (g.K.Sink.written l.out);
   panel : 0 < length l.state.plant.panels;
   count : g.K.Sink.faults l.out ≡ g.K.Sink.faults l.fn.out;
+  empty : l.answers.items ≡ [];
+  places : room_of l.state.plant ≤ l.answers.places;
 }

@@ -1,0 +1,112 @@
+-- How many answers there are, and that they can be spelled.
+use Rattle.std.proofs.Common.{◌≡◌, ℕ, ◌≤◌, List, [], ◌∷◌, length, All, Option, Some, None, max, refl, arith}
+use Rattle.std.specs.List.{fold}
+use Rattle.std.specs.Option.{option_map, option_and_then, option_to_list}
+use Rattle.std.proofs.lemmas.List.Elements.{All-nil, All-push}
+use Rattle.swp08_messages.specs.declared.point.Point.{Point}
+use Rattle.swp08_messages.specs.declared.message.Message.TheVariants.{Interrogate, Connect, Tally, Connected}
+use Rattle.swp08_messages.specs.Text.{IsPoint, IsSource, InRange}
+use Rattle.plant_config.specs.declared.records.Point as places
+use Rattle.plant_config.specs.declared.records.Change.{Change}
+use Rattle.plant_config.specs.declared.records.Level.{Level}
+use Rattle.plant_config.specs.Plant.{PlantData, IsPlant, dest_numbers, source_numbers}
+use Rattle.plant_config.specs.Sites.{Site, site_of, dest_at, point_of, source_number_of}
+use Rattle.plant_config.proofs.SiteLemmas.{dests_are, sources_are, site_of-IsSite}
+use Rattle.change_boards.specs.declared.sort.Sort.{Sort}
+use Rattle.change_boards.specs.declared.sort.Sort.TheVariants.{Source, Protect}
+use Rattle.change_boards.specs.Board.{next}
+use Rattle.change_boards.specs.Notices.{board_of}
+use Rattle.plant_core.specs.declared.request.Request.{Request}
+use Rattle.plant_core.specs.declared.request.Request.TheVariants.{Told, Poll, Leave}
+use Rattle.plant_core.specs.declared.answer.Answer.{Answer}
+use Rattle.plant_core.specs.declared.answer.Answer.TheVariants.{Say}
+use Rattle.plant_core.specs.State.{State, IsValid, Fits, standing, source_of}
+use Rattle.plant_core.specs.Step.{step, connected, change_of, message_place, told_at, notice_of}
+use Rattle.plant_core.specs.Answer.{IsSayable, IsAnswerCount, room_of}
+
+-- a source that stands has a number that can be spelled, and so has each destination's place
+standing-IsSource : (state : State) (at : Point) → IsPlant state.plant → IsSource (standing state at)
+standing-IsSource state at is = of_dest (dest_at state.plant at.matrix at.level at.dest)
+  where
+    of_site : (source : ℕ) (site : Option Site) → site_of source_numbers state.plant source ≡ site → IsSource (option_map (λ (at : Site). at.number) site)
+    of_site source None h = tt
+    of_site source (Some site) h = (site_of-IsSite source_numbers state.plant (sources_are state.plant is) source site h).number
+
+    of_source : (source : Option ℕ) → IsSource (option_and_then (source_number_of state.plant) source)
+    of_source None = tt
+    of_source (Some source) = of_site source (site_of source_numbers state.plant source) refl
+
+    of_dest : (dest : Option ℕ) → IsSource (option_and_then (λ (dest : ℕ). option_and_then (source_number_of state.plant) (source_of state.crosspoints dest)) dest)
+    of_dest None = tt
+    of_dest (Some dest) = of_source (source_of state.crosspoints dest)
+
+InRange-crosspoint : (at : Point) (source : Option ℕ) → IsPoint at → IsSource source → InRange (Connected at source)
+InRange-crosspoint at source is of = ((is.matrix, is.level), ((is.dest, of), (is.dest, (of, tt))))
+
+All-one : (answer : Answer) → IsSayable answer → All IsSayable (answer ∷ [])
+All-one answer is = All-push IsSayable [] answer (All-nil IsSayable) is
+
+sayable-notice : (state : State) (notice : Option (ℕ × Sort)) → IsPlant state.plant → All IsSayable (notice_of state notice)
+sayable-notice state None is = All-nil IsSayable
+sayable-notice state (Some (dest, Protect)) is = All-nil IsSayable
+sayable-notice state (Some (dest, Source)) is = of_site (site_of dest_numbers state.plant dest) refl
+  where
+    place_of : Site → places.Point
+    place_of site = record { matrix = site.matrix; level = site.level; dest = site.number }
+
+    of_site : (site : Option Site) → site_of dest_numbers state.plant dest ≡ site →
+        All IsSayable (option_to_list (option_map (λ (place : places.Point). told_at state (message_place place)) (option_map (λ (site : Site). let p : places.Point = record { matrix = site.matrix; level = site.level; dest = site.number } in p) site)))
+    of_site None h = All-nil IsSayable
+    of_site (Some site) h =
+        let within = site_of-IsSite dest_numbers state.plant (dests_are state.plant is) dest site h in
+        let at : Point = record { matrix = site.matrix; level = site.level; dest = site.number } in
+        All-one (told_at state at)
+        (InRange-crosspoint at (standing state at) (record { matrix = within.matrix; level = within.level; dest = within.number }) (standing-IsSource state at is))
+
+pub All-sayable : (state : State) (request : Request) → IsValid state → Fits state request → All IsSayable (step state request).answers
+All-sayable state (Told panel item (Interrogate at)) valid fits =
+    let point : IsPoint at = record { matrix = fits.2.0.0; level = fits.2.0.1; dest = fits.2.1.0 } in
+    All-one (Say (Tally at (standing state at))) (InRange-crosspoint at (standing state at) point (standing-IsSource state at valid.is_plant))
+All-sayable state (Told panel item (Connect at source)) valid fits = of_change (change_of state.plant at source)
+  where
+    point : IsPoint at
+    point = record { matrix = fits.2.0.0; level = fits.2.0.1; dest = fits.2.1.0.0 }
+
+    of_change : (change : Option Change) → All IsSayable (connected state panel at source change).answers
+    of_change None = All-one (Say (Tally at (standing state at))) (InRange-crosspoint at (standing state at) point (standing-IsSource state at valid.is_plant))
+    of_change (Some change) = All-one (Say (Connected at source)) fits.2
+All-sayable state (Told panel item (Tally at source)) valid fits = All-nil IsSayable
+All-sayable state (Told panel item (Connected at source)) valid fits = All-nil IsSayable
+All-sayable state (Poll panel item turn) valid fits = sayable-notice state (next (board_of state.boards panel)) valid.is_plant
+All-sayable state (Leave panel) valid fits = All-nil IsSayable
+
+connected-one : (state : State) (panel : ℕ) (at : Point) (source : Option ℕ) (change : Option Change) → length (connected state panel at source change).answers ≡ 1
+connected-one state panel at source None = refl
+connected-one state panel at source (Some change) = refl
+
+few-notices : (state : State) (notice : Option (ℕ × Sort)) → length (notice_of state notice) ≤ 1
+few-notices state None = omega arith
+few-notices state (Some (dest, Protect)) = omega arith
+few-notices state (Some (dest, Source)) =
+    elim (point_of state.plant dest) as (λ o. length (option_to_list (option_map (λ (place : places.Point). told_at state (message_place place)) o)) ≤ 1) [ None ↦ omega arith | Some place ↦ omega arith ]
+
+pub answer_count : (state : State) (request : Request) → Fits state request → IsAnswerCount request (length (step state request).answers)
+answer_count state (Told panel item (Interrogate at)) fits = refl
+answer_count state (Told panel item (Connect at source)) fits = connected-one state panel at source (change_of state.plant at source)
+answer_count state (Told panel item (Tally at source)) fits = let not = fits.1 in absurd cc
+answer_count state (Told panel item (Connected at source)) fits = let not = fits.1 in absurd cc
+answer_count state (Poll panel item turn) fits = few-notices state (next (board_of state.boards panel))
+answer_count state (Leave panel) fits = refl
+
+-- no event has more than one answer, and there is room for it
+pub at_most_one : (request : Request) (count : ℕ) → IsAnswerCount request count → count ≤ 1
+at_most_one (Told panel item message) count is = omega arith
+at_most_one (Poll panel item turn) count is = is
+at_most_one (Leave panel) count is = omega arith
+
+pub room_some : (plant : PlantData) → 64 ≤ room_of plant
+room_some plant = go plant.levels 64
+  where
+    go : (levels : List Level) (most : ℕ) → most ≤ fold (λ most (level : Level). max most level.destinations) most levels
+    go [] most = omega arith
+    go (level ∷ levels) most = omega (arith, go levels (max most level.destinations))

@@ -1,0 +1,140 @@
+-- Polls one after another, and panels that have left.
+use Rattle.std.proofs.Common.{◌≡◌, ℕ, ◌<◌, ◌≤◌, true, false, cond, List, [], ◌∷◌, length, map, take, drop, slice_get, set, Option, Some, None, zero, suc, inl, inr, refl, sym, ap, subst, ◌∙◌, arith, length-drop}
+use Rattle.std.proofs.lemmas.Bool.{cases_eq, cases_lt, both_ways}
+use Rattle.std.proofs.lemmas.List.{get_or_past}
+use Rattle.swp08_messages.specs.declared.message.Message.{Message}
+use Rattle.swp08_messages.specs.declared.message.Message.TheVariants.{Interrogate, Connect, Tally, Connected}
+use Rattle.plant_config.specs.declared.records.Change.{Change}
+use Rattle.plant_config.specs.Plant.{destinations_of}
+use Rattle.change_boards.specs.declared.sort.Sort.{Sort}
+use Rattle.change_boards.specs.Board.{Board, IsEmpty, blank, abandoned, next, without, taken}
+use Rattle.change_boards.specs.Notices.{board_of, has_left, with_leave}
+use Rattle.change_boards.specs.Laws.{Leaves, TakesInOrder, notices_below}
+use Rattle.change_boards.proofs.OneNotice.{board_same, board_other, same_left}
+use Rattle.change_boards.proofs.InOrder.{takes_in_order}
+use Rattle.plant_core.specs.declared.request.Request.{Request}
+use Rattle.plant_core.specs.declared.request.Request.TheVariants.{Told, Poll, Leave}
+use Rattle.plant_core.specs.declared.answer.Answer.{Answer}
+use Rattle.plant_core.specs.State.{State, IsValid, is_idle}
+use Rattle.plant_core.specs.Step.{step, connected, noticed, change_of, notice_of}
+use Rattle.plant_core.specs.Laws.{after}
+use Rattle.plant_core.specs.NoticeLaws.{answers_of, notices_of, polls_of}
+use Rattle.plant_core.proofs.Noticed.{noticed-IsHeard}
+use Rattle.plant_core.proofs.Steps.{IsValid-step}
+use Rattle.plant_core.proofs.NoticeLemmas.{empty_has, poll-nothing}
+
+-- what so many takes of a panel's notices leave
+in_order : (state : State) (panel takes : ℕ) → IsValid state → TakesInOrder (board_of state.boards panel) (destinations_of state.plant) takes
+in_order state panel takes valid = takes_in_order takes (board_of state.boards panel) (destinations_of state.plant) (valid.boards.below panel)
+
+-- a poll takes the first notice
+poll-left : (state : State) (panel item turn : ℕ) → IsValid state → panel < length state.plant.panels → notices_of (step state (Poll panel item turn)).state panel ≡ drop 1 (notices_of state panel)
+poll-left state panel item turn valid within =
+    ap (notices_below (destinations_of state.plant)) (board_same state.boards panel (taken (board_of state.boards panel)) (omega (arith, within, valid.boards.count)))
+    ∙ (in_order state panel 1 valid).left
+
+drop-suc : (n : ℕ) (notices : List (ℕ × Sort)) → drop n (drop 1 notices) ≡ drop (suc n) notices
+drop-suc zero [] = refl
+drop-suc (suc n) [] = refl
+drop-suc n (notice ∷ notices) = refl
+
+pub polls-left : (numbers : List (ℕ × ℕ)) (state : State) (panel : ℕ) → IsValid state → panel < length state.plant.panels → notices_of (after state (polls_of panel numbers)) panel ≡ drop (length numbers) (notices_of state panel)
+polls-left [] state panel valid within = refl
+polls-left (number ∷ numbers) state panel valid within =
+    polls-left numbers (step state (Poll panel number.0 number.1)).state panel (IsValid-step state (Poll panel number.0 number.1) valid) within
+    ∙ ap (drop (length numbers)) (poll-left state panel number.0 number.1 valid within)
+    ∙ drop-suc (length numbers) (notices_of state panel)
+
+-- a poll, and the polls behind it
+first_answers : (state : State) (panel item turn : ℕ) (later : List (List Answer)) (count : ℕ) (notices : List (ℕ × Sort)) → IsValid state → notices_of state panel ≡ notices → suc count ≤ length notices →
+    later ≡ map (λ notice. notice_of state (Some notice)) (take count (drop 1 (notices_of state panel))) →
+    (step state (Poll panel item turn)).answers ∷ later ≡ map (λ notice. notice_of state (Some notice)) (take (suc count) notices)
+first_answers state panel item turn later count [] valid h few rest = absurd (omega arith)
+first_answers state panel item turn later count (notice ∷ notices) valid h few rest =
+    let first : next (board_of state.boards panel) ≡ Some notice = (in_order state panel 0 valid).next ∙ ap (λ ns. slice_get ns 0) h in
+    let left = rest ∙ ap (λ ns. map (λ notice. notice_of state (Some notice)) (take count (drop 1 ns))) h in
+    λ i. notice_of state (first i) ∷ left i
+
+pub polls-answers : (numbers : List (ℕ × ℕ)) (state : State) (panel : ℕ) → IsValid state → panel < length state.plant.panels → length numbers ≤ length (notices_of state panel) →
+    answers_of state (polls_of panel numbers) ≡ map (λ notice. notice_of state (Some notice)) (take (length numbers) (notices_of state panel))
+polls-answers [] state panel valid within few = refl
+polls-answers (number ∷ numbers) state panel valid within few =
+    let behind : State = (step state (Poll panel number.0 number.1)).state in
+    let left = poll-left state panel number.0 number.1 valid within in
+    let rest = polls-answers numbers behind panel (IsValid-step state (Poll panel number.0 number.1) valid) within (omega (arith, ap length left, length-drop 1 (notices_of state panel))) in
+    first_answers state panel number.0 number.1 (answers_of behind (polls_of panel numbers)) (length numbers) (notices_of state panel) valid refl few
+    (rest ∙ ap (λ ns. map (λ notice. notice_of state (Some notice)) (take (length numbers) ns)) left)
+
+pub leave-Leaves : (boards : List Board) (panel : ℕ) → panel < length boards → Leaves boards (with_leave boards panel) panel
+leave-Leaves boards panel within =
+    let same = board_same boards panel abandoned within in
+    record {
+      left = ap (λ (b : Board). b.left) same;
+      nothing = subst IsEmpty (sym same) (record { source = refl; protect = refl });
+      others = λ p other. board_other boards panel p abandoned other;
+    }
+
+-- a panel that has left has, whichever board is changed
+left_set : (boards : List Board) (p panel : ℕ) (board : Board) → (panel ≡ p → board.left ≡ true) → has_left boards panel ≡ true → has_left (set boards p board) panel ≡ true
+left_set boards p panel board new left = elim (cases_eq panel p) [
+  | inl here ↦ elim (cases_lt panel (length boards)) [
+    | inl within ↦ ap (λ n. has_left (set boards p board) n) here ∙ ap (λ (b : Board). b.left) (board_same boards p board (omega (arith, here))) ∙ new here
+    | inr past ↦ absurd (both_ways (has_left boards panel) (ap (λ (b : Board). b.left) (get_or_past boards panel blank past)) left)
+  ]
+  | inr other ↦ ap (λ (b : Board). b.left) (board_other boards p panel board other) ∙ left
+]
+
+taken_left : (board : Board) → (taken board).left ≡ board.left
+taken_left board = go (next board)
+  where
+    go : (notice : Option (ℕ × Sort)) → (without board notice).left ≡ board.left
+    go None = refl
+    go (Some (dest, sort)) = same_left board sort _
+
+left-step : (state : State) (panel : ℕ) (request : Request) → has_left state.boards panel ≡ true → has_left (step state request).state.boards panel ≡ true
+left-step state panel (Told p item (Interrogate at)) left = left
+left-step state panel (Told p item (Connect at source)) left = of_change (change_of state.plant at source)
+  where
+    of_change : (change : Option Change) → has_left (connected state p at source change).state.boards panel ≡ true
+    of_change None = left
+    of_change (Some change) =
+        elim (is_idle state.crosspoints change) as (λ b. has_left (cond b state.boards (noticed state.boards p change.dest)) panel ≡ true) [
+          | true ↦ left
+          | false ↦ (noticed-IsHeard state.boards p change.dest).left panel ∙ left
+        ]
+left-step state panel (Told p item (Tally at source)) left = left
+left-step state panel (Told p item (Connected at source)) left = left
+left-step state panel (Poll p item turn) left =
+    left_set state.boards p panel (taken (board_of state.boards p)) (λ here. taken_left (board_of state.boards p) ∙ ap (has_left state.boards) (sym here) ∙ left) left
+left-step state panel (Leave p) left = left_set state.boards p panel abandoned (λ here. refl) left
+
+pub stays_left : (later : List Request) (state : State) (panel : ℕ) → has_left state.boards panel ≡ true → has_left (after state later).boards panel ≡ true
+stays_left [] state panel left = left
+stays_left (request ∷ later) state panel left = stays_left later (step state request).state panel (left-step state panel request left)
+
+pub left-nothing : (state : State) (panel item turn : ℕ) → IsValid state → has_left state.boards panel ≡ true → step state (Poll panel item turn) ≡ record { state = state; answers = [] }
+left-nothing state panel item turn valid left =
+    poll-nothing state panel item turn valid (λ dest. empty_has (board_of state.boards panel) dest (valid.boards.left panel left))
+
+-- boards don't matter for what messages do
+pub answers_without : (state : State) (boards : List Board) (panel item : ℕ) (message : Message) →
+    (step (record state { boards = boards }) (Told panel item message)).answers ≡ (step state (Told panel item message)).answers
+answers_without state boards panel item (Interrogate at) = refl
+answers_without state boards panel item (Connect at source) = go (change_of state.plant at source)
+  where
+    go : (change : Option Change) → (connected (record state { boards = boards }) panel at source change).answers ≡ (connected state panel at source change).answers
+    go None = refl
+    go (Some change) = refl
+answers_without state boards panel item (Tally at source) = refl
+answers_without state boards panel item (Connected at source) = refl
+
+pub crosspoints_without : (state : State) (boards : List Board) (panel item : ℕ) (message : Message) →
+    (step (record state { boards = boards }) (Told panel item message)).state.crosspoints ≡ (step state (Told panel item message)).state.crosspoints
+crosspoints_without state boards panel item (Interrogate at) = refl
+crosspoints_without state boards panel item (Connect at source) = go (change_of state.plant at source)
+  where
+    go : (change : Option Change) → (connected (record state { boards = boards }) panel at source change).state.crosspoints ≡ (connected state panel at source change).state.crosspoints
+    go None = refl
+    go (Some change) = refl
+crosspoints_without state boards panel item (Tally at source) = refl
+crosspoints_without state boards panel item (Connected at source) = refl
