@@ -1,0 +1,11 @@
+pub mod OutputLemmas
+pub mod EntryLemmas
+pub mod KeptItemLemmas
+pub mod KeepsLemmas
+pub mod KeptTurnLemmas
+pub mod StandsLemmas
+pub mod ActsLemmas
+pub mod SessionLemmas
+pub mod FrameRoom
+pub mod LeftLemmas
+pub mod RunLemmas

@@ -1,0 +1,153 @@
+-- The output of a session over one more item and over one more entry.
+use Rattle.std.proofs.Common.{◌≡◌, ℕ, ◌+◌, ◌<◌, ◌≤◌, true, false, if◌then◌else◌, nat_lt, List, [], ◌∷◌, ◌++◌, length, Option, Some, None, refl, sym, ap, ◌∙◌, subst, arith}
+use Rattle.std.specs.Prelude.{IsSome}
+use Rattle.std.proofs.lemmas.Bool.{false≢true}
+use Rattle.std.proofs.lemmas.List.{append-nil, append_assoc}
+use Rattle.dle_framing.specs.Numbers.{ack, nak}
+use Rattle.dle_framing.specs.Frame.{frame}
+use Rattle.swp08_messages.specs.Text.{text}
+use Rattle.plant_core.specs.declared.answer.Answer.{Answer}
+use Rattle.plant_core.specs.declared.answer.Answer.TheVariants.{Say}
+use Rattle.panel_session.specs.declared.asked.Asked.{Asked}
+use Rattle.panel_session.specs.declared.asked.Asked.TheVariants.{Nothing, Repeat, Refused, Noted, Sent}
+use Rattle.panel_session.specs.Entry.{PlantEntry}
+use Rattle.panel_session.specs.Text.{frames_of, Output, with_control, with_frame, with_frames, repeated, polled_at, told_at, with_polls, output_from}
+use Rattle.panel_session.specs.OutgoingInside.{emptied}
+use Rattle.panel_session.specs.StandsInside.{AllTold, behind}
+
+-- the output once an item was told behind others, with the answers of what it sent to the plant
+abbrev pub told_output : ℕ → List PlantEntry → Option (List Answer) → Output → Output
+told_output n entries None output = with_control ack output
+told_output n entries (Some answers) output = with_polls (n + 1) entries (with_frames (frames_of answers) (with_control ack output))
+
+-- the output once the item of this number came behind others
+abbrev pub output_with : ℕ → Asked → List PlantEntry → Output → Output
+output_with n Nothing entries output = with_polls (n + 1) entries output
+output_with n Repeat entries output = with_polls (n + 1) entries (repeated output)
+output_with n Refused entries output = with_polls (n + 1) entries (with_control nak output)
+output_with n Noted entries output = with_polls (n + 1) entries (with_control ack output)
+output_with n (Sent message) entries output = told_output n entries (told_at n entries) output
+
+-- one item alone
+output_one : (a : Asked) (item : ℕ) (entries : List PlantEntry) (output : Output) → output_from item (a ∷ []) entries output ≡ output_with item a entries (with_polls item entries output)
+output_one Nothing item entries output = refl
+output_one Repeat item entries output = refl
+output_one Refused item entries output = refl
+output_one Noted item entries output = refl
+output_one (Sent message) item entries output = sent_one (told_at item entries) where
+  sent_one : (told : Option (List Answer)) → (elim told [ None ↦ with_control ack (with_polls item entries output) | (Some answers) ↦ output_from (item + 1) [] entries (with_frames (frames_of answers) (with_control ack (with_polls item entries output))) ]) ≡ told_output item entries told (with_polls item entries output)
+  sent_one None = refl
+  sent_one (Some answers) = refl
+
+-- The same where a message was sent to the plant, and has its entry.
+sent_more : (told : Option (List Answer)) → IsSome told → (xs : List Asked) (a : Asked) (item n : ℕ) (entries : List PlantEntry) (output : Output)
+    → ((output : Output) → output_from (item + 1) (xs ++ a ∷ []) entries output ≡ output_with n a entries (output_from (item + 1) xs entries output))
+    → (elim told [ None ↦ output | (Some answers) ↦ output_from (item + 1) (xs ++ a ∷ []) entries (with_frames (frames_of answers) output) ])
+    ≡ output_with n a entries (elim told [ None ↦ output | (Some answers) ↦ output_from (item + 1) xs entries (with_frames (frames_of answers) output) ])
+sent_more None told xs a item n entries output more = absurd (false≢true told)
+sent_more (Some answers) told xs a item n entries output more = more (with_frames (frames_of answers) output)
+
+-- One item more, behind items that have their entries.
+pub output_more : (xs : List Asked) (a : Asked) (item n : ℕ) (entries : List PlantEntry) (output : Output) → n ≡ item + length xs → AllTold item xs entries
+    → output_from item (xs ++ a ∷ []) entries output ≡ output_with n a entries (output_from item xs entries output)
+output_more [] a item n entries output is told =
+    let P : ℕ → Type 0 = λ n. output_from item (a ∷ []) entries output ≡ output_with n a entries (with_polls item entries output) in
+    let same : item ≡ n = omega arith in
+    subst P same (output_one a item entries output)
+output_more (Nothing ∷ xs) a item n entries output is told = output_more xs a (item + 1) n entries (with_polls item entries output) (omega arith) told.1
+output_more (Repeat ∷ xs) a item n entries output is told = output_more xs a (item + 1) n entries (repeated (with_polls item entries output)) (omega arith) told.1
+output_more (Refused ∷ xs) a item n entries output is told = output_more xs a (item + 1) n entries (with_control nak (with_polls item entries output)) (omega arith) told.1
+output_more (Noted ∷ xs) a item n entries output is told = output_more xs a (item + 1) n entries (with_control ack (with_polls item entries output)) (omega arith) told.1
+output_more (Sent message ∷ xs) a item n entries output is told =
+    sent_more (told_at item entries) told.0 xs a item n entries (with_control ack (with_polls item entries output))
+    (λ output. output_more xs a (item + 1) n entries output (omega arith) told.1)
+
+-- Other entries say the same of the items from one number on, before another.
+pub record SayTheSame (item n : ℕ) (entries others : List PlantEntry) : Type 0 where
+  pub told : (k : ℕ) → item ≤ k → k < n → told_at k others ≡ told_at k entries
+  pub polled : (k : ℕ) → item ≤ k → k < n → polled_at k others ≡ polled_at k entries
+
+same_later : (item n : ℕ) (entries others : List PlantEntry) → SayTheSame item n entries others → SayTheSame (item + 1) n entries others
+same_later item n entries others same = record {
+  told = λ k from below. same.told k (omega arith) below;
+  polled = λ k from below. same.polled k (omega arith) below;
+}
+
+-- Frames behind others.
+pub with_frames-append : (one other : List (List ℕ)) (output : Output) → with_frames (one ++ other) output ≡ with_frames other (with_frames one output)
+with_frames-append [] other output = refl
+with_frames-append (sent ∷ one) other output = with_frames-append one other (with_frame sent output)
+
+pub frames_of-append : (one other : List Answer) → frames_of (one ++ other) ≡ frames_of one ++ frames_of other
+frames_of-append [] other = refl
+frames_of-append (Say message ∷ one) other = ap (λ (frames : List (List ℕ)). frame (text message) ∷ frames) (frames_of-append one other)
+
+-- the polls made behind an item, where others are among them
+same_polls : (item : ℕ) (entries others : List PlantEntry) (output : Output) → polled_at item others ≡ polled_at item entries → with_polls item others output ≡ with_polls item entries output
+same_polls item entries others output same = ap (λ (answers : List Answer). with_frames (frames_of answers) output) same
+
+sent_later : (told told_then : Option (List Answer)) → told_then ≡ told → IsSome told → (xs : List Asked) (item : ℕ) (entries others : List PlantEntry) (more : List Answer) (output : Output)
+    → ((output : Output) → output_from (item + 1) xs others output ≡ with_frames (frames_of more) (output_from (item + 1) xs entries output))
+    → (elim told_then [ None ↦ output | (Some answers) ↦ output_from (item + 1) xs others (with_frames (frames_of answers) output) ])
+    ≡ with_frames (frames_of more) (elim told [ None ↦ output | (Some answers) ↦ output_from (item + 1) xs entries (with_frames (frames_of answers) output) ])
+sent_later None told_then same told xs item entries others more output later = absurd (false≢true told)
+sent_later (Some answers) told_then same told xs item entries others more output later =
+    let P : Option (List Answer) → Type 0 = λ told_then.
+    (elim told_then [ None ↦ output | (Some answers) ↦ output_from (item + 1) xs others (with_frames (frames_of answers) output) ])
+    ≡ with_frames (frames_of more) (output_from (item + 1) xs entries (with_frames (frames_of answers) output)) in
+    subst P (sym same) (later (with_frames (frames_of answers) output))
+
+-- Other entries, which have these answers more of polls behind all items.
+pub output_later : (xs : List Asked) (item n : ℕ) (entries others : List PlantEntry) (more : List Answer) (output : Output) → n ≡ item + length xs → AllTold item xs entries → SayTheSame item n entries others
+    → polled_at n others ≡ polled_at n entries ++ more
+    → output_from item xs others output ≡ with_frames (frames_of more) (output_from item xs entries output)
+output_later [] item n entries others more output is told same polls =
+    let P : ℕ → Type 0 = λ k. polled_at k others ≡ polled_at k entries ++ more in
+    let here : n ≡ item = omega arith in
+    ap (λ (answers : List Answer). with_frames (frames_of answers) output) (subst P here polls)
+    ∙ ap (λ (frames : List (List ℕ)). with_frames frames output) (frames_of-append (polled_at item entries) more)
+    ∙ with_frames-append (frames_of (polled_at item entries)) (frames_of more) output
+output_later (Nothing ∷ xs) item n entries others more output is told same polls =
+    ap (λ (output : Output). output_from (item + 1) xs others output) (same_polls item entries others output (same.polled item (omega arith) (omega arith)))
+    ∙ output_later xs (item + 1) n entries others more (with_polls item entries output) (omega arith) told.1 (same_later item n entries others same) polls
+output_later (Repeat ∷ xs) item n entries others more output is told same polls =
+    ap (λ (output : Output). output_from (item + 1) xs others (repeated output)) (same_polls item entries others output (same.polled item (omega arith) (omega arith)))
+    ∙ output_later xs (item + 1) n entries others more (repeated (with_polls item entries output)) (omega arith) told.1 (same_later item n entries others same) polls
+output_later (Refused ∷ xs) item n entries others more output is told same polls =
+    ap (λ (output : Output). output_from (item + 1) xs others (with_control nak output)) (same_polls item entries others output (same.polled item (omega arith) (omega arith)))
+    ∙ output_later xs (item + 1) n entries others more (with_control nak (with_polls item entries output)) (omega arith) told.1 (same_later item n entries others same) polls
+output_later (Noted ∷ xs) item n entries others more output is told same polls =
+    ap (λ (output : Output). output_from (item + 1) xs others (with_control ack output)) (same_polls item entries others output (same.polled item (omega arith) (omega arith)))
+    ∙ output_later xs (item + 1) n entries others more (with_control ack (with_polls item entries output)) (omega arith) told.1 (same_later item n entries others same) polls
+output_later (Sent message ∷ xs) item n entries others more output is told same polls =
+    ap (λ (output : Output). elim (told_at item others) [ None ↦ with_control ack output | (Some answers) ↦ output_from (item + 1) xs others (with_frames (frames_of answers) (with_control ack output)) ])
+    (same_polls item entries others output (same.polled item (omega arith) (omega arith)))
+    ∙ sent_later (told_at item entries) (told_at item others) (same.told item (omega arith) (omega arith)) told.0 xs item entries others more (with_control ack (with_polls item entries output))
+    (λ output. output_later xs (item + 1) n entries others more output (omega arith) told.1 (same_later item n entries others same) polls)
+
+-- What comes behind bytes that were sent before.
+pub control-behind : (control before : List ℕ) (output : Output) → with_control control (behind before output) ≡ behind before (with_control control output)
+control-behind control before output = ap (λ (bytes : List ℕ). record output { bytes = bytes }) (append_assoc before output.bytes control)
+
+frame-behind : (sent before : List ℕ) (output : Output) → with_frame sent (behind before output) ≡ behind before (with_frame sent output)
+frame-behind sent before output = ap (λ (bytes : List ℕ). record { bytes = bytes; last = Some sent; repeats = 0 }) (append_assoc before output.bytes sent)
+
+pub frames-behind : (frames : List (List ℕ)) (before : List ℕ) (output : Output) → with_frames frames (behind before output) ≡ behind before (with_frames frames output)
+frames-behind [] before output = refl
+frames-behind (sent ∷ frames) before output =
+    ap (λ (output : Output). with_frames frames output) (frame-behind sent before output) ∙ frames-behind frames before (with_frame sent output)
+
+pub repeated-behind : (before : List ℕ) (output : Output) → repeated (behind before output) ≡ behind before (repeated output)
+repeated-behind before output = at output.bytes output.last output.repeats where
+  at : (bytes : List ℕ) (last : Option (List ℕ)) (repeats : ℕ) → repeated (behind before (record { bytes = bytes; last = last; repeats = repeats })) ≡ behind before (repeated (record { bytes = bytes; last = last; repeats = repeats }))
+  at bytes None repeats = refl
+  at bytes (Some sent) repeats = elim (nat_lt repeats 5) as (λ test.
+      (if test then record { bytes = (before ++ bytes) ++ sent; last = Some sent; repeats = repeats + 1 } else record { bytes = before ++ bytes; last = Some sent; repeats = repeats })
+      ≡ behind before (if test then record { bytes = bytes ++ sent; last = Some sent; repeats = repeats + 1 } else record { bytes = bytes; last = Some sent; repeats = repeats })) [
+        | true ↦ ap (λ (bytes : List ℕ). record { bytes = bytes; last = Some sent; repeats = repeats + 1 }) (append_assoc before bytes sent)
+        | false ↦ refl
+      ]
+
+-- Once bytes that were to be sent are sent, nothing is.
+pub sent-behind : (before : List ℕ) (output : Output) → behind before output ≡ behind (before ++ output.bytes) (emptied output)
+sent-behind before output = ap (λ (bytes : List ℕ). record output { bytes = bytes }) (sym (append-nil (before ++ output.bytes)))

@@ -1,0 +1,231 @@
+-- What a session stands for, item by item.
+use Rattle.std.proofs.Common.{◌≡◌, ◌≢◌, ℕ, ◌+◌, ◌-◌, ◌^◌, ◌<◌, ◌≤◌, true, false, Bool, List, [], ◌∷◌, ◌++◌, length, refl, sym, ap, ◌∙◌, subst, arith}
+use Rattle.std.proofs.Math.Nat.{mod-eq_of_lt}
+use Rattle.std.proofs.lemmas.Bool.{false≢true}
+use Rattle.std.proofs.lemmas.List.{length-append}
+use Rattle.std.proofs.lemmas.List.Sums.{sum_by-append, count_by-le-length}
+use Rattle.dle_framing.specs.Framer as framer
+use Rattle.dle_framing.specs.declared.framer.Framer.{Framer}
+use Rattle.dle_framing.specs.declared.item.Item.{Item}
+use Rattle.dle_framing.specs.declared.item.Item.TheVariants.{Good, Bad, Ack, Nak}
+use Rattle.dle_framing.specs.Items.{items}
+use Rattle.swp08_messages.specs.declared.message.Message.{Message}
+use Rattle.panel_session.specs.OutgoingInside.{emptied}
+use Rattle.dle_framing.proofs.LawLemmas.{items_front}
+use Rattle.plant_config.specs.Plant.{PlantData}
+use Rattle.plant_core.specs.declared.answer.Answer.{Answer}
+use Rattle.plant_core.specs.declared.request.Request.TheVariants.{Told}
+use Rattle.panel_session.specs.declared.asked.Asked.{Asked}
+use Rattle.panel_session.specs.declared.asked.Asked.TheVariants.{Nothing, Repeat, Refused, Noted, Sent}
+use Rattle.panel_session.specs.declared.session.Session.{Session}
+use Rattle.panel_session.specs.declared.stage.Stage.{Stage}
+use Rattle.panel_session.specs.declared.stage.Stage.TheVariants.{Read, Tell, Poll as PollStage}
+use Rattle.panel_session.specs.Asked.{Asks}
+use Rattle.panel_session.specs.declared.counts.Counts.{Counts}
+use Rattle.panel_session.specs.Counted.{is_good_item, is_bad_item, goods_of, bads_of}
+use Rattle.panel_session.specs.SoFar.{Past, read_so_far, with_bytes, with_sent, with_entry}
+use Rattle.panel_session.specs.Taken.{taken_stage, taken_output, sent_by}
+use Rattle.panel_session.specs.Text.{Output, frames_of, with_frames}
+use Rattle.panel_session.specs.StandsInside.{Kept, Keeps}
+use Rattle.panel_session.specs.Session.{Stands, kept_of}
+use Rattle.panel_session.specs.Moves.{next, counts_with, stage_with, took, took_answers}
+use Rattle.panel_session.proofs.KeptItemLemmas.{reading, read-more, keeps_item, keeps_none, keeps_to_poll}
+use Rattle.panel_session.proofs.KeepsLemmas.{keeps_sent, keeps_told}
+
+-- one more of a number that is far from the end
+pub next-small : (n : ℕ) → n < 2 ^ 62 → next n ≡ n + 1
+next-small n small = mod-eq_of_lt (omega arith)
+
+-- the items of a text, and of one with more behind
+pub fewer_items : (text more : List ℕ) → length (items text) ≤ length (items (text ++ more))
+fewer_items text more =
+    let front = items_front text (text ++ more) (more, refl) in
+    omega (arith, ap (length {A = Item (List ℕ)}) front.1, length-append (items text) front.0)
+
+-- What is counted of an item more.
+goods-more : (its : List (Item (List ℕ))) (item : Item (List ℕ)) → goods_of (its ++ item ∷ []) ≡ goods_of its + goods_of (item ∷ [])
+goods-more its item = sum_by-append _ its (item ∷ [])
+
+bads-more : (its : List (Item (List ℕ))) (item : Item (List ℕ)) → bads_of (its ++ item ∷ []) ≡ bads_of its + bads_of (item ∷ [])
+bads-more its item = sum_by-append _ its (item ∷ [])
+
+goods-with : (a : Asked) (item : Item (List ℕ)) (counts : Counts) → Asks item a → counts.goods < 2 ^ 62 → (counts_with a counts).goods ≡ counts.goods + goods_of (item ∷ [])
+goods-with Nothing (Good carried) counts asks small = absurd asks
+goods-with Repeat (Good carried) counts asks small = absurd asks
+goods-with Refused (Good carried) counts asks small = absurd asks
+goods-with Noted (Good carried) counts asks small = next-small counts.goods small
+goods-with (Sent message) (Good carried) counts asks small = next-small counts.goods small
+goods-with Nothing Ack counts asks small = omega arith
+goods-with Repeat Nak counts asks small = omega arith
+goods-with Refused Bad counts asks small = omega arith
+goods-with Nothing Bad counts asks small = cc
+goods-with Nothing Nak counts asks small = cc
+goods-with Repeat Bad counts asks small = cc
+goods-with Repeat Ack counts asks small = cc
+goods-with Refused Ack counts asks small = cc
+goods-with Refused Nak counts asks small = cc
+goods-with Noted Bad counts asks small = cc
+goods-with Noted Ack counts asks small = cc
+goods-with Noted Nak counts asks small = cc
+goods-with (Sent message) Bad counts asks small = cc
+goods-with (Sent message) Ack counts asks small = cc
+goods-with (Sent message) Nak counts asks small = cc
+
+bads-with : (a : Asked) (item : Item (List ℕ)) (counts : Counts) → Asks item a → counts.bads < 2 ^ 62 → (counts_with a counts).bads ≡ counts.bads + bads_of (item ∷ [])
+bads-with Nothing (Good carried) counts asks small = absurd asks
+bads-with Repeat (Good carried) counts asks small = absurd asks
+bads-with Refused (Good carried) counts asks small = absurd asks
+bads-with Noted (Good carried) counts asks small = omega arith
+bads-with (Sent message) (Good carried) counts asks small = omega arith
+bads-with Nothing Ack counts asks small = omega arith
+bads-with Repeat Nak counts asks small = omega arith
+bads-with Refused Bad counts asks small = next-small counts.bads small
+bads-with Nothing Bad counts asks small = cc
+bads-with Nothing Nak counts asks small = cc
+bads-with Repeat Bad counts asks small = cc
+bads-with Repeat Ack counts asks small = cc
+bads-with Refused Ack counts asks small = cc
+bads-with Refused Nak counts asks small = cc
+bads-with Noted Bad counts asks small = cc
+bads-with Noted Ack counts asks small = cc
+bads-with Noted Nak counts asks small = cc
+bads-with (Sent message) Bad counts asks small = cc
+bads-with (Sent message) Ack counts asks small = cc
+bads-with (Sent message) Nak counts asks small = cc
+
+turns-with : (a : Asked) (counts : Counts) → (counts_with a counts).turns ≡ counts.turns
+turns-with Nothing counts = refl
+turns-with Repeat counts = refl
+turns-with Refused counts = refl
+turns-with Noted counts = refl
+turns-with (Sent message) counts = refl
+
+pub stage-is : (a : Asked) (stage : Stage) → stage ≡ Read → stage_with a stage ≡ taken_stage a
+stage-is Nothing stage read = read
+stage-is Repeat stage read = read
+stage-is Refused stage read = read
+stage-is Noted stage read = read
+stage-is (Sent message) stage read = refl
+
+-- what is kept, by its parts
+pub kept_same : (panel polls : ℕ) (output : Output) (stage stage_then : Stage) (count count_then turns turns_then : ℕ) (unsent unsent_then : Bool) → stage ≡ stage_then → count ≡ count_then → turns ≡ turns_then → unsent ≡ unsent_then
+    → let kept : Stage → ℕ → ℕ → Bool → Kept = λ stage count turns unsent. record { panel = panel; stage = stage; items = count; turns = turns; polls = polls; output = output; unsent = unsent } in
+    kept stage count turns unsent ≡ kept stage_then count_then turns_then unsent_then
+kept_same panel polls output stage stage_then count count_then turns turns_then unsent unsent_then same_stage same_count same_turns same_unsent =
+    let kept : Stage → ℕ → ℕ → Bool → Kept = λ stage count turns unsent. record { panel = panel; stage = stage; items = count; turns = turns; polls = polls; output = output; unsent = unsent } in
+    ap (λ (stage : Stage). kept stage count turns unsent) same_stage
+    ∙ ap (λ (count : ℕ). kept stage_then count turns unsent) same_count
+    ∙ ap (λ (turns : ℕ). kept stage_then count_then turns unsent) same_turns
+    ∙ ap (λ (unsent : Bool). kept stage_then count_then turns_then unsent) same_unsent
+
+-- a session at a stage, with nothing to be sent
+pub at_stage : (session : Session) (stage : Stage) → session.stage ≡ stage → session.unsent ≡ false
+    → kept_of session ≡ record { panel = session.panel; stage = stage; items = session.items; turns = session.counts.turns; polls = session.polls; output = session.outgoing; unsent = false }
+at_stage session stage at none = kept_same session.panel session.polls session.outgoing session.stage stage session.items session.items session.counts.turns session.counts.turns session.unsent false at refl refl none
+
+-- An item was read.
+pub stands_item : (plant : PlantData) (panel : ℕ) (session : Session) (past : Past) (bytes : List ℕ) (item : Item (List ℕ)) (a : Asked) (framer_then : Framer) → Stands plant panel session past
+    → session.stage ≡ Read → session.unsent ≡ false → items (read_so_far past ++ bytes) ≡ items (read_so_far past) ++ item ∷ [] → Asks item a
+    → framer.StandsFor framer_then (read_so_far past ++ bytes) → length (items (read_so_far past ++ bytes)) < 2 ^ 62
+    → Stands plant panel (took a (record session { framer = framer_then })) (with_sent (sent_by a session.outgoing) (with_bytes bytes past))
+stands_item plant panel session past bytes item a framer_then stands read none adds asks fed small =
+    let its = items (read_so_far past) in
+    let later = with_bytes bytes past in
+    let counted : length (items (read_so_far past ++ bytes)) ≡ length its + 1 = ap (length {A = Item (List ℕ)}) adds ∙ length-append its (item ∷ []) in
+    let KeepsOf : Kept → Type 0 = λ kept. Keeps kept past in
+    let k : Keeps (reading session.panel session.items session.counts.turns session.polls session.outgoing) past = subst KeepsOf (at_stage session Read read none) stands.keeps in
+    let KeepsThen : Kept → Type 0 = λ kept. Keeps kept (with_sent (sent_by a session.outgoing) later) in
+    let FedOf : List ℕ → Type 0 = λ text. framer.StandsFor framer_then text in
+    let all : items (read_so_far later) ≡ its ++ item ∷ [] = ap items (sym (read-more past bytes)) ∙ adds in
+    let items_are : session.items ≡ length its = k.items_are in
+    let goods_small : session.counts.goods < 2 ^ 62 = omega (arith, stands.goods, count_by-le-length is_good_item its) in
+    let bads_small : session.counts.bads < 2 ^ 62 = omega (arith, stands.bads, count_by-le-length is_bad_item its) in
+    record {
+      plant_is = stands.plant_is;
+      panel_is = stands.panel_is;
+      has_panel = stands.has_panel;
+      framer = subst FedOf (read-more past bytes) fed;
+      keeps = subst KeepsThen
+          (sym (kept_same session.panel session.polls (taken_output a session.outgoing) (stage_with a session.stage) (taken_stage a) (next session.items) (session.items + 1)
+          (counts_with a session.counts).turns session.counts.turns session.unsent false
+          (stage-is a session.stage read) (next-small session.items (omega arith)) (turns-with a session.counts) none))
+          (keeps_item a item session.panel session.items session.counts.turns session.polls session.outgoing past bytes k adds asks);
+      goods = goods-with a item session.counts asks goods_small ∙ ap (λ (n : ℕ). n + goods_of (item ∷ [])) stands.goods ∙ sym (goods-more its item) ∙ ap goods_of (sym all);
+      bads = bads-with a item session.counts asks bads_small ∙ ap (λ (n : ℕ). n + bads_of (item ∷ [])) stands.bads ∙ sym (bads-more its item) ∙ ap bads_of (sym all);
+      some = λ unsent. absurd (false≢true (sym none ∙ unsent));
+      places = stands.places;
+    }
+
+-- Bytes in which no item ends were read.
+pub stands_none : (plant : PlantData) (panel : ℕ) (session : Session) (past : Past) (bytes : List ℕ) (framer_then : Framer) → Stands plant panel session past
+    → session.stage ≡ Read → session.unsent ≡ false → items (read_so_far past ++ bytes) ≡ items (read_so_far past)
+    → framer.StandsFor framer_then (read_so_far past ++ bytes) → Stands plant panel (record session { framer = framer_then }) (with_bytes bytes past)
+stands_none plant panel session past bytes framer_then stands read none adds fed =
+    let later = with_bytes bytes past in
+    let KeepsOf : Kept → Type 0 = λ kept. Keeps kept past in
+    let k : Keeps (reading session.panel session.items session.counts.turns session.polls session.outgoing) past = subst KeepsOf (at_stage session Read read none) stands.keeps in
+    let KeepsThen : Kept → Type 0 = λ kept. Keeps kept later in
+    let FedOf : List ℕ → Type 0 = λ text. framer.StandsFor framer_then text in
+    let all : items (read_so_far later) ≡ items (read_so_far past) = ap items (sym (read-more past bytes)) ∙ adds in
+    record {
+      plant_is = stands.plant_is;
+      panel_is = stands.panel_is;
+      has_panel = stands.has_panel;
+      framer = subst FedOf (read-more past bytes) fed;
+      keeps = subst KeepsThen (sym (at_stage session Read read none)) (keeps_none session.panel session.items session.counts.turns session.polls session.outgoing past bytes k adds);
+      goods = stands.goods ∙ ap goods_of (sym all);
+      bads = stands.bads ∙ ap bads_of (sym all);
+      some = λ unsent. absurd (false≢true (sym none ∙ unsent));
+      places = stands.places;
+    }
+
+-- Other parts of a session that keep the same past.
+pub stands_with : (plant : PlantData) (panel : ℕ) (session after : Session) (past later : Past) → Stands plant panel session past → read_so_far later ≡ read_so_far past → after.plant ≡ session.plant → after.framer ≡ session.framer
+    → after.counts.goods ≡ session.counts.goods → after.counts.bads ≡ session.counts.bads → after.outbox.places ≡ session.outbox.places → after.panel ≡ session.panel
+    → Keeps (kept_of after) later → (after.unsent ≡ true → after.outgoing.bytes ≢ []) → Stands plant panel after later
+stands_with plant panel session after past later stands read same_plant same_framer same_goods same_bads same_places same_panel keeps some =
+    let FedBy : Framer → Type 0 = λ one. framer.StandsFor one (read_so_far past) in
+    let FedOf : List ℕ → Type 0 = λ text. framer.StandsFor after.framer text in
+    record {
+      plant_is = ap (λ (plant : _). plant.now) same_plant ∙ stands.plant_is;
+      panel_is = same_panel ∙ stands.panel_is;
+      has_panel = stands.has_panel;
+      framer = subst FedOf (sym read) (subst FedBy (sym same_framer) stands.framer);
+      keeps = keeps;
+      goods = same_goods ∙ stands.goods ∙ ap (λ (text : List ℕ). goods_of (items text)) (sym read);
+      bads = same_bads ∙ stands.bads ∙ ap (λ (text : List ℕ). bads_of (items text)) (sym read);
+      some = some;
+      places = same_places ∙ stands.places;
+    }
+
+-- The piece is used up, and polls come.
+pub stands_to_poll : (plant : PlantData) (panel : ℕ) (session : Session) (past : Past) → Stands plant panel session past → session.stage ≡ Read → session.unsent ≡ false
+    → Stands plant panel (record session { stage = PollStage }) past
+stands_to_poll plant panel session past stands read none =
+    let KeepsOf : Kept → Type 0 = λ kept. Keeps kept past in
+    let k : Keeps (reading session.panel session.items session.counts.turns session.polls session.outgoing) past = subst KeepsOf (at_stage session Read read none) stands.keeps in
+    stands_with plant panel session (record session { stage = PollStage }) past past stands refl refl refl refl refl refl refl
+    (subst KeepsOf (sym (at_stage (record session { stage = PollStage }) PollStage refl none)) (keeps_to_poll session.panel session.items session.counts.turns session.polls session.outgoing past k))
+    stands.some
+
+-- What was to be sent is sent.
+pub stands_sent : (plant : PlantData) (panel : ℕ) (session : Session) (past : Past) → Stands plant panel session past → session.unsent ≡ true
+    → Stands plant panel (record session { unsent = false }) (with_sent session.outgoing.bytes past)
+stands_sent plant panel session past stands unsent =
+    stands_with plant panel session (record session { unsent = false }) past (with_sent session.outgoing.bytes past) stands refl refl refl refl refl refl refl
+    (keeps_sent (kept_of session) past unsent stands.keeps)
+    (λ unsent. absurd (false≢true unsent))
+
+-- The plant answered what an item sent to it.
+pub stands_told : (plant : PlantData) (panel seat : ℕ) (session : Session) (past : Past) (message : Message) (answers : List Answer) (unsent : Bool) → Stands plant panel session past
+    → session.stage ≡ Tell message → session.unsent ≡ false → (unsent ≡ false → (with_frames (frames_of answers) (emptied session.outgoing)).bytes ≡ [])
+    → (unsent ≡ true → (with_frames (frames_of answers) (emptied session.outgoing)).bytes ≢ [])
+    → Stands plant panel (took_answers answers unsent (record session { stage = Read }))
+    (with_entry (record { seat = seat; request = Told session.panel (session.items - 1) message; answers = answers }) past)
+stands_told plant panel seat session past message answers unsent stands tell none empty some =
+    let KeepsOf : Kept → Type 0 = λ kept. Keeps kept past in
+    let k = subst KeepsOf (at_stage session (Tell message) tell none) stands.keeps in
+    stands_with plant panel session (took_answers answers unsent (record session { stage = Read })) past
+    (with_entry (record { seat = seat; request = Told session.panel (session.items - 1) message; answers = answers }) past) stands refl refl refl refl refl refl refl
+    (keeps_told session.panel session.items session.counts.turns session.polls seat message session.outgoing past answers unsent k empty)
+    some

@@ -1,0 +1,53 @@
+-- What a call of a session does.
+use Rattle.std.specs.Prelude.{◌≡◌, ◌≢◌, ℕ, ◌^◌, ◌<◌, List, [], ◌++◌, length}
+use Rattle.dle_framing.specs.Items.{items}
+use Rattle.plant_config.specs.Plant.{PlantData}
+use Rattle.plant_core.specs.declared.request.Request.{Request}
+use Rattle.plant_core.specs.declared.request.Request.TheVariants.{Told, Poll, Leave}
+use Rattle.panel_session.specs.declared.act.Act.{Act}
+use Rattle.panel_session.specs.declared.act.Act.TheVariants.{Send, Ask, Rest}
+use Rattle.panel_session.specs.declared.session.Session.{Session}
+use Rattle.panel_session.specs.Asked.{IsForPlant}
+use Rattle.panel_session.specs.SoFar.{Past, read_so_far, entries_so_far, with_sent, with_turn, IsOver}
+use Rattle.panel_session.specs.Text.{IsText}
+use Rattle.panel_session.specs.Session.{StandsFor, Awaits, outgoing_of, outbox_of}
+use Rattle.panel_session.specs.MostAnswers.{most_answers}
+
+-- A piece may go on a past: there are fewer than 2^62 items with it and fewer than 2^62 turns, and it is used up where the
+-- turn has polled.
+pub record MayGoOn (past : Past) (piece : List ℕ) : Type 0 where
+  pub items : length (items (read_so_far past ++ piece)) < 2 ^ 62
+  pub turns : length past.turns < 2 ^ 62
+  pub rest : past.now.polls ≢ [] → piece ≡ []
+
+-- A plant takes a request: its panel is in the plant, and its message asks something of the plant and is in its ranges.
+abbrev pub IsTaken : PlantData → Request → Type 0
+IsTaken plant (Told panel item message) = (panel < length plant.panels) × IsForPlant message
+IsTaken plant (Poll panel item turn) = panel < length plant.panels
+IsTaken plant (Leave panel) = panel < length plant.panels
+
+-- A told request comes before all polls of the turn, and a poll once the piece is used up.
+abbrev pub IsInPlace : Past → Request → ℕ → List ℕ → Type 0
+IsInPlace now (Told panel item message) used piece = now.now.polls ≡ []
+IsInPlace now (Poll panel item turn) used piece = used ≡ length piece
+IsInPlace now (Leave panel) used piece = ⊥
+
+-- What `act` does behind a past that now has the bytes that it used. `Send`: some bytes are to be sent, and once they are,
+-- all of the session's text so far is. `Ask`: a request that the plant takes is to be answered into the
+-- outbox, which is empty. `Rest`: the piece is used
+-- up and the turn is over.
+abbrev pub Acts : PlantData → ℕ → Past → List ℕ → ℕ → Act → Session → Type 0
+Acts plant panel now piece used Send session =
+    (outgoing_of session ≢ [])
+    × StandsFor plant panel session (with_sent (outgoing_of session) now)
+    × IsText plant (items (read_so_far now)) (entries_so_far now) (now.sent ++ outgoing_of session)
+Acts plant panel now piece used (Ask request) session =
+    Awaits plant panel session now request
+    × (outbox_of session ≡ record { items = []; places = most_answers })
+    × IsTaken plant request
+    × IsInPlace now request used piece
+    × IsText plant (items (read_so_far now)) (entries_so_far now) now.sent
+Acts plant panel now piece used Rest session =
+    (used ≡ length piece)
+    × IsOver plant panel now
+    × StandsFor plant panel session (with_turn now)

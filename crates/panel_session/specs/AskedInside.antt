@@ -1,0 +1,19 @@
+-- What a piece has for a session.
+use Rattle.std.specs.Prelude.{ℕ, List, Option, None, Some}
+use Rattle.dle_framing.specs.declared.item.Item.{Item}
+use Rattle.dle_framing.specs.Feeding.{Feeds}
+use Rattle.panel_session.specs.declared.asked.Asked.{Asked}
+use Rattle.panel_session.specs.Asked.{Asks}
+
+-- an item asks so, where there is one
+abbrev pub MayAsk : Option (Item (List ℕ)) → Option Asked → Type 0
+MayAsk None None = Unit {0}
+MayAsk (Some item) (Some asked) = Asks item asked
+MayAsk None (Some asked) = ⊥
+MayAsk (Some item) None = ⊥
+
+-- Of a piece behind a text so many bytes were used, up to the end of the first item, which asks so.
+pub record FoundAsks (text piece : List ℕ) (used : ℕ) (found : Option Asked) : Type 0 where
+  pub item : Option (Item (List ℕ))
+  pub feeds : Feeds text piece used item
+  pub asks : MayAsk item found

@@ -1,0 +1,28 @@
+-- How many calls a turn may still take.
+use Rattle.std.specs.Prelude.{ℕ, ◌+◌, ◌-◌, ◌*◌, ◌<◌, ◌≤◌, Bool, true, false}
+use Rattle.panel_session.specs.declared.act.Act.{Act}
+use Rattle.panel_session.specs.declared.act.Act.TheVariants.{Send, Ask, Rest}
+use Rattle.panel_session.specs.declared.session.Session.{Session}
+use Rattle.panel_session.specs.declared.stage.Stage.{Stage}
+use Rattle.panel_session.specs.declared.stage.Stage.TheVariants.{Read, Tell, Poll, End}
+
+-- each poll is asked, and its answer sent
+abbrev pub stage_left : Stage → ℕ → ℕ
+stage_left Read polls = 66
+stage_left (Tell message) polls = 68
+stage_left Poll polls = 2 * (32 - polls) + 1
+stage_left End polls = 1
+
+abbrev pub unsent_left : Bool → ℕ
+unsent_left true = 1
+unsent_left false = 0
+
+-- A bound on the calls of `act` until `Rest`, but for those that read bytes.
+unfoldable pub calls_left : Session → ℕ
+calls_left session = stage_left session.stage session.polls + unsent_left session.unsent
+
+-- `Send` leaves less to do, and `Ask` no more. What `Rest` leaves is of the next turn.
+abbrev pub Leaves : Act → ℕ → ℕ → Type 0
+Leaves Send before after = after < before
+Leaves (Ask request) before after = after ≤ before
+Leaves Rest before after = Unit {0}

@@ -1,0 +1,16 @@
+-- What a session becomes once its outbox was lent.
+use Rattle.std.specs.Prelude.{[]}
+use Rattle.std.specs.Borrow.{Lends, MutBor, Fml}
+use mir.Syntax.{named}
+use Rattle.history_lock.specs.Places.{Placed}
+use Rattle.history_lock.specs.contracts.out_box.OutBox as out_box
+use Rattle.plant_core.specs.declared.answer.Answer.{Answer}
+use Rattle.plant_core.specs.contracts.answer.Answer as answer
+use Rattle.panel_session.specs.declared.session.Session.{Session}
+use Rattle.panel_session.specs.contracts.session.Session.{the_row}
+use Rattle.panel_session.specs.Session.{with_outbox}
+
+-- The session ends with what is left in the outbox.
+abbrev pub LendsOutbox : MutBor Session → MutBor (Placed Answer) → Fml
+LendsOutbox session outbox =
+    Lends (the_row (record { mir = named 0; lft = [] })) (out_box.the_row answer.the_row) session outbox (with_outbox session.now)

@@ -1,0 +1,55 @@
+-- What a session becomes, step by step.
+use Rattle.std.specs.Prelude.{ℕ, ◌+◌, ◌%◌, ◌^◌, Bool, List, []}
+use Rattle.plant_core.specs.declared.answer.Answer.{Answer}
+use Rattle.panel_session.specs.declared.asked.Asked.{Asked}
+use Rattle.panel_session.specs.declared.asked.Asked.TheVariants.{Nothing, Repeat, Refused, Noted, Sent}
+use Rattle.panel_session.specs.declared.counts.Counts.{Counts}
+use Rattle.panel_session.specs.declared.session.Session.{Session}
+use Rattle.panel_session.specs.declared.stage.Stage.{Stage}
+use Rattle.panel_session.specs.declared.stage.Stage.TheVariants.{Read, Tell}
+use Rattle.panel_session.specs.Taken.{taken_output}
+use Rattle.panel_session.specs.Text.{with_frames, frames_of}
+use Rattle.panel_session.specs.OutgoingInside.{emptied}
+
+-- one more, as the code counts
+abbrev pub next : ℕ → ℕ
+next number = (number + 1) % 2 ^ 64
+
+-- An item is taken: it is counted, and what it asks is done.
+abbrev pub counts_with : Asked → Counts → Counts
+counts_with Nothing counts = counts
+counts_with Repeat counts = counts
+counts_with Refused counts = record counts { bads = next counts.bads }
+counts_with Noted counts = record counts { goods = next counts.goods }
+counts_with (Sent message) counts = record counts { goods = next counts.goods }
+
+abbrev pub stage_with : Asked → Stage → Stage
+stage_with Nothing stage = stage
+stage_with Repeat stage = stage
+stage_with Refused stage = stage
+stage_with Noted stage = stage
+stage_with (Sent message) stage = Tell message
+
+abbrev pub took : Asked → Session → Session
+took asked session = record session {
+  stage = stage_with asked session.stage;
+  items = next session.items;
+  outgoing = taken_output asked session.outgoing;
+  counts = counts_with asked session.counts;
+}
+
+-- The answers in the outbox are what is to be sent.
+abbrev pub took_answers : List Answer → Bool → Session → Session
+took_answers answers unsent session = record session {
+  outgoing = with_frames (frames_of answers) (emptied session.outgoing);
+  unsent = unsent;
+  outbox = record session.outbox { items = [] };
+}
+
+-- The turn is over.
+abbrev pub ended_turn : Session → Session
+ended_turn session = record session {
+  stage = Read;
+  polls = 0;
+  counts = record session.counts { turns = next session.counts.turns };
+}

@@ -1,0 +1,28 @@
+-- How what is sent next is kept.
+use Rattle.std.specs.Prelude.{ℕ, ◌*◌, ◌≤◌, List, [], ◌∷◌, length, Option, None, Some, vec_capacity}
+use Rattle.panel_session.specs.MostAnswers.{most_answers}
+use Rattle.panel_session.specs.Text.{Output}
+use Rattle.panel_session.specs.declared.outgoing.Outgoing.TheInside.{Inside}
+
+-- the most bytes of a message's DATA, and of its frame
+abbrev pub most_text : ℕ
+most_text = 8
+
+abbrev pub most_message_frame : ℕ
+most_message_frame = 24
+
+-- a frame is never empty: no bytes stand for none
+abbrev pub some_frame : List ℕ → Option (List ℕ)
+some_frame [] = None
+some_frame (byte ∷ bytes) = Some (byte ∷ bytes)
+
+abbrev pub output_of : Inside → Output
+output_of outgoing = record { bytes = outgoing.bytes.items; last = some_frame outgoing.last.items; repeats = outgoing.repeats }
+
+-- There is room for what may be sent.
+pub record IsKept (outgoing : Inside) : Type 0 where
+  pub bytes : most_answers * most_message_frame ≤ vec_capacity outgoing.bytes
+  pub last : most_message_frame ≤ vec_capacity outgoing.last
+  pub last_within : length outgoing.last.items ≤ most_message_frame
+  pub repeats : outgoing.repeats ≤ 5
+  pub spelled : most_text ≤ vec_capacity outgoing.spelled

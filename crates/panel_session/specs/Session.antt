@@ -1,0 +1,69 @@
+-- Which pasts a session stands for.
+use Rattle.std.specs.Prelude.{◌≡◌, ◌≢◌, ℕ, ◌-◌, ◌<◌, true, false, List, [], length}
+use Rattle.dle_framing.specs.Framer as framer
+use Rattle.dle_framing.specs.Items.{items}
+use Rattle.history_lock.specs.Places.{Placed}
+use Rattle.plant_config.specs.Plant.{PlantData}
+use Rattle.plant_core.specs.declared.answer.Answer.{Answer}
+use Rattle.plant_core.specs.declared.request.Request.{Request}
+use Rattle.plant_core.specs.declared.request.Request.TheVariants.{Told, Poll}
+use Rattle.panel_session.specs.declared.session.Session.{Session}
+use Rattle.panel_session.specs.declared.stage.Stage.{Stage}
+use Rattle.panel_session.specs.declared.stage.Stage.TheVariants.{Read, Tell, Poll as PollStage, End}
+use Rattle.panel_session.specs.MostAnswers.{most_answers}
+use Rattle.panel_session.specs.SoFar.{Past, read_so_far}
+use Rattle.panel_session.specs.StandsInside.{Kept, Keeps}
+use Rattle.panel_session.specs.Counted.{goods_of, bads_of}
+
+-- the bytes that a session sends next
+abbrev pub outgoing_of : Session → List ℕ
+outgoing_of session = session.outgoing.bytes
+
+-- a session's outbox
+abbrev pub outbox_of : Session → Placed Answer
+outbox_of session = session.outbox
+
+-- a session with this outbox
+abbrev pub with_outbox : Session → Placed Answer → Session
+with_outbox session outbox = record session { outbox = outbox }
+
+abbrev pub kept_of : Session → Kept
+kept_of session = record {
+  panel = session.panel;
+  stage = session.stage;
+  items = session.items;
+  turns = session.counts.turns;
+  polls = session.polls;
+  output = session.outgoing;
+  unsent = session.unsent;
+}
+
+-- The session of this panel of a plant keeps what it needs of this past.
+pub record Stands (plant : PlantData) (panel : ℕ) (session : Session) (past : Past) : Type 0 where
+  pub plant_is : session.plant.now ≡ plant
+  pub panel_is : session.panel ≡ panel
+  pub has_panel : panel < length plant.panels
+  pub framer : framer.StandsFor session.framer (read_so_far past)
+  pub keeps : Keeps (kept_of session) past
+  pub goods : session.counts.goods ≡ goods_of (items (read_so_far past))
+  pub bads : session.counts.bads ≡ bads_of (items (read_so_far past))
+  pub some : session.unsent ≡ true → session.outgoing.bytes ≢ []
+  pub places : session.outbox.places ≡ most_answers
+
+-- The session of this panel of a plant stands for this past, with nothing asked that wasn't answered: where it polls it has
+-- polled before.
+unfoldable pub StandsFor : PlantData → ℕ → Session → Past → Type 0
+StandsFor plant panel session past =
+    Stands plant panel session past × (session.outbox.items ≡ []) × (session.stage ≡ PollStage → past.now.polls ≢ [])
+
+-- A request is what a session asks at this stage.
+abbrev pub AsksAt : Stage → Kept → Request → Type 0
+AsksAt Read kept request = ⊥
+AsksAt (Tell message) kept request = request ≡ Told kept.panel (kept.items - 1) message
+AsksAt PollStage kept request = request ≡ Poll kept.panel kept.items kept.turns
+AsksAt End kept request = ⊥
+
+-- The session stands for this past, and this request of it wasn't answered yet.
+unfoldable pub Awaits : PlantData → ℕ → Session → Past → Request → Type 0
+Awaits plant panel session past request =
+    Stands plant panel session past × (session.unsent ≡ false) × AsksAt session.stage (kept_of session) request

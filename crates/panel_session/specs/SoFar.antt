@@ -1,0 +1,75 @@
+-- What a session has done so far.
+use Rattle.std.specs.Prelude.{◌≡◌, ◌≢◌, ℕ, ◌≤◌, List, [], ◌∷◌, ◌++◌, length, map, All}
+use mathlib.Core.List.{IsPrefix}
+use Rattle.dle_framing.specs.declared.item.Item.{Item}
+use Rattle.dle_framing.specs.Items.{items}
+use Rattle.plant_config.specs.Plant.{PlantData}
+use Rattle.plant_core.specs.declared.request.Request.{Request}
+use Rattle.plant_core.specs.declared.request.Request.TheVariants.{Told, Poll, Leave}
+use Rattle.panel_session.specs.Entry.{PlantEntry}
+use Rattle.panel_session.specs.declared.asked.Asked.{Asked}
+use Rattle.panel_session.specs.Asked.{AllAsk, sent_to_plant}
+use Rattle.panel_session.specs.Turns.{Turn, bytes_of, entries_of, EndIn, AreTurns, IsTurn}
+use Rattle.panel_session.specs.Text.{IsText}
+
+-- The turns that are over, the present one so far (the bytes of its piece that were used, and its entries), and the bytes
+-- that were sent.
+pub record Past : Type 0 where
+  pub turns : List Turn
+  pub now : Turn
+  pub sent : List ℕ
+
+abbrev pub unread : Turn
+unread = record { piece = []; told = []; polls = [] }
+
+-- nothing was read, asked or sent
+abbrev pub nothing_yet : Past
+nothing_yet = record { turns = []; now = unread; sent = [] }
+
+-- more bytes of the present piece were used
+abbrev pub with_bytes : List ℕ → Past → Past
+with_bytes bytes past = record past { now = record past.now { piece = past.now.piece ++ bytes } }
+
+-- these bytes were sent
+abbrev pub with_sent : List ℕ → Past → Past
+with_sent bytes past = record past { sent = past.sent ++ bytes }
+
+-- a request was answered
+abbrev pub with_entry : PlantEntry → Past → Past
+with_entry entry past = record past { now = added entry.request entry past.now } where
+  added : Request → PlantEntry → Turn → Turn
+  added (Poll panel item turn) entry now = record now { polls = now.polls ++ entry ∷ [] }
+  added (Told panel item message) entry now = record now { told = now.told ++ entry ∷ [] }
+  added (Leave panel) entry now = now
+
+-- the present turn is over
+abbrev pub with_turn : Past → Past
+with_turn past = record past { turns = past.turns ++ past.now ∷ []; now = unread }
+
+abbrev pub read_so_far : Past → List ℕ
+read_so_far past = bytes_of past.turns ++ past.now.piece
+
+abbrev pub entries_so_far : Past → List PlantEntry
+entries_so_far past = entries_of past.turns ++ (past.now.told ++ past.now.polls)
+
+-- What a session has done so far fits: the turns that are over are turns; of the present one a front of what its items send
+-- to the plant was told, all of it before the first poll, and each poll was answered; and a front of the session's text was
+-- sent.
+pub record IsSoFar (plant : PlantData) (panel : ℕ) (past : Past) : Type 0 where
+  pub turns : AreTurns panel past.turns
+  pub ended : List (Item (List ℕ))
+  pub end_in : EndIn (bytes_of past.turns) past.now.piece ended
+  pub asked : List Asked
+  pub ask : AllAsk ended asked
+  pub told : IsPrefix (map (λ entry. entry.request) past.now.told) (sent_to_plant panel (length (items (bytes_of past.turns))) asked)
+  pub polls : All (λ entry. entry.request ≡ Poll panel (length (items (read_so_far past))) (length past.turns)) past.now.polls
+  pub told_first : past.now.polls ≢ [] → map (λ entry. entry.request) past.now.told ≡ sent_to_plant panel (length (items (bytes_of past.turns))) asked
+  pub within : length past.now.polls ≤ 32
+  pub text : List ℕ
+  pub is_text : IsText plant (items (read_so_far past)) (entries_so_far past) text
+  pub sent : IsPrefix past.sent text
+
+-- A turn is over: it is one, and the session's whole text of what was read and answered was sent.
+pub record IsOver (plant : PlantData) (panel : ℕ) (past : Past) : Type 0 where
+  pub turn : IsTurn panel past.turns past.now
+  pub text : IsText plant (items (read_so_far past)) (entries_so_far past) past.sent

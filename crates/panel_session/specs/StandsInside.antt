@@ -1,0 +1,102 @@
+-- What a session keeps of its past.
+use Rattle.std.specs.Prelude.{◌≡◌, ◌≢◌, ℕ, ◌+◌, ◌<◌, ◌≤◌, Bool, if◌then◌else◌, List, [], ◌∷◌, ◌++◌, length, map, All, None}
+use Rattle.std.specs.Prelude.{IsSome}
+use Rattle.dle_framing.specs.declared.item.Item.{Item}
+use Rattle.dle_framing.specs.Items.{items}
+use Rattle.plant_core.specs.declared.request.Request.{Request}
+use Rattle.plant_core.specs.declared.request.Request.TheVariants.{Poll}
+use Rattle.panel_session.specs.declared.asked.Asked.{Asked}
+use Rattle.panel_session.specs.declared.asked.Asked.TheVariants.{Nothing, Repeat, Refused, Noted, Sent}
+use Rattle.panel_session.specs.declared.stage.Stage.{Stage}
+use Rattle.panel_session.specs.declared.stage.Stage.TheVariants.{Read, Tell, Poll as PollStage, End}
+use Rattle.panel_session.specs.Entry.{PlantEntry}
+use Rattle.panel_session.specs.Asked.{AllAsk, sent_to_plant, IsForPlant}
+use Rattle.panel_session.specs.Turns.{bytes_of, EndIn, AreTurns, ArePolls}
+use Rattle.panel_session.specs.Text.{Output, nothing_sent, output_from, told_at, polled_at}
+use Rattle.panel_session.specs.OutgoingInside.{emptied}
+use Rattle.panel_session.specs.SoFar.{Past, read_so_far, entries_so_far}
+
+-- what a session keeps beside its framer and its outbox
+pub record Kept : Type 0 where
+  pub panel : ℕ
+  pub stage : Stage
+  pub items : ℕ
+  pub turns : ℕ
+  pub polls : ℕ
+  pub output : Output
+  pub unsent : Bool
+
+-- What an item sent to the plant has its entry.
+abbrev pub IsTold : ℕ → Asked → List PlantEntry → Type 0
+IsTold item (Sent message) entries = IsSome (told_at item entries)
+IsTold item Nothing entries = Unit {0}
+IsTold item Repeat entries = Unit {0}
+IsTold item Refused entries = Unit {0}
+IsTold item Noted entries = Unit {0}
+
+-- So it is with each item from this number on.
+abbrev pub AllTold : ℕ → List Asked → List PlantEntry → Type 0
+AllTold item [] entries = Unit {0}
+AllTold item (asked ∷ others) entries = IsTold item asked entries × AllTold (item + 1) others entries
+
+-- No entry is of an item from this number on, or of a poll behind it.
+pub record NoneFrom (item : ℕ) (entries : List PlantEntry) : Type 0 where
+  pub told : (k : ℕ) → item ≤ k → told_at k entries ≡ None
+  pub polled : (k : ℕ) → item < k → polled_at k entries ≡ []
+
+-- an output with these bytes before its own
+abbrev pub behind : List ℕ → Output → Output
+behind before output = record output { bytes = before ++ output.bytes }
+
+-- what is yet to be sent
+abbrev pub pending : Kept → Output
+pending kept = if kept.unsent then kept.output else emptied kept.output
+
+abbrev pub requests : List PlantEntry → List Request
+requests entries = map (λ entry. entry.request) entries
+
+-- The polls of a turn so far were answered, and may go on.
+pub record MayPoll (polls : List PlantEntry) : Type 0 where
+  pub answered : All (λ entry. entry.answers ≢ []) polls
+  pub more : length polls < 32
+
+-- What was told and polled in a turn, by what comes next. `first` is the number of the turn's first item.
+abbrev pub IsAtStage : Stage → ℕ → ℕ → List Asked → List Asked → Past → Type 0
+IsAtStage Read panel first before asked past =
+    (requests past.now.told ≡ sent_to_plant panel first asked)
+    × (past.now.polls ≡ [])
+    × AllTold 0 (before ++ asked) (entries_so_far past)
+IsAtStage (Tell message) panel first before asked past =
+    (front : List Asked)
+    × (asked ≡ front ++ Sent message ∷ [])
+    × (requests past.now.told ≡ sent_to_plant panel first front)
+    × (past.now.polls ≡ [])
+    × AllTold 0 (before ++ front) (entries_so_far past)
+    × NoneFrom (first + length front) (entries_so_far past)
+    × IsForPlant message
+IsAtStage PollStage panel first before asked past =
+    (requests past.now.told ≡ sent_to_plant panel first asked)
+    × MayPoll past.now.polls
+    × AllTold 0 (before ++ asked) (entries_so_far past)
+IsAtStage End panel first before asked past =
+    (requests past.now.told ≡ sent_to_plant panel first asked)
+    × ArePolls (Poll panel (length (items (read_so_far past))) (length past.turns)) past.now.polls
+    × AllTold 0 (before ++ asked) (entries_so_far past)
+
+-- What is kept stands for this past.
+pub record Keeps (kept : Kept) (past : Past) : Type 0 where
+  pub turns : AreTurns kept.panel past.turns
+  pub before : List Asked
+  pub ask_before : AllAsk (items (bytes_of past.turns)) before
+  pub ended : List (Item (List ℕ))
+  pub end_in : EndIn (bytes_of past.turns) past.now.piece ended
+  pub asked : List Asked
+  pub ask : AllAsk ended asked
+  pub items_are : kept.items ≡ length (items (read_so_far past))
+  pub turns_are : kept.turns ≡ length past.turns
+  pub polls_are : kept.polls ≡ length past.now.polls
+  pub within : length past.now.polls ≤ 32
+  pub polls : All (λ entry. entry.request ≡ Poll kept.panel (length (items (read_so_far past))) (length past.turns)) past.now.polls
+  pub stage : IsAtStage kept.stage kept.panel (length (items (bytes_of past.turns))) before asked past
+  pub none_from : NoneFrom (length (items (read_so_far past))) (entries_so_far past)
+  pub output : output_from 0 (before ++ asked) (entries_so_far past) nothing_sent ≡ behind past.sent (pending kept)

@@ -1,0 +1,97 @@
+-- What a session sends.
+use Rattle.std.specs.Prelude.{◌≡◌, ℕ, ◌+◌, ◌==◌, nat_lt, Bool, false, if◌then◌else◌, List, [], ◌∷◌, ◌++◌, find, Option, None, Some}
+use Rattle.std.specs.Option.{option_map}
+use Rattle.std.specs.List.{flat_map}
+use Rattle.dle_framing.specs.Numbers.{ack, nak}
+use Rattle.dle_framing.specs.declared.item.Item.{Item}
+use Rattle.dle_framing.specs.Frame.{frame}
+use Rattle.swp08_messages.specs.Text.{text}
+use Rattle.plant_config.specs.Plant.{PlantData}
+use Rattle.plant_core.specs.declared.request.Request.{Request}
+use Rattle.plant_core.specs.declared.request.Request.TheVariants.{Told, Poll, Leave}
+use Rattle.plant_core.specs.declared.answer.Answer.{Answer}
+use Rattle.plant_core.specs.declared.answer.Answer.TheVariants.{Say}
+use Rattle.panel_session.specs.Entry.{PlantEntry}
+use Rattle.panel_session.specs.declared.asked.Asked.{Asked}
+use Rattle.panel_session.specs.declared.asked.Asked.TheVariants.{Nothing, Repeat, Refused, Noted, Sent}
+use Rattle.panel_session.specs.Asked.{AllAsk}
+
+-- the message frames of answers, in order
+abbrev pub frames_of : List Answer → List (List ℕ)
+frames_of [] = []
+frames_of (Say message ∷ others) = frame (text message) ∷ frames_of others
+
+-- What was sent so far: the bytes, the last message frame that was newly sent, and how often it was sent again.
+pub record Output : Type 0 where
+  pub bytes : List ℕ
+  pub last : Option (List ℕ)
+  pub repeats : ℕ
+
+abbrev pub nothing_sent : Output
+nothing_sent = record { bytes = []; last = None; repeats = 0 }
+
+-- an ACK or a NAK more
+abbrev pub with_control : List ℕ → Output → Output
+with_control control output = record output { bytes = output.bytes ++ control }
+
+-- one message frame more, newly sent
+abbrev pub with_frame : List ℕ → Output → Output
+with_frame sent output = record { bytes = output.bytes ++ sent; last = Some sent; repeats = 0 }
+
+abbrev pub with_frames : List (List ℕ) → Output → Output
+with_frames [] output = output
+with_frames (sent ∷ others) output = with_frames others (with_frame sent output)
+
+-- the last message frame once more, where there is one that was sent again fewer than 5 times
+abbrev pub repeated : Output → Output
+repeated output = elim output.last [
+  | None ↦ output
+  | (Some sent) ↦ if nat_lt output.repeats 5 then record output { bytes = output.bytes ++ sent; repeats = output.repeats + 1 } else output
+]
+
+-- the answers of a request, where it is a poll that was made behind so many items
+abbrev pub polled_by : ℕ → Request → List Answer → List Answer
+polled_by item (Poll panel at turn) answers = if at == item then answers else []
+polled_by item (Told panel at message) answers = []
+polled_by item (Leave panel) answers = []
+
+-- the answers of the polls that were made behind so many items, in order
+abbrev pub polled_at : ℕ → List PlantEntry → List Answer
+polled_at item entries = flat_map (λ entry. polled_by item entry.request entry.answers) entries
+
+-- a request is what the item of this number sent to the plant
+abbrev pub is_told_at : ℕ → Request → Bool
+is_told_at item (Told panel at message) = at == item
+is_told_at item (Poll panel at turn) = false
+is_told_at item (Leave panel) = false
+
+-- the answers to what the item of this number sent to the plant, where it has an entry
+abbrev pub told_at : ℕ → List PlantEntry → Option (List Answer)
+told_at item entries = option_map (λ entry. entry.answers) (find (λ entry. is_told_at item entry.request) entries)
+
+-- the output once the polls that were made behind so many items were answered
+abbrev pub with_polls : ℕ → List PlantEntry → Output → Output
+with_polls item entries output = with_frames (frames_of (polled_at item entries)) output
+
+-- The output of a session on items that ask so, the first of this number: before each item stand the notices that were
+-- polled there. A bad frame is answered by NAK, an ACK by nothing, a NAK by the last message frame, and a good frame by ACK
+-- and then the frames of its answers. Where the plant wasn't asked yet, the output ends behind that ACK.
+abbrev pub output_from : ℕ → List Asked → List PlantEntry → Output → Output
+output_from item [] entries output = with_polls item entries output
+output_from item (Nothing ∷ others) entries output = output_from (item + 1) others entries (with_polls item entries output)
+output_from item (Repeat ∷ others) entries output =
+    output_from (item + 1) others entries (repeated (with_polls item entries output))
+output_from item (Refused ∷ others) entries output =
+    output_from (item + 1) others entries (with_control nak (with_polls item entries output))
+output_from item (Noted ∷ others) entries output =
+    output_from (item + 1) others entries (with_control ack (with_polls item entries output))
+output_from item (Sent message ∷ others) entries output = elim (told_at item entries) [
+  | None ↦ with_control ack (with_polls item entries output)
+  | (Some answers) ↦ output_from (item + 1) others entries (with_frames (frames_of answers) (with_control ack (with_polls item entries output)))
+]
+
+-- The text of a session: what it sends on these items, given its entries.
+pub record IsText (plant : PlantData) (items : List (Item (List ℕ))) (entries : List PlantEntry) (text : List ℕ) : Type 0 where
+  pub asked : List Asked
+  pub items_ask : AllAsk items asked
+  pub bytes : text ≡ (output_from 0 asked entries nothing_sent).bytes

@@ -1,0 +1,53 @@
+//! A use of the crate: an interrogate, and the plant's answer.
+
+use crate::{Act, Session};
+use history_lock::OutBox;
+use plant_config::{PanelNo, Plant};
+use plant_core::{Answer, Request};
+use std::test::Fail;
+use swp08_messages::{Message, Point};
+
+const INTERROGATE: &[u8] = b"\x10\x02\x01\x00\x00\x05\x04\xF6\x10\x03";
+
+const TALLY: &[u8] = b"\x10\x02\x03\x00\x07\x05\x7F\x05\x6D\x10\x03";
+
+#[test]
+fn an_interrogate_is_answered(rt: HostRuntime) -> Result<(), Fail> {
+    let alloc = rt.alloc();
+    let plant = Plant::bench(alloc)?;
+    let panel = PanelNo::of(0);
+    let at = Point {
+        matrix: 0,
+        level: 0,
+        dest: 5,
+    };
+    let mut session = Session::start(alloc, &plant, panel)?;
+
+    assert_eq!(rt; session.act(INTERROGATE), (10, Act::Send));
+    assert_eq!(rt; session.outgoing(), b"\x10\x06".as_slice());
+    let message = Message::Interrogate { at };
+    let told = Request::Told {
+        panel,
+        at: 0,
+        message,
+    };
+    assert_eq!(rt; session.act(&[]), (0, Act::Ask(told)));
+    let mut answers = OutBox::new(alloc, 1)?;
+    answers.put(Answer::Say(Message::Tally { at, source: None }));
+    *session.outbox() = answers;
+    session.answered();
+    assert_eq!(rt; session.act(&[]), (0, Act::Send));
+    assert_eq!(rt; session.outgoing(), TALLY);
+
+    // A poll without an answer ends the turn.
+    let poll = Request::Poll {
+        panel,
+        at: 1,
+        turn: 0,
+    };
+    assert_eq!(rt; session.act(&[]), (0, Act::Ask(poll)));
+    *session.outbox() = OutBox::new(alloc, 0)?;
+    session.answered();
+    assert_eq!(rt; session.act(&[]), (0, Act::Rest));
+    Ok(())
+}

@@ -1,0 +1,24 @@
+//! The session of one panel: from the bytes that the panel sends to the bytes that it is sent, by requests to the plant.
+//! `Session::act` says what the caller does next: send bytes, ask the plant, or read on. What it promises rests on
+//! `specs/Turns.antt`, the requests that a session makes, and `specs/Text.antt`, the bytes that it sends.
+#![tactic(auto)]
+
+mod act;
+mod asked;
+mod counts;
+mod laws;
+mod outgoing;
+mod session;
+mod stage;
+mod turn;
+
+pub use act::Act;
+pub use counts::Counts;
+pub use laws::stands_so_far;
+pub use session::Session;
+pub use turn::run_turn;
+
+#[cfg(test)]
+mod example;
+#[cfg(test)]
+mod tests;

@@ -1,0 +1,300 @@
+//! The session of one panel.
+
+ghost use Rattle.std.specs.Prelude.{◌≡◌, ◌≢◌, ℕ, ◌+◌, ◌-◌, ◌*◌, ◌^◌, ◌<◌, ◌≤◌, true, false, [], ◌++◌, length, take, All, IfOk};
+ghost use Rattle.std.specs.Borrow.{sem};
+ghost use Rattle.plant_config.specs.Plant.{PlantData};
+ghost use Rattle.plant_core.specs.declared.request.Request.{Request};
+ghost use Rattle.plant_core.specs.Answer.{IsSayable};
+ghost use Rattle.dle_framing.specs.Items.{items};
+ghost use Rattle.plant_core.specs.declared.request.Request.TheVariants.{Told, Poll};
+ghost use Rattle.panel_session.specs.SoFar.{Past, nothing_yet, read_so_far, with_bytes, with_entry};
+ghost use Rattle.panel_session.specs.MostAnswers.{most_answers};
+ghost use Rattle.panel_session.specs.Taken.{sent_by};
+
+use crate::act::Act;
+use crate::asked::{Asked, next_asked};
+use crate::counts::Counts;
+use crate::outgoing::{MOST_ANSWERS, Outgoing};
+use crate::stage::{Stage, stage_behind};
+use dle_framing::Framer;
+use history_lock::OutBox;
+use plant_config::{PanelNo, Plant};
+use plant_core::{Answer, Request};
+use std::alloc::{AllocError, Global};
+use swp08_messages::Message;
+
+/// A session of one panel: what the panel sends is handed in, in whatever pieces it comes, and what it is sent comes out.
+/// Between the two a session asks the plant, by its caller. All its memory is taken by `start`.
+#[derive(Drop)]
+pub struct Session<'p> {
+    plant: &'p Plant,
+    panel: PanelNo,
+    framer: Framer,
+    stage: Stage,
+    outgoing: Outgoing,
+    // Whether the outgoing bytes were not yet handed out.
+    unsent: bool,
+    outbox: OutBox<Answer>,
+    // The items so far.
+    items: u64,
+    // The polls of this turn.
+    polls: u32,
+    counts: Counts,
+}
+
+impl<'p> Session<'p> {
+    ghost use Rattle.panel_session.specs.Acting.{Acts, MayGoOn};
+    ghost use Rattle.panel_session.specs.Counted.{AreCounts};
+    ghost use Rattle.panel_session.specs.Lending.{LendsOutbox};
+    ghost use Rattle.panel_session.specs.CallsLeft.{calls_left, stage_left, Leaves};
+    ghost use Rattle.panel_session.specs.declared.stage.Stage.TheVariants.{Read};
+    ghost use Rattle.panel_session.specs.Moves.{took, took_answers, ended_turn};
+    ghost use Rattle.panel_session.specs.Reading.{IsReading, HasRead};
+    ghost use Rattle.panel_session.specs.Session.{outgoing_of, outbox_of, StandsFor, Awaits};
+
+    /// A session of a panel of the plant, to which nothing was sent.
+    pub fn start(alloc: Global, plant: &'p Plant, panel: PanelNo) -> Result<Session<'p>, AllocError>
+        requires { panel < length plant.now.panels }
+        ensures new { IfOk result (λ session. StandsFor plant.now panel session nothing_yet) }
+        ensures places { IfOk result (λ session. (outbox_of session).places ≡ most_answers) }
+    {
+        Ok(Session {
+            plant,
+            panel,
+            framer: Framer::new(),
+            stage: Stage::Read,
+            outgoing: Outgoing::new(alloc)?,
+            unsent: false,
+            outbox: OutBox::new(alloc, MOST_ANSWERS)?,
+            items: 0,
+            polls: 0,
+            counts: Counts {
+                goods: 0,
+                bads: 0,
+                turns: 0,
+            },
+        })
+    }
+
+    /// Makes it as a new one of the same panel.
+    pub fn reset(&mut self)
+        ensures { (plant : PlantData) (panel : ℕ) (past : Past)
+            → StandsFor plant panel self.old past → StandsFor plant panel self.new nothing_yet }
+    {
+        self.framer.reset();
+        self.stage = Stage::Read;
+        self.outgoing.reset();
+        self.unsent = false;
+        self.outbox.clear();
+        self.items = 0;
+        self.polls = 0;
+        self.counts = Counts {
+            goods: 0,
+            bads: 0,
+            turns: 0,
+        };
+    }
+
+    /// Its panel.
+    pub fn panel(&self) -> PanelNo
+        ensures { (plant : PlantData) (panel : ℕ) (past : Past)
+            → StandsFor plant panel self.now past → result ≡ panel }
+    {
+        self.panel
+    }
+
+    /// What came since the start or the last reset.
+    pub fn counts(&self) -> Counts
+        ensures { (plant : PlantData) (panel : ℕ) (past : Past)
+            → StandsFor plant panel self.now past → AreCounts past result }
+    {
+        self.counts
+    }
+
+    /// The bytes to be written after `Act::Send`.
+    pub fn outgoing(&self) -> &[u8]
+        ensures { result.now ≡ outgoing_of self.now }
+    {
+        self.outgoing.as_slice()
+    }
+
+    /// Where the plant puts its answers after `Act::Ask`.
+    pub fn outbox(&mut self) -> &mut OutBox<Answer>
+        ensures* lends { sem 𝓛 (LendsOutbox self.entry result) }
+        ensures now { result.now ≡ outbox_of self.old }
+    {
+        &mut self.outbox
+    }
+
+    /// Goes on with the present turn, and answers how many bytes of the piece it used and what the caller does next. The
+    /// piece is what is left of the one that the turn began with.
+    pub fn act(&mut self, piece: &[u8]) -> (usize, Act)
+        ensures within { result.0 ≤ length piece.now }
+        ensures acts { (plant : PlantData) (panel : ℕ) (past : Past)
+            → StandsFor plant panel self.old past → MayGoOn past piece.now
+            → Acts plant panel (with_bytes (take result.0 piece.now) past) piece.now result.0
+            result.1 self.new }
+        ensures ends { Leaves result.1 (4 * length piece.now + calls_left self.old)
+            (4 * (length piece.now - result.0) + calls_left self.new) }
+    {
+        if self.unsent {
+            self.unsent = false;
+            return (0, Act::Send);
+        }
+        match self.stage {
+            Stage::Read => self.read(piece),
+            Stage::Tell(message) => (0, Act::Ask(self.telling(message))),
+            Stage::Poll => (0, Act::Ask(self.polling())),
+            Stage::End => {
+                self.end_turn();
+                (0, Act::Rest)
+            }
+        }
+    }
+
+    /// The plant answered the request that was asked: its answers are in the outbox.
+    pub fn answered(&mut self)
+        requires sayable { All IsSayable (outbox_of self.old).items }
+        requires room { length (outbox_of self.old).items ≤ most_answers }
+        ensures answered { (plant : PlantData) (panel seat : ℕ) (past : Past) (request : Request)
+            → Awaits plant panel self.old past request
+            → StandsFor plant panel self.new (with_entry
+            (record {
+              seat = seat;
+              request = request;
+              answers = (outbox_of self.old).items;
+            }) past) }
+        ensures ends { (plant : PlantData) (panel : ℕ) (past : Past) (request : Request)
+            → Awaits plant panel self.old past request → calls_left self.new < calls_left self.old }
+    {
+        match self.stage {
+            Stage::Tell(_) => {
+                self.stage = Stage::Read;
+                self.take_answers();
+            }
+            Stage::Poll => {
+                self.polls = self.polls.wrapping_add(1);
+                self.stage = stage_behind(self.outbox.items(), self.polls);
+                self.take_answers();
+            }
+            Stage::Read | Stage::End => {}
+        }
+    }
+
+    // Takes items until one has an answer to be sent. Where the piece has no more, it polls.
+    fn read(&mut self, piece: &[u8]) -> (usize, Act)
+        ensures within { result.0 ≤ length piece.now }
+        ensures acts { (plant : PlantData) (panel : ℕ) (past : Past)
+            → IsReading plant panel self.old past
+            → MayGoOn past piece.now
+            → Acts plant panel (with_bytes (take result.0 piece.now) past) piece.now result.0
+            result.1 self.new }
+        ensures ends { self.old.stage ≡ Read
+            → Leaves result.1 (4 * length piece.now + calls_left self.old)
+            (4 * (length piece.now - result.0) + calls_left self.new) }
+    {
+        let mut used = 0;
+        while used < piece.len() {
+            let (more, send) = self.read_once(&piece[used..]);
+            used += more;
+            if send {
+                return (used, Act::Send);
+            }
+        }
+        self.stage = Stage::Poll;
+        (used, Act::Ask(self.polling()))
+    }
+
+    // Takes the bytes up to the end of the next item, and does what that asks. It answers how many it used, and whether
+    // something is to be sent.
+    fn read_once(&mut self, piece: &[u8]) -> (usize, bool)
+        ensures within { result.0 ≤ length piece.now }
+        ensures progress { 0 < length piece.now → 0 < result.0 }
+        ensures reads { (plant : PlantData) (panel : ℕ) (past : Past)
+            → IsReading plant panel self.old past
+            → length (items (read_so_far past ++ piece.now)) < 2 ^ 62
+            → HasRead plant panel (with_bytes (take result.0 piece.now) past) result.1 self.new }
+        ensures quiet { result.1 ≡ false → self.new.stage ≡ self.old.stage }
+        ensures unsent { self.new.unsent ≡ self.old.unsent }
+        ensures left { self.old.stage ≡ Read → stage_left self.new.stage self.new.polls ≤ 68 }
+    {
+        let (used, asked) = next_asked(&mut self.framer, piece);
+        match asked {
+            Some(asked) => (used, self.take(asked)),
+            None => (used, false),
+        }
+    }
+
+    // Does what an item asks, and answers whether something is to be sent.
+    fn take(&mut self, asked: Asked) -> bool
+        ensures session { self.new ≡ took asked self.old }
+        ensures some { result ≡ true → sent_by asked self.old.outgoing ≢ [] }
+        ensures bytes { result ≡ true → self.new.outgoing.bytes ≡ sent_by asked self.old.outgoing }
+        ensures none { result ≡ false → sent_by asked self.old.outgoing ≡ [] }
+        ensures quiet { result ≡ false → self.new.stage ≡ self.old.stage }
+    {
+        self.items = self.items.wrapping_add(1);
+        match asked {
+            Asked::Nothing => false,
+            Asked::Repeat => self.outgoing.repeat(),
+            Asked::Refused => {
+                self.counts.bads = self.counts.bads.wrapping_add(1);
+                self.outgoing.nak();
+                true
+            }
+            Asked::Noted => {
+                self.counts.goods = self.counts.goods.wrapping_add(1);
+                self.outgoing.ack();
+                true
+            }
+            Asked::Sent(message) => {
+                self.counts.goods = self.counts.goods.wrapping_add(1);
+                self.outgoing.ack();
+                self.stage = Stage::Tell(message);
+                true
+            }
+        }
+    }
+
+    // What the last item sends to the plant.
+    fn telling(&self, message: Message) -> Request
+        ensures { 0 < self.now.items → self.now.items < 2 ^ 62
+            → result ≡ Told self.now.panel (self.now.items - 1) message }
+    {
+        Request::Told {
+            panel: self.panel,
+            at: self.items.wrapping_sub(1),
+            message,
+        }
+    }
+
+    fn polling(&self) -> Request
+        ensures { result ≡ Poll self.now.panel self.now.items self.now.counts.turns }
+    {
+        Request::Poll {
+            panel: self.panel,
+            at: self.items,
+            turn: self.counts.turns,
+        }
+    }
+
+    // Makes the answers in the outbox what is to be sent.
+    fn take_answers(&mut self)
+        requires sayable { All IsSayable self.old.outbox.items }
+        requires room { length self.old.outbox.items ≤ most_answers }
+        ensures took { self.new ≡ took_answers self.old.outbox.items self.new.unsent self.old }
+        ensures some { self.new.unsent ≡ true → self.new.outgoing.bytes ≢ [] }
+        ensures none { self.new.unsent ≡ false → self.new.outgoing.bytes ≡ [] }
+    {
+        self.unsent = self.outgoing.answer(self.outbox.items());
+        self.outbox.clear();
+    }
+
+    fn end_turn(&mut self)
+        ensures { self.new ≡ ended_turn self.old }
+    {
+        self.stage = Stage::Read;
+        self.polls = 0;
+        self.counts.turns = self.counts.turns.wrapping_add(1);
+    }
+}

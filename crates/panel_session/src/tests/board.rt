@@ -1,0 +1,91 @@
+//! A tiny machine of the plant's requests.
+
+ghost use Rattle.std.specs.Prelude.{◌≡◌, ◌<◌, ◌≤◌, [], length, All};
+ghost use Rattle.plant_core.specs.Answer.{IsSayable};
+
+use history_lock::OutBox;
+use plant_core::{Answer, Request};
+use swp08_messages::{Message, Point};
+
+// A level of 32 destinations, and the notices of two panels.
+#[derive(Drop)]
+pub(super) struct Board {
+    sources: [Option<u16>; 32],
+    waiting: [[bool; 32]; 2],
+    // Whether destination 5 has a notice at each poll.
+    pub(super) always: bool,
+}
+
+impl Board {
+    pub(super) fn new() -> Board {
+        Board {
+            sources: [None; 32],
+            waiting: [[false; 32]; 2],
+            always: false,
+        }
+    }
+
+    pub(super) fn source(&self, at: Point) -> Option<u16> {
+        if at.matrix == 0 && at.level == 0 && at.dest < 32 {
+            self.sources[at.dest as usize]
+        } else {
+            None
+        }
+    }
+
+    pub(super) fn told(&mut self, panel: usize, message: Message) -> Message {
+        match message {
+            Message::Connect { at, source } if at.matrix == 0 && at.level == 0 && at.dest < 32 => {
+                let dest = at.dest as usize;
+                if self.sources[dest] != source {
+                    self.sources[dest] = source;
+                    self.waiting[1 - panel.min(1)][dest] = true;
+                }
+                Message::Connected { at, source }
+            }
+            Message::Interrogate { at }
+            | Message::Connect { at, .. }
+            | Message::Tally { at, .. }
+            | Message::Connected { at, .. } => Message::Tally {
+                at,
+                source: self.source(at),
+            },
+        }
+    }
+
+    pub(super) fn poll(&mut self, panel: usize) -> Option<Message> {
+        for dest in 0..32u16 {
+            if self.waiting[panel.min(1)][dest as usize] || (self.always && dest == 5) {
+                self.waiting[panel.min(1)][dest as usize] = false;
+                let at = Point {
+                    matrix: 0,
+                    level: 0,
+                    dest,
+                };
+                return Some(Message::Connected {
+                    at,
+                    source: self.source(at),
+                });
+            }
+        }
+        None
+    }
+
+    pub(super) fn step(&mut self, request: &Request, out: &mut OutBox<Answer>)
+        requires empty { out.old.items ≡ [] }
+        requires place { 0 < out.old.places }
+        ensures sayable { All IsSayable out.new.items }
+        ensures one { length out.new.items ≤ 1 }
+    {
+        let answer = match *request {
+            Request::Told { panel, message, .. } => Some(self.told(panel.get() as usize, message)),
+            Request::Poll { panel, .. } => self.poll(panel.get() as usize),
+            Request::Leave { .. } => None,
+        };
+        if let Some(message) = answer {
+            if message.in_range() {
+                out.put(Answer::Say(message));
+            }
+        }
+    }
+}
