@@ -1,1 +1,13 @@
 pub mod HistoryLemmas
+pub mod Fronts
+pub mod Places
+pub mod Stays
+pub mod Queue
+pub mod Awaits
+pub mod Ends
+pub mod Works
+pub mod Made
+pub mod Comes
+pub mod Joins
+pub mod Meetings
+pub mod Closings

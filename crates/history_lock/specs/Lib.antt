@@ -1,3 +1,11 @@
 pub mod Places
 pub mod Step
 pub mod History
+pub mod Rule
+pub mod Plays
+pub mod Seats
+pub mod Locks
+pub mod Calls
+pub mod CallsInside
+pub mod Closing
+pub mod ClosingInside

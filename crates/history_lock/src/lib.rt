@@ -3,16 +3,32 @@
 //! Nothing here knows what the machine is for.
 #![tactic(auto)]
 
+mod call;
+mod close;
+mod desk;
 mod entry;
 #[cfg(test)]
 mod example;
+mod fault;
 mod laws;
+mod lock;
 mod machine;
+mod make;
+mod meet;
 mod out_box;
+mod plays;
+mod rule;
+mod seat;
+mod steps;
 #[cfg(test)]
 mod tests;
+mod turns;
+mod view;
 
 pub use entry::Entry;
+pub use fault::{CallFault, TryFault};
 pub use laws::{fronts_are_legal, requests_fix_answers, runs_compose, steps_stay_legal};
+pub use lock::HistoryLock;
 pub use machine::Machine;
 pub use out_box::OutBox;
+pub use seat::{Closed, Note, Past, Seat};

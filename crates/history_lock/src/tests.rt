@@ -1,10 +1,13 @@
-//! Machines that the tests work, and the laws at one of them.
+//! Machines that the tests work, the laws at one of them, and locks in one thread and in several.
 
-ghost use Rattle.std.specs.Prelude.{◌≡◌, ◌+◌, ◌%◌, ◌^◌, ◌≤◌, [], replicate};
+ghost use Rattle.std.specs.Prelude.{◌≡◌, ◌+◌, ◌%◌, ◌^◌, ◌≤◌, [], ◌∷◌, IfOk, replicate};
 
 use crate::{
-    Machine, OutBox, fronts_are_legal, requests_fix_answers, runs_compose, steps_stay_legal,
+    CallFault, Closed, HistoryLock, Machine, OutBox, Seat, fronts_are_legal, requests_fix_answers,
+    runs_compose, steps_stay_legal,
 };
+use std::alloc::{AllocError, Global};
+use std::sync::Wait;
 use std::test::Fail;
 
 /// It answers as often as is asked, at most three times, with a number that goes on through all requests.
@@ -37,6 +40,37 @@ impl Machine for Repeater {
             out.put(self.asked);
         }
         self.asked = self.asked.wrapping_add(1);
+    }
+}
+
+/// It counts its requests from 0 on, and answers with the count before.
+#[derive(Drop)]
+struct Counter {
+    count: u64,
+}
+
+impl Machine for Counter {
+    type Request = ();
+
+    type Answer = u64;
+
+    ghost step = { λ counter _. record { state = record { count = (counter.count + 1) % 2 ^ 64 }; answers = counter.count ∷ [] } };
+
+    ghost Fits = { λ counter _. Unit {0} };
+
+    ghost room = { λ counter. 1 };
+
+    fn room(&self) -> usize {
+        1
+    }
+
+    fn fits(&self, _request: &()) -> bool {
+        true
+    }
+
+    fn step(&mut self, _request: &(), out: &mut OutBox<u64>) {
+        out.put(self.count);
+        self.count = self.count.wrapping_add(1);
     }
 }
 
@@ -77,4 +111,92 @@ fn the_laws_are_of_any_machine() {
     steps_stay_legal::<Repeater>();
     runs_compose::<Repeater>();
     requests_fix_answers::<Repeater>();
+}
+
+/// A lock round a counter, with two seats.
+fn counted(
+    alloc: Global,
+) -> Result<(HistoryLock<Counter>, Seat<Counter>, Seat<Counter>), AllocError>
+    ensures seats { IfOk result (λ made. made.0.seats ≡ 2) }
+    ensures first { IfOk result (λ made. (made.1.lock ≡ made.0.id) × (made.1.number ≡ 0)) }
+    ensures second { IfOk result (λ made. (made.2.lock ≡ made.0.id) × (made.2.number ≡ 1)) }
+{
+    let (lock, mut seats) = HistoryLock::new(alloc, Counter { count: 0 }, 2)?;
+    let Some(second) = seats.pop() else {
+        unreachable!()
+    };
+    let Some(first) = seats.pop() else {
+        unreachable!()
+    };
+    Ok((lock, first, second))
+}
+
+/// Closes a lock with two seats.
+fn closed(
+    alloc: Global,
+    lock: HistoryLock<Counter>,
+    first: Seat<Counter>,
+    second: Seat<Counter>,
+) -> Result<Closed<Counter>, AllocError>
+    requires seats { lock.seats ≡ 2 }
+    requires first { (first.lock ≡ lock.id) × (first.number ≡ 0) }
+    requires second { (second.lock ≡ lock.id) × (second.number ≡ 1) }
+{
+    let mut seats = Vec::with_capacity(alloc, 2)?;
+    seats.push_reserved(second);
+    seats.push_reserved(first);
+    Ok(lock.close(seats))
+}
+
+/// Makes calls one after another. False where one has no answer, or a number that isn't above the last.
+fn calls<R: Wait>(
+    rt: &R,
+    alloc: Global,
+    lock: &HistoryLock<Counter>,
+    mut seat: Seat<Counter>,
+    count: u64,
+) -> (Seat<Counter>, bool)
+    requires { seat.lock ≡ lock.now.id }
+    ensures { (result.0.lock ≡ seat.lock) × (result.0.number ≡ seat.number) }
+{
+    let Ok(mut out) = OutBox::new(alloc, 1) else {
+        return (seat, false);
+    };
+    let mut rises = true;
+    let mut least = 0;
+    for _ in 0..count {
+        out.clear();
+        match lock.call(rt, &mut seat, &(), &mut out) {
+            Ok(number) => {
+                rises = rises && number >= least && out.items() == [number].as_slice();
+                least = number.saturating_add(1);
+            }
+            Err(CallFault::Full) => rises = false,
+        }
+    }
+    (seat, rises)
+}
+
+#[test]
+fn two_seats_call_and_try(rt: HostRuntime) -> Result<(), Fail> {
+    let (lock, mut first, mut second) = counted(rt.alloc())?;
+    let mut out = OutBox::new(rt.alloc(), 1)?;
+    assert_eq!(rt; lock.seats(), 2);
+    assert_eq!(rt; lock.call(&rt, &mut first, &(), &mut out), Ok(0));
+    assert_eq!(rt; out.items(), [0].as_slice());
+    out.clear();
+    assert_eq!(rt; lock.call(&rt, &mut second, &(), &mut out), Ok(1));
+    out.clear();
+    assert_eq!(rt; lock.try_call(&mut first, &(), &mut out), Ok(2));
+    assert_eq!(rt; out.items(), [2].as_slice());
+    let note = lock.note(&mut first);
+    lock.meet(&mut second, note);
+    let Closed {
+        machine,
+        entries,
+        past: _,
+    } = closed(rt.alloc(), lock, first, second)?;
+    assert_eq!(rt; entries, 3);
+    assert_eq!(rt; machine.count, 3);
+    Ok(())
 }

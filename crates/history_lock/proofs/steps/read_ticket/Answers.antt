@@ -1,0 +1,8 @@
+use Rattle.std.proofs.Common.{rules}
+use mathlib.Core.Option.{none}
+use Rattle.atomic_table.specs.Table.{step}
+use Rattle.history_lock.proofs.Stays.{reads_ticket}
+use Rattle.history_lock.proofs.steps.read_ticket.Goals as goal
+
+pub load-requires : goal.load-requires
+load-requires g c = (search rules, search rules, reads_ticket g.M.Machine.step g.M.Machine.Fits g.M.Machine.room c.args.top.now.key _ _ _ (step c.args.top.now.table_id.slots 1 0 0 none))

@@ -1,0 +1,33 @@
+-- What a lock shows.
+use Rattle.std.specs.Prelude.{◌≡◌, ◌<◌, ℕ, false, []}
+use Rattle.atomic_table.specs.Seated.{TableId}
+use Rattle.history_lock.specs.declared.view.Start.{Start}
+use Rattle.history_lock.specs.Seats.{SeatData}
+
+-- which lock it is, the machine that it was made with, and how many seats it has
+pub record LockData (State : Type 0) : Type 0 where
+  pub id : TableId
+  pub first : State
+  pub seats : ℕ
+
+abbrev pub lock_data : {State : Type 0} → TableId → Start State → LockData State
+lock_data id start = record { id = id; first = start.machine.value; seats = start.seats }
+
+-- Its table has two words and one slot, and it knows its number of seats.
+pub record IsLock {State : Type 0} (id : TableId) (start : Start State) (seats : ℕ) : Type 0 where
+  pub words : id.words ≡ 2
+  pub slots : id.slots ≡ 1
+  pub counted : seats ≡ start.seats
+  pub some : 0 < seats
+
+-- a seat that has seen nothing
+abbrev pub new_seat : {State Request Answer : Type 0} → TableId → State → ℕ → SeatData State Request Answer
+new_seat lock first number = record {
+  lock = lock;
+  first = first;
+  number = number;
+  seen = [];
+  tried = [];
+  ticket_full = false;
+  serving_full = false;
+}

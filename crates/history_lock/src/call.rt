@@ -1,0 +1,154 @@
+//! Calls on a lock.
+
+ghost use Rattle.std.specs.Prelude.{◌≡◌, ◌≤◌, [], ◌∷◌, ◌++◌, true, false, OnOk, OnErr, IfOk, IfErr};
+ghost use Rattle.history_lock.specs.History.{IsLegal, entries_of};
+ghost use Rattle.history_lock.specs.Calls.{GoesOnTo, IsNumbered, IsRefused, asked_by};
+ghost use Rattle.history_lock.specs.CallsInside.{IsMade};
+ghost use Rattle.history_lock.specs.Seats.{IsAt, IsSame, IsResting, seat_data};
+
+use crate::fault::{CallFault, TryFault};
+use crate::lock::HistoryLock;
+use crate::machine::Machine;
+use crate::out_box::OutBox;
+use crate::rule::{Place, Top};
+use crate::seat::Seat;
+use crate::turns::{answer, enter, queue, seize, take_turn};
+use crate::view::Start;
+use std::snapshot::Snapshot;
+use std::sync::Wait;
+
+/// One call, at a seat's place.
+fn call_at<M: Machine, R: Wait>(
+    rt: &R,
+    top: &Top<M>,
+    place: &mut Place<M>,
+    start: &Snapshot<Start<M>>,
+    request: &M::Request,
+    out: &mut OutBox<M::Answer>,
+) -> Result<u64, CallFault>
+    requires at { IsAt top.now.table_id place.old }
+    requires rests { IsResting start.now.value.machine.value place.old }
+    requires fits { M.Fits start.now.value.machine.value request.now }
+    requires empty { out.old.items ≡ [] }
+    requires places { M.room start.now.value.machine.value ≤ out.old.places }
+    ensures rests { IsSame place.old place.new × IsResting start.now.value.machine.value place.new }
+    ensures made { IfOk result (λ n. IsMade M.step M.Fits
+        (seat_data start.now.value.machine.value place.old) n request.now out.new.items
+        (seat_data start.now.value.machine.value place.new)) }
+    ensures rest { OnOk result (seat_data start.now.value.machine.value place.new
+        ≡ record (seat_data start.now.value.machine.value place.old)
+        { seen = place.new.me.0.seen; ticket_full = false }) }
+    ensures full { OnErr result ((seat_data start.now.value.machine.value place.new
+        ≡ record (seat_data start.now.value.machine.value place.old) { ticket_full = true })
+        × (out.new ≡ out.old)) }
+    ensures places { out.new.places ≡ out.old.places }
+{
+    let Some(ticket) = queue(rt, top, place) else {
+        return Err(CallFault::Full);
+    };
+    take_turn(rt, top, place, start, ticket);
+    answer(top, place, start, request, out);
+    Ok(ticket)
+}
+
+/// One try, at a seat's place.
+fn try_at<M: Machine>(
+    top: &Top<M>,
+    place: &mut Place<M>,
+    start: &Snapshot<Start<M>>,
+    request: &M::Request,
+    out: &mut OutBox<M::Answer>,
+) -> Result<u64, TryFault>
+    requires at { IsAt top.now.table_id place.old }
+    requires rests { IsResting start.now.value.machine.value place.old }
+    requires fits { M.Fits start.now.value.machine.value request.now }
+    requires empty { out.old.items ≡ [] }
+    requires places { M.room start.now.value.machine.value ≤ out.old.places }
+    ensures rests { IsSame place.old place.new × IsResting start.now.value.machine.value place.new }
+    ensures made { IfOk result (λ n. IsMade M.step M.Fits
+        (seat_data start.now.value.machine.value place.old) n request.now out.new.items
+        (seat_data start.now.value.machine.value place.new)) }
+    ensures rest { OnOk result (seat_data start.now.value.machine.value place.new
+        ≡ record (seat_data start.now.value.machine.value place.old)
+        { seen = place.new.me.0.seen; serving_full = false }) }
+    ensures refused { IfErr result (λ fault. IsRefused (seat_data start.now.value.machine.value
+        place.old) fault (seat_data start.now.value.machine.value place.new)) }
+    ensures kept { OnErr result (out.new ≡ out.old) }
+    ensures places { out.new.places ≡ out.old.places }
+{
+    let ticket = seize(top, place)?;
+    enter(top, place, start, ticket);
+    answer(top, place, start, request, out);
+    Ok(ticket)
+}
+
+impl<M: Machine> HistoryLock<M> {
+    /// Asks this of the machine, once all that came before was answered, and answers the number of the entry that this
+    /// makes of the history.
+    pub fn call<R: Wait>(
+        &self,
+        rt: &R,
+        seat: &mut Seat<M>,
+        request: &M::Request,
+        out: &mut OutBox<M::Answer>,
+    ) -> Result<u64, CallFault>
+        requires seat { seat.old.lock ≡ self.now.id }
+        requires fits { M.Fits seat.old.first request.now }
+        requires empty { out.old.items ≡ [] }
+        requires places { M.room seat.old.first ≤ out.old.places }
+        ensures legal { OnOk result (IsLegal M.step M.Fits seat.old.first seat.new.seen) }
+        ensures number { IfOk result (λ n. IsNumbered n seat.new.seen) }
+        ensures seen { OnOk result (GoesOnTo seat.old.seen
+            (asked_by seat.old request.now out.new.items) seat.new.seen) }
+        ensures own { OnOk result (entries_of seat.old.number seat.new.seen
+            ≡ entries_of seat.old.number seat.old.seen ++ asked_by seat.old request.now
+            out.new.items ∷ []) }
+        ensures rest { OnOk result (seat.new ≡ record seat.old
+            { seen = seat.new.seen; ticket_full = false }) }
+        ensures full { OnErr result ((seat.new ≡ record seat.old { ticket_full = true })
+            × (out.new ≡ out.old)) }
+        ensures places { out.new.places ≡ out.old.places }
+    {
+        call_at(
+            rt,
+            &self.table.shared,
+            &mut seat.place,
+            &seat.start,
+            request,
+            out,
+        )
+    }
+
+    /// The same, but it never waits: where another caller has the machine, or waits for it, the answer is `Busy`.
+    pub fn try_call(
+        &self,
+        seat: &mut Seat<M>,
+        request: &M::Request,
+        out: &mut OutBox<M::Answer>,
+    ) -> Result<u64, TryFault>
+        requires seat { seat.old.lock ≡ self.now.id }
+        requires fits { M.Fits seat.old.first request.now }
+        requires empty { out.old.items ≡ [] }
+        requires places { M.room seat.old.first ≤ out.old.places }
+        ensures legal { OnOk result (IsLegal M.step M.Fits seat.old.first seat.new.seen) }
+        ensures number { IfOk result (λ n. IsNumbered n seat.new.seen) }
+        ensures seen { OnOk result (GoesOnTo seat.old.seen
+            (asked_by seat.old request.now out.new.items) seat.new.seen) }
+        ensures own { OnOk result (entries_of seat.old.number seat.new.seen
+            ≡ entries_of seat.old.number seat.old.seen ++ asked_by seat.old request.now
+            out.new.items ∷ []) }
+        ensures rest { OnOk result (seat.new ≡ record seat.old
+            { seen = seat.new.seen; serving_full = false }) }
+        ensures refused { IfErr result (λ fault. IsRefused seat.old fault seat.new) }
+        ensures kept { OnErr result (out.new ≡ out.old) }
+        ensures places { out.new.places ≡ out.old.places }
+    {
+        try_at(
+            &self.table.shared,
+            &mut seat.place,
+            &seat.start,
+            request,
+            out,
+        )
+    }
+}

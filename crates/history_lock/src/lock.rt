@@ -1,0 +1,33 @@
+//! The lock.
+
+use crate::machine::Machine;
+use crate::rule::LockTable;
+use std::marker::Model;
+
+/// A machine that threads share. It works one request at a time, in one order, which each seat sees.
+#[derive(Drop)]
+pub struct HistoryLock<M: Machine> {
+    pub(crate) table: LockTable<M>,
+    pub(crate) seats: u32,
+}
+
+impl<M: Machine> Model for HistoryLock<M> {
+    ghost use Rattle.history_lock.specs.Locks.{LockData, lock_data, IsLock};
+
+    ghost Value = { LockData M };
+
+    ghost view = { λ lock. lock_data lock.table.shared.table_id lock.table.shared.key };
+
+    ghost invariant = { λ lock. IsLock lock.table.shared.table_id lock.table.shared.key lock.seats };
+}
+
+impl<M: Machine> HistoryLock<M> {
+    ghost use Rattle.std.specs.Prelude.{◌≡◌};
+
+    /// How many seats it has.
+    pub fn seats(&self) -> u32
+        ensures { result ≡ self.now.seats }
+    {
+        self.seats
+    }
+}

@@ -1,0 +1,159 @@
+//! A turn: a seat takes a ticket, waits until its turn comes, and works its request on the machine.
+
+ghost use Rattle.std.specs.Prelude.{◌≡◌, ◌≤◌, [], length, ◌<◌, ◌^◌, Some, None, IfSome, IfNone, IfOk, IfErr};
+ghost use Rattle.history_lock.specs.declared.view.Stage.TheVariants.{Idle, Waits};
+ghost use Rattle.history_lock.specs.History.{run};
+ghost use Rattle.history_lock.specs.Plays.{Enters, HasMachine, IsWorked, ended};
+ghost use Rattle.history_lock.specs.Seats.{IsAt, IsSame, IsQueued, IsFull, IsSeized, IsTurnedAway};
+
+use crate::desk;
+use crate::fault::TryFault;
+use crate::machine::Machine;
+use crate::out_box::OutBox;
+use crate::rule::{Place, Top};
+use crate::steps::{await_turn, end_turn, read_serving, read_ticket, take_ticket, try_ticket};
+use crate::view::Start;
+use std::snapshot::Snapshot;
+use std::sync::Wait;
+use std::thread;
+
+/// Takes a ticket, `None` where there are no more.
+pub fn queue<M: Machine, R: Wait>(rt: &R, top: &Top<M>, place: &mut Place<M>) -> Option<u64>
+    requires at { IsAt top.now.table_id place.old }
+    requires idle { (place.old.me.0.stage ≡ Idle) × (0 < length place.old.me.0.numbers) }
+    ensures same { IsSame place.old place.new }
+    ensures some { IfSome result (λ ticket. (ticket < 2 ^ 62)
+        × IsQueued place.old.me ticket place.new.me) }
+    ensures none { IfNone result (IsFull place.old.me place.new.me) }
+{
+    for _ in rt.forever() {
+        let ticket = read_ticket(top, place);
+        if ticket == LIMIT {
+            return None;
+        }
+        if take_ticket(top, place, ticket) == ticket {
+            return Some(ticket);
+        }
+    }
+    unreachable!()
+}
+
+/// The most entries of a history.
+pub const LIMIT: u64 = 1 << 62;
+
+/// Waits until the seat's turn comes.
+pub fn take_turn<M: Machine, R: Wait>(
+    rt: &R,
+    top: &Top<M>,
+    place: &mut Place<M>,
+    start: &Snapshot<Start<M>>,
+    ticket: u64,
+)
+    requires at { IsAt top.now.table_id place.old }
+    requires waits { place.old.me.0.stage ≡ Waits ticket }
+    requires first { place.old.me.0.first ≡ Some start.now.value.machine.value }
+    ensures same { IsSame place.old place.new }
+    ensures enters { Enters M.step M.Fits M.room place.old.me start.now.value.machine.value ticket
+        place.new.me }
+{
+    for _ in rt.forever() {
+        if await_turn(top, place, ticket) == ticket {
+            return;
+        }
+        thread::yield_now();
+    }
+    unreachable!()
+}
+
+/// Takes the ticket whose turn it is, by one read and one exchange.
+pub fn seize<M: Machine>(top: &Top<M>, place: &mut Place<M>) -> Result<u64, TryFault>
+    requires at { IsAt top.now.table_id place.old }
+    requires idle { (place.old.me.0.stage ≡ Idle) × (place.old.me.0.read ≡ None)
+        × (0 < length place.old.me.0.numbers) }
+    ensures same { IsSame place.old place.new }
+    ensures ok { IfOk result (λ ticket. (ticket < 2 ^ 62)
+        × IsSeized place.old.me ticket place.new.me) }
+    ensures err { IfErr result (λ fault. IsTurnedAway place.old.me fault place.new.me) }
+{
+    let serving = read_serving(top, place);
+    if serving == LIMIT {
+        return Err(TryFault::Full);
+    }
+    let ticket = try_ticket(top, place, serving);
+    if ticket == serving {
+        Ok(serving)
+    } else {
+        Err(TryFault::Busy { serving, ticket })
+    }
+}
+
+/// Enters at once: it took the ticket that it had read of `serving`.
+pub fn enter<M: Machine>(
+    top: &Top<M>,
+    place: &mut Place<M>,
+    start: &Snapshot<Start<M>>,
+    ticket: u64,
+)
+    requires at { IsAt top.now.table_id place.old }
+    requires waits { place.old.me.0.stage ≡ Waits ticket }
+    requires first { place.old.me.0.first ≡ Some start.now.value.machine.value }
+    requires read { place.old.me.0.read ≡ Some ticket }
+    ensures same { IsSame place.old place.new }
+    ensures enters { Enters M.step M.Fits M.room place.old.me start.now.value.machine.value ticket
+        place.new.me }
+{
+    let _start = start;
+    await_turn(top, place, ticket);
+}
+
+/// Works the request on the machine that the seat has.
+pub fn work<M: Machine>(
+    top: &Top<M>,
+    place: &mut Place<M>,
+    start: &Snapshot<Start<M>>,
+    request: &M::Request,
+    out: &mut OutBox<M::Answer>,
+)
+    requires at { IsAt top.now.table_id place.old }
+    requires has { HasMachine M.step M.Fits M.room place.old.me start.now.value.machine.value }
+    requires fits { M.Fits start.now.value.machine.value request.now }
+    requires empty { out.old.items ≡ [] }
+    requires places { M.room start.now.value.machine.value ≤ out.old.places }
+    ensures same { IsSame place.old place.new × (place.new.me.0 ≡ place.old.me.0) }
+    ensures worked { IsWorked M.step M.Fits M.room place.new.me start.now.value.machine.value
+        request.now }
+    ensures answers { out.new.items ≡ (M.step (run M.step start.now.value.machine.value
+        place.old.me.0.seen) request.now).answers }
+    ensures places { out.new.places ≡ out.old.places }
+{
+    let _start = start;
+    let desk = place.slot_mut(top, 0);
+    desk::work(desk, request, out);
+}
+
+/// Works the request, and ends the turn.
+pub fn answer<M: Machine>(
+    top: &Top<M>,
+    place: &mut Place<M>,
+    start: &Snapshot<Start<M>>,
+    request: &M::Request,
+    out: &mut OutBox<M::Answer>,
+)
+    requires at { IsAt top.now.table_id place.old }
+    requires has { HasMachine M.step M.Fits M.room place.old.me start.now.value.machine.value }
+    requires fits { M.Fits start.now.value.machine.value request.now }
+    requires empty { out.old.items ≡ [] }
+    requires places { M.room start.now.value.machine.value ≤ out.old.places }
+    ensures same { IsSame place.old place.new }
+    ensures ended { place.new.me ≡ (
+      ended M.step start.now.value.machine.value place.old.me.0
+          request.now,
+      [],
+    ) }
+    ensures answers { out.new.items ≡ (M.step (run M.step start.now.value.machine.value
+        place.old.me.0.seen) request.now).answers }
+    ensures places { out.new.places ≡ out.old.places }
+{
+    work(top, place, start, request, out);
+    end_turn(top, place, start, request);
+}
