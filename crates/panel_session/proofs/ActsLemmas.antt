@@ -23,13 +23,13 @@ use Rattle.panel_session.specs.Asked.{Asks}
 use Rattle.panel_session.specs.AskedInside.{FoundAsks, MayAsk}
 use Rattle.panel_session.specs.Counted.{goods_of, bads_of}
 use Rattle.panel_session.specs.SoFar.{Past, read_so_far, with_bytes, with_sent, with_entry, with_turn, nothing_yet, IsOver, IsSoFar}
-use Rattle.panel_session.specs.Taken.{taken_stage, sent_by}
+use Rattle.panel_session.specs.TakenInside.{taken_stage, sent_by}
 use Rattle.panel_session.specs.Text.{frames_of, with_frames, nothing_sent}
 use Rattle.panel_session.specs.StandsInside.{Kept, Keeps, IsAtStage}
 use Rattle.panel_session.specs.Session.{Stands, kept_of}
-use Rattle.panel_session.specs.Reading.{IsReading, HasRead}
+use Rattle.panel_session.specs.ReadingInside.{IsReading, HasRead}
 use Rattle.panel_session.specs.MostAnswers.{most_answers}
-use Rattle.panel_session.specs.Moves.{next, took, took_answers, ended_turn}
+use Rattle.panel_session.specs.MovesInside.{next, took, took_answers, ended_turn}
 use Rattle.panel_session.proofs.KeptTurnLemmas.{keeps_so_far, keeps_polled_more, keeps_turn, keeps_nothing, keeps_text, turn_over, bytes_of-append}
 use Rattle.panel_session.proofs.KeptItemLemmas.{reading, read-more}
 use Rattle.panel_session.proofs.KeepsLemmas.{keeps_polled_last}

@@ -22,7 +22,7 @@ use Rattle.panel_session.specs.Text.{Output, frames_of, with_frames, nothing_sen
 use Rattle.panel_session.specs.OutgoingInside.{emptied}
 use Rattle.panel_session.specs.SoFar.{Past, read_so_far, entries_so_far, with_bytes, with_sent}
 use Rattle.panel_session.specs.StandsInside.{Kept, Keeps, IsTold, AllTold, NoneFrom, behind, MayPoll, IsAtStage}
-use Rattle.panel_session.specs.Taken.{taken_output, taken_stage, sent_by}
+use Rattle.panel_session.specs.TakenInside.{taken_output, taken_stage, sent_by}
 use Rattle.panel_session.proofs.OutputLemmas.{told_output, output_with, output_more, control-behind, repeated-behind, sent-behind}
 use Rattle.panel_session.proofs.EntryLemmas.{length-ask, all_ask-append, all_told-append, sent-append, none_from-more}
 

@@ -12,8 +12,8 @@ use Rattle.panel_session.specs.declared.stage.Stage.{Stage}
 use Rattle.panel_session.specs.declared.stage.Stage.TheVariants.{Read, Tell, Poll as PollStage}
 use Rattle.swp08_messages.specs.declared.message.Message.{Message}
 use Rattle.panel_session.specs.CallsLeft.{stage_left, unsent_left, calls_left}
-use Rattle.panel_session.specs.Moves.{stage_with, took_answers}
-use Rattle.panel_session.specs.Polled.{HasPolled}
+use Rattle.panel_session.specs.MovesInside.{stage_with, took_answers}
+use Rattle.panel_session.specs.PolledInside.{HasPolled}
 use Rattle.panel_session.specs.Session.{Awaits, with_outbox}
 use Rattle.panel_session.specs.SoFar.{Past}
 use Rattle.panel_session.proofs.ActsLemmas.{polls_below}

@@ -21,12 +21,12 @@ use Rattle.panel_session.specs.SoFar.{Past, read_so_far, with_bytes, with_sent, 
 use Rattle.panel_session.specs.Text.{frames_of, with_frames}
 use Rattle.panel_session.specs.StandsInside.{IsAtStage}
 use Rattle.panel_session.specs.Session.{Stands, StandsFor, Awaits, AsksAt, kept_of, with_outbox}
-use Rattle.panel_session.specs.Polled.{HasPolled}
-use Rattle.panel_session.specs.Reading.{IsReading, HasRead}
+use Rattle.panel_session.specs.PolledInside.{HasPolled}
+use Rattle.panel_session.specs.ReadingInside.{IsReading, HasRead}
 use Rattle.panel_session.specs.Acting.{Acts, MayGoOn}
 use Rattle.panel_session.specs.declared.act.Act.TheVariants.{Send, Ask, Rest}
 use Rattle.panel_session.specs.MostAnswers.{most_answers}
-use Rattle.panel_session.specs.Moves.{took_answers, ended_turn}
+use Rattle.panel_session.specs.MovesInside.{took_answers, ended_turn}
 use Rattle.panel_session.proofs.KeptItemLemmas.{reading, length-asked}
 use Rattle.panel_session.proofs.KeptTurnLemmas.{keeps_text}
 use Rattle.panel_session.proofs.StandsLemmas.{fewer_items, stands_with, stands_to_poll, stands_sent, stands_told}

@@ -24,11 +24,11 @@ use Rattle.panel_session.specs.Asked.{Asks}
 use Rattle.panel_session.specs.declared.counts.Counts.{Counts}
 use Rattle.panel_session.specs.Counted.{is_good_item, is_bad_item, goods_of, bads_of}
 use Rattle.panel_session.specs.SoFar.{Past, read_so_far, with_bytes, with_sent, with_entry}
-use Rattle.panel_session.specs.Taken.{taken_stage, taken_output, sent_by}
+use Rattle.panel_session.specs.TakenInside.{taken_stage, taken_output, sent_by}
 use Rattle.panel_session.specs.Text.{Output, frames_of, with_frames}
 use Rattle.panel_session.specs.StandsInside.{Kept, Keeps}
 use Rattle.panel_session.specs.Session.{Stands, kept_of}
-use Rattle.panel_session.specs.Moves.{next, counts_with, stage_with, took, took_answers}
+use Rattle.panel_session.specs.MovesInside.{next, counts_with, stage_with, took, took_answers}
 use Rattle.panel_session.proofs.KeptItemLemmas.{reading, read-more, keeps_item, keeps_none, keeps_to_poll}
 use Rattle.panel_session.proofs.KeepsLemmas.{keeps_sent, keeps_told}
 

@@ -1,5 +1,5 @@
 -- What a call of a session does.
-use Rattle.std.specs.Prelude.{◌≡◌, ◌≢◌, ℕ, ◌^◌, ◌<◌, List, [], ◌++◌, length}
+use Rattle.std.specs.Prelude.{◌≡◌, ◌≢◌, ℕ, ◌^◌, ◌<◌, List, [], ◌++◌, length, take}
 use Rattle.dle_framing.specs.Items.{items}
 use Rattle.plant_config.specs.Plant.{PlantData}
 use Rattle.plant_core.specs.declared.request.Request.{Request}
@@ -8,7 +8,7 @@ use Rattle.panel_session.specs.declared.act.Act.{Act}
 use Rattle.panel_session.specs.declared.act.Act.TheVariants.{Send, Ask, Rest}
 use Rattle.panel_session.specs.declared.session.Session.{Session}
 use Rattle.panel_session.specs.Asked.{IsForPlant}
-use Rattle.panel_session.specs.SoFar.{Past, read_so_far, entries_so_far, with_sent, with_turn, IsOver}
+use Rattle.panel_session.specs.SoFar.{Past, read_so_far, entries_so_far, with_bytes, with_sent, with_turn, IsOver}
 use Rattle.panel_session.specs.Text.{IsText}
 use Rattle.panel_session.specs.Session.{StandsFor, Awaits, outgoing_of, outbox_of}
 use Rattle.panel_session.specs.MostAnswers.{most_answers}
@@ -34,8 +34,7 @@ IsInPlace now (Leave panel) used piece = ⊥
 
 -- What `act` does behind a past that now has the bytes that it used. `Send`: some bytes are to be sent, and once they are,
 -- all of the session's text so far is. `Ask`: a request that the plant takes is to be answered into the
--- outbox, which is empty. `Rest`: the piece is used
--- up and the turn is over.
+-- outbox, which is empty. `Rest`: the piece is used up and the turn is over.
 abbrev pub Acts : PlantData → ℕ → Past → List ℕ → ℕ → Act → Session → Type 0
 Acts plant panel now piece used Send session =
     (outgoing_of session ≢ [])
@@ -51,3 +50,9 @@ Acts plant panel now piece used Rest session =
     (used ≡ length piece)
     × IsOver plant panel now
     × StandsFor plant panel session (with_turn now)
+
+-- What a call of `act` with this piece does: it acts so behind each past that the session stands for and the piece may go on.
+abbrev pub ActsOn : Session → List ℕ → ℕ → Act → Session → Type 0
+ActsOn before piece used act after =
+    (plant : PlantData) (panel : ℕ) (past : Past) → StandsFor plant panel before past → MayGoOn past piece
+    → Acts plant panel (with_bytes (take used piece) past) piece used act after

@@ -1,10 +1,14 @@
 -- How many calls a turn may still take.
 use Rattle.std.specs.Prelude.{ℕ, ◌+◌, ◌-◌, ◌*◌, ◌<◌, ◌≤◌, Bool, true, false}
+use Rattle.plant_config.specs.Plant.{PlantData}
+use Rattle.plant_core.specs.declared.request.Request.{Request}
 use Rattle.panel_session.specs.declared.act.Act.{Act}
 use Rattle.panel_session.specs.declared.act.Act.TheVariants.{Send, Ask, Rest}
 use Rattle.panel_session.specs.declared.session.Session.{Session}
 use Rattle.panel_session.specs.declared.stage.Stage.{Stage}
 use Rattle.panel_session.specs.declared.stage.Stage.TheVariants.{Read, Tell, Poll, End}
+use Rattle.panel_session.specs.Session.{Awaits}
+use Rattle.panel_session.specs.SoFar.{Past}
 
 -- each poll is asked, and its answer sent
 abbrev pub stage_left : Stage → ℕ → ℕ
@@ -26,3 +30,8 @@ abbrev pub Leaves : Act → ℕ → ℕ → Type 0
 Leaves Send before after = after < before
 Leaves (Ask request) before after = after ≤ before
 Leaves Rest before after = Unit {0}
+
+-- Where a session awaited the answers to this request, fewer calls are left once it was answered.
+abbrev pub IsNearer : Session → Request → Session → Type 0
+IsNearer before request after =
+    (plant : PlantData) (panel : ℕ) (past : Past) → Awaits plant panel before past request → calls_left after < calls_left before

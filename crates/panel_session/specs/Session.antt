@@ -11,7 +11,7 @@ use Rattle.panel_session.specs.declared.session.Session.{Session}
 use Rattle.panel_session.specs.declared.stage.Stage.{Stage}
 use Rattle.panel_session.specs.declared.stage.Stage.TheVariants.{Read, Tell, Poll as PollStage, End}
 use Rattle.panel_session.specs.MostAnswers.{most_answers}
-use Rattle.panel_session.specs.SoFar.{Past, read_so_far}
+use Rattle.panel_session.specs.SoFar.{Past, read_so_far, with_entry}
 use Rattle.panel_session.specs.StandsInside.{Kept, Keeps}
 use Rattle.panel_session.specs.Counted.{goods_of, bads_of}
 
@@ -67,3 +67,10 @@ AsksAt End kept request = ⊥
 unfoldable pub Awaits : PlantData → ℕ → Session → Past → Request → Type 0
 Awaits plant panel session past request =
     Stands plant panel session past × (session.unsent ≡ false) × AsksAt session.stage (kept_of session) request
+
+-- These answers to a request were taken: the session stands for each past in which it awaited them, with the entry of the
+-- request and the answers, whichever seat asked.
+abbrev pub TakesAnswers : Session → Request → List Answer → Session → Type 0
+TakesAnswers before request answers after =
+    (plant : PlantData) (panel seat : ℕ) (past : Past) → Awaits plant panel before past request
+    → StandsFor plant panel after (with_entry (record { seat = seat; request = request; answers = answers }) past)

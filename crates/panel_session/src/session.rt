@@ -5,11 +5,10 @@ ghost use Rattle.std.specs.Borrow.{sem};
 ghost use Rattle.plant_config.specs.Plant.{PlantData};
 ghost use Rattle.plant_core.specs.declared.request.Request.{Request};
 ghost use Rattle.plant_core.specs.Answer.{IsSayable};
-ghost use Rattle.dle_framing.specs.Items.{items};
 ghost use Rattle.plant_core.specs.declared.request.Request.TheVariants.{Told, Poll};
-ghost use Rattle.panel_session.specs.SoFar.{Past, nothing_yet, read_so_far, with_bytes, with_entry};
+ghost use Rattle.panel_session.specs.SoFar.{Past, nothing_yet};
 ghost use Rattle.panel_session.specs.MostAnswers.{most_answers};
-ghost use Rattle.panel_session.specs.Taken.{sent_by};
+ghost use Rattle.panel_session.specs.TakenInside.{sent_by};
 
 use crate::act::Act;
 use crate::asked::{Asked, next_asked};
@@ -43,14 +42,14 @@ pub struct Session<'p> {
 }
 
 impl<'p> Session<'p> {
-    ghost use Rattle.panel_session.specs.Acting.{Acts, MayGoOn};
+    ghost use Rattle.panel_session.specs.Acting.{ActsOn};
     ghost use Rattle.panel_session.specs.Counted.{AreCounts};
     ghost use Rattle.panel_session.specs.Lending.{LendsOutbox};
-    ghost use Rattle.panel_session.specs.CallsLeft.{calls_left, stage_left, Leaves};
+    ghost use Rattle.panel_session.specs.CallsLeft.{calls_left, stage_left, IsNearer, Leaves};
     ghost use Rattle.panel_session.specs.declared.stage.Stage.TheVariants.{Read};
-    ghost use Rattle.panel_session.specs.Moves.{took, took_answers, ended_turn};
-    ghost use Rattle.panel_session.specs.Reading.{IsReading, HasRead};
-    ghost use Rattle.panel_session.specs.Session.{outgoing_of, outbox_of, StandsFor, Awaits};
+    ghost use Rattle.panel_session.specs.MovesInside.{took, took_answers, ended_turn};
+    ghost use Rattle.panel_session.specs.ReadingInside.{ReadsOn, HasReadOn};
+    ghost use Rattle.panel_session.specs.Session.{outgoing_of, outbox_of, StandsFor, TakesAnswers};
 
     /// A session of a panel of the plant, to which nothing was sent.
     pub fn start(alloc: Global, plant: &'p Plant, panel: PanelNo) -> Result<Session<'p>, AllocError>
@@ -130,10 +129,7 @@ impl<'p> Session<'p> {
     /// piece is what is left of the one that the turn began with.
     pub fn act(&mut self, piece: &[u8]) -> (usize, Act)
         ensures within { result.0 ≤ length piece.now }
-        ensures acts { (plant : PlantData) (panel : ℕ) (past : Past)
-            → StandsFor plant panel self.old past → MayGoOn past piece.now
-            → Acts plant panel (with_bytes (take result.0 piece.now) past) piece.now result.0
-            result.1 self.new }
+        ensures acts { ActsOn self.old piece.now result.0 result.1 self.new }
         ensures ends { Leaves result.1 (4 * length piece.now + calls_left self.old)
             (4 * (length piece.now - result.0) + calls_left self.new) }
     {
@@ -156,16 +152,9 @@ impl<'p> Session<'p> {
     pub fn answered(&mut self)
         requires sayable { All IsSayable (outbox_of self.old).items }
         requires room { length (outbox_of self.old).items ≤ most_answers }
-        ensures answered { (plant : PlantData) (panel seat : ℕ) (past : Past) (request : Request)
-            → Awaits plant panel self.old past request
-            → StandsFor plant panel self.new (with_entry
-            (record {
-              seat = seat;
-              request = request;
-              answers = (outbox_of self.old).items;
-            }) past) }
-        ensures ends { (plant : PlantData) (panel : ℕ) (past : Past) (request : Request)
-            → Awaits plant panel self.old past request → calls_left self.new < calls_left self.old }
+        ensures answered { (request : Request)
+            → TakesAnswers self.old request (outbox_of self.old).items self.new }
+        ensures ends { (request : Request) → IsNearer self.old request self.new }
     {
         match self.stage {
             Stage::Tell(_) => {
@@ -184,11 +173,7 @@ impl<'p> Session<'p> {
     // Takes items until one has an answer to be sent. Where the piece has no more, it polls.
     fn read(&mut self, piece: &[u8]) -> (usize, Act)
         ensures within { result.0 ≤ length piece.now }
-        ensures acts { (plant : PlantData) (panel : ℕ) (past : Past)
-            → IsReading plant panel self.old past
-            → MayGoOn past piece.now
-            → Acts plant panel (with_bytes (take result.0 piece.now) past) piece.now result.0
-            result.1 self.new }
+        ensures acts { ReadsOn self.old piece.now result.0 result.1 self.new }
         ensures ends { self.old.stage ≡ Read
             → Leaves result.1 (4 * length piece.now + calls_left self.old)
             (4 * (length piece.now - result.0) + calls_left self.new) }
@@ -210,10 +195,7 @@ impl<'p> Session<'p> {
     fn read_once(&mut self, piece: &[u8]) -> (usize, bool)
         ensures within { result.0 ≤ length piece.now }
         ensures progress { 0 < length piece.now → 0 < result.0 }
-        ensures reads { (plant : PlantData) (panel : ℕ) (past : Past)
-            → IsReading plant panel self.old past
-            → length (items (read_so_far past ++ piece.now)) < 2 ^ 62
-            → HasRead plant panel (with_bytes (take result.0 piece.now) past) result.1 self.new }
+        ensures reads { HasReadOn self.old piece.now result.0 result.1 self.new }
         ensures quiet { result.1 ≡ false → self.new.stage ≡ self.old.stage }
         ensures unsent { self.new.unsent ≡ self.old.unsent }
         ensures left { self.old.stage ≡ Read → stage_left self.new.stage self.new.polls ≤ 68 }

@@ -1,6 +1,6 @@
 //! What a session does next, and when a turn has polled enough.
 
-ghost use Rattle.panel_session.specs.Polled.{HasPolled};
+ghost use Rattle.panel_session.specs.PolledInside.{HasPolled};
 
 use plant_core::Answer;
 use swp08_messages::Message;

@@ -1,17 +1,14 @@
 //! A whole turn of a session, over any machine that takes the plant's requests and any sink.
 
-ghost use Rattle.std.specs.Prelude.{◌≡◌, ℕ, ◌<◌, ◌≤◌, List, [], not, length, All};
+ghost use Rattle.std.specs.Prelude.{◌≡◌, ◌≤◌, [], not, All};
 ghost use Rattle.std.specs.Bool.{OnTrue};
 ghost use Rattle.ctl_io.specs.Faults.{counted};
-ghost use Rattle.ctl_io.specs.Sink.{appended};
-ghost use Rattle.plant_config.specs.Plant.{PlantData};
 ghost use Rattle.plant_core.specs.Answer.{IsSayable};
 ghost use Rattle.plant_core.specs.declared.request.Request.{Request};
-ghost use Rattle.panel_session.specs.CallsLeft.{calls_left};
-ghost use Rattle.panel_session.specs.Run.{MayTurn, IsReady, HasRun};
-ghost use Rattle.panel_session.specs.Session.{outbox_of, StandsFor, Awaits};
+ghost use Rattle.panel_session.specs.CallsLeft.{IsNearer};
+ghost use Rattle.panel_session.specs.Run.{IsReady, RunsOn};
+ghost use Rattle.panel_session.specs.Session.{outbox_of, TakesAnswers};
 ghost use Rattle.panel_session.specs.MostAnswers.{most_answers};
-ghost use Rattle.panel_session.specs.SoFar.{Past, with_entry};
 
 use crate::act::Act;
 use crate::session::Session;
@@ -26,11 +23,8 @@ where
     M: Machine<Request = Request, Answer = Answer>,
     K: Sink,
     requires { IsReady M.step M.Fits M.room session.old machine.old piece.now }
-    ensures ran { OnTrue result ((plant : PlantData) (panel : ℕ) (past : Past)
-        → MayTurn M.step M.Fits M.room plant panel session.old past machine.old piece.now
-        → (more : List ℕ) × (K.written out.new ≡ appended (K.written out.old) more)
-        × HasRun M.step M.Fits M.room plant panel past piece.now machine.old machine.new
-        session.new more) }
+    ensures ran { OnTrue result (RunsOn M.step M.Fits M.room piece.now session.old session.new
+        machine.old machine.new (K.written out.old) (K.written out.new)) }
     ensures count { K.faults out.new ≡ counted (not result) (K.faults out.old) }
 {
     let mut rest = piece;
@@ -58,17 +52,9 @@ where
     requires sayable { All IsSayable (M.step machine.old request.now).answers }
     requires outbox { outbox_of session.old ≡ record { items = []; places = most_answers } }
     ensures machine { machine.new ≡ (M.step machine.old request.now).state }
-    ensures session { (plant : PlantData) (panel seat : ℕ) (past : Past)
-        → Awaits plant panel session.old past request.now
-        → StandsFor plant panel session.new (with_entry
-        (record {
-          seat = seat;
-          request = request.now;
-          answers = (M.step machine.old request.now).answers;
-        }) past) }
-    ensures ends { (plant : PlantData) (panel : ℕ) (past : Past)
-        → Awaits plant panel session.old past request.now
-        → calls_left session.new < calls_left session.old }
+    ensures session { TakesAnswers session.old request.now
+        (M.step machine.old request.now).answers session.new }
+    ensures ends { IsNearer session.old request.now session.new }
     ensures goes_on { (other : Request) → M.Fits machine.old other → M.Fits machine.new other }
     ensures same { M.room machine.new ≡ M.room machine.old }
 {

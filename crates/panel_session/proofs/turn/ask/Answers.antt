@@ -12,10 +12,10 @@ pub returns-clause-session : goal.returns-clause-session
 returns-clause-session g c = λ plant panel seat past awaits.
     let waits = awaits_with plant panel c.args.session.now past c.args.request.now c.step.new.out awaits (c.step.ensures.places ∙ ap (λ (box : Placed Answer). box.places) c.outbox.ensures.now) in
     let P : List Answer → Type 0 = λ answers. StandsFor plant panel c.answered.new.self (with_entry (record { seat = seat; request = c.args.request.now; answers = answers }) past) in
-    subst P c.step.ensures.answers (c.answered.ensures.answered plant panel seat past c.args.request.now waits)
+    subst P c.step.ensures.answers (c.answered.ensures.answered c.args.request.now plant panel seat past waits)
 
 pub returns-clause-ends : goal.returns-clause-ends
 returns-clause-ends g c = λ plant panel past awaits.
     let waits = awaits_with plant panel c.args.session.now past c.args.request.now c.step.new.out awaits (c.step.ensures.places ∙ ap (λ (box : Placed Answer). box.places) c.outbox.ensures.now) in
     let P : ℕ → Type 0 = λ n. calls_left c.answered.new.self < n in
-    subst P (left-box c.args.session.now c.step.new.out) (c.answered.ensures.ends plant panel past c.args.request.now waits)
+    subst P (left-box c.args.session.now c.step.new.out) (c.answered.ensures.ends c.args.request.now plant panel past waits)

@@ -6,7 +6,7 @@ use Rattle.panel_session.specs.declared.stage.Stage.{Stage}
 use Rattle.panel_session.specs.declared.stage.Stage.TheVariants.{Poll as PollStage}
 use Rattle.panel_session.specs.CallsLeft.{stage_left, unsent_left}
 use Rattle.panel_session.proofs.LeftLemmas.{left-by}
-use Rattle.panel_session.specs.Reading.{HasRead}
+use Rattle.panel_session.specs.ReadingInside.{HasRead}
 use Rattle.panel_session.specs.SoFar.{Past, with_bytes}
 use Rattle.panel_session.proofs.SessionLemmas.{sends, reads_on, asks_first_poll}
 use Rattle.panel_session.proofs.ActsLemmas.{bytes_on, read_rest}

@@ -3,7 +3,7 @@ use Rattle.dle_framing.specs.Items.{items}
 use Rattle.plant_config.specs.Plant.{PlantData}
 use Rattle.panel_session.specs.SoFar.{Past, read_so_far, with_bytes}
 use Rattle.panel_session.specs.declared.stage.Stage.TheVariants.{Read}
-use Rattle.panel_session.specs.Reading.{IsReading}
+use Rattle.panel_session.specs.ReadingInside.{IsReading}
 use Rattle.panel_session.proofs.session.Session.read.Given as goal
 
 -- The front of the piece was read.

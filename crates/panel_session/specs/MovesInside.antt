@@ -7,7 +7,7 @@ use Rattle.panel_session.specs.declared.counts.Counts.{Counts}
 use Rattle.panel_session.specs.declared.session.Session.{Session}
 use Rattle.panel_session.specs.declared.stage.Stage.{Stage}
 use Rattle.panel_session.specs.declared.stage.Stage.TheVariants.{Read, Tell}
-use Rattle.panel_session.specs.Taken.{taken_output}
+use Rattle.panel_session.specs.TakenInside.{taken_output}
 use Rattle.panel_session.specs.Text.{with_frames, frames_of}
 use Rattle.panel_session.specs.OutgoingInside.{emptied}
 
