@@ -1,5 +1,5 @@
 -- What a lock shows.
-use Rattle.std.specs.Prelude.{◌≡◌, ◌<◌, ℕ, false, []}
+use Rattle.std.specs.Prelude.{◌≡◌, ◌<◌, ℕ, false, List, [], Some, slice_get}
 use Rattle.atomic_table.specs.Seated.{TableId}
 use Rattle.history_lock.specs.declared.view.Start.{Start}
 use Rattle.history_lock.specs.Seats.{SeatData}
@@ -10,6 +10,7 @@ pub record LockData (State : Type 0) : Type 0 where
   pub first : State
   pub seats : ℕ
 
+-- what a lock shows, by its table
 abbrev pub lock_data : {State : Type 0} → TableId → Start State → LockData State
 lock_data id start = record { id = id; first = start.machine.value; seats = start.seats }
 
@@ -31,3 +32,7 @@ new_seat lock first number = record {
   ticket_full = false;
   serving_full = false;
 }
+
+-- Seats that have seen nothing stand in the order of their numbers, from 0 on and below a count.
+abbrev pub AreNew : {State Request Answer : Type 0} → TableId → State → ℕ → List (SeatData State Request Answer) → Type 0
+AreNew lock first count seats = (number : ℕ) → number < count → slice_get seats number ≡ Some (new_seat lock first number)

@@ -10,33 +10,31 @@ use Rattle.history_lock.specs.declared.fault.TryFault.TheVariants.{Full, Busy}
 use Rattle.history_lock.specs.Plays.{Hand, number_of}
 use Rattle.atomic_table.specs.declared.shared.Seat.{Seat}
 
-module _ {S V : Type 0} where
-  -- it is a seat of this table, which has two words and one slot
-  abbrev pub IsAt : TableId → Seat S V → Type 0
-  IsAt id seat = (seat.table_id ≡ id) × (id.words ≡ 2) × (id.slots ≡ 1)
+-- it is a seat of this table, which has two words and one slot
+abbrev pub IsAt : {S V : Type 0} → TableId → Seat S V → Type 0
+IsAt id seat = (seat.table_id ≡ id) × (id.words ≡ 2) × (id.slots ≡ 1)
 
-  -- it is the same seat, whatever it knows
-  abbrev pub IsSame : Seat S V → Seat S V → Type 0
-  IsSame before after = (after.table_id ≡ before.table_id) × (after.id ≡ before.id)
+-- it is the same seat, whatever it knows
+abbrev pub IsSame : {S V : Type 0} → Seat S V → Seat S V → Type 0
+IsSame before after = (after.table_id ≡ before.table_id) × (after.id ≡ before.id)
 
-module _ {State Request Answer : Type 0} where
-  -- it has this ticket, and no other change
-  abbrev pub IsQueued : Hand State Request Answer → ℕ → Hand State Request Answer → Type 0
-  IsQueued before ticket after = after ≡ (record before.0 { stage = Waits ticket; ticket_full = false }, before.1)
+-- it has this ticket, and no other change
+abbrev pub IsQueued : {State Request Answer : Type 0} → Hand State Request Answer → ℕ → Hand State Request Answer → Type 0
+IsQueued before ticket after = after ≡ (record before.0 { stage = Waits ticket; ticket_full = false }, before.1)
 
-  -- it read that there are no more tickets
-  abbrev pub IsFull : Hand State Request Answer → Hand State Request Answer → Type 0
-  IsFull before after = after ≡ (record before.0 { ticket_full = true }, before.1)
+-- it read that there are no more tickets
+abbrev pub IsFull : {State Request Answer : Type 0} → Hand State Request Answer → Hand State Request Answer → Type 0
+IsFull before after = after ≡ (record before.0 { ticket_full = true }, before.1)
 
-  -- it has the ticket that it read of `serving`
-  abbrev pub IsSeized : Hand State Request Answer → ℕ → Hand State Request Answer → Type 0
-  IsSeized before ticket after = after ≡ (record before.0 { stage = Waits ticket; read = Some ticket; serving_full = false }, before.1)
+-- it has the ticket that it read of `serving`
+abbrev pub IsSeized : {State Request Answer : Type 0} → Hand State Request Answer → ℕ → Hand State Request Answer → Type 0
+IsSeized before ticket after = after ≡ (record before.0 { stage = Waits ticket; read = Some ticket; serving_full = false }, before.1)
 
-  -- what a refused try leaves
-  abbrev pub IsTurnedAway : Hand State Request Answer → TryFault → Hand State Request Answer → Type 0
-  IsTurnedAway before Full after = after ≡ (record before.0 { serving_full = true }, before.1)
-  IsTurnedAway before (Busy serving ticket) after =
-      (serving < ticket) × (after ≡ (record before.0 { serving_full = false; tried = before.0.tried ++ (serving, ticket) ∷ [] }, before.1))
+-- what a refused try leaves
+abbrev pub IsTurnedAway : {State Request Answer : Type 0} → Hand State Request Answer → TryFault → Hand State Request Answer → Type 0
+IsTurnedAway before Full after = after ≡ (record before.0 { serving_full = true }, before.1)
+IsTurnedAway before (Busy serving ticket) after =
+    (serving < ticket) × (after ≡ (record before.0 { serving_full = false; tried = before.0.tried ++ (serving, ticket) ∷ [] }, before.1))
 
 -- What a seat shows: its lock; the machine that the lock was made with; the number under which it makes entries; the
 -- history that it has seen; of each of its refused tries, what it read of `serving` and found at `ticket`; and whether it
@@ -50,38 +48,38 @@ pub record SeatData (State Request Answer : Type 0) : Type 0 where
   pub ticket_full : Bool
   pub serving_full : Bool
 
-module _ {State Request Answer : Type 0} where
-  abbrev pub seat_data : State → Seat (Desk State Request) (View State Request Answer) → SeatData State Request Answer
-  seat_data first seat = record {
-    lock = seat.table_id;
-    first = first;
-    number = number_of seat.me.0;
-    seen = seat.me.0.seen;
-    tried = seat.me.0.tried;
-    ticket_full = seat.me.0.ticket_full;
-    serving_full = seat.me.0.serving_full;
-  }
+-- what a seat shows, by what its place knows
+abbrev pub seat_data : {State Request Answer : Type 0} → State → Seat (Desk State Request) (View State Request Answer) → SeatData State Request Answer
+seat_data first seat = record {
+  lock = seat.table_id;
+  first = first;
+  number = number_of seat.me.0;
+  seen = seat.me.0.seen;
+  tried = seat.me.0.tried;
+  ticket_full = seat.me.0.ticket_full;
+  serving_full = seat.me.0.serving_full;
+}
 
-  -- It is in no call, and has one number.
-  pub record IsResting (first : State) (seat : Seat (Desk State Request) (View State Request Answer)) : Type 0 where
-    pub first_is : seat.me.0.first ≡ Some first
-    pub empty : seat.me.1 ≡ []
-    pub idle : seat.me.0.stage ≡ Idle
-    pub unread : seat.me.0.read ≡ None
-    pub all_seen : seat.me.0.former ≡ []
-    pub one_number : seat.me.0.numbers ≡ number_of seat.me.0 ∷ []
+-- It is in no call, and has one number.
+pub record IsResting {State Request Answer : Type 0} (first : State) (seat : Seat (Desk State Request) (View State Request Answer)) : Type 0 where
+  pub first_is : seat.me.0.first ≡ Some first
+  pub empty : seat.me.1 ≡ []
+  pub idle : seat.me.0.stage ≡ Idle
+  pub unread : seat.me.0.read ≡ None
+  pub all_seen : seat.me.0.former ≡ []
+  pub one_number : seat.me.0.numbers ≡ number_of seat.me.0 ∷ []
 
 -- What a note shows: its lock, and the history that was seen.
 pub record NoteData (Request Answer : Type 0) : Type 0 where
   pub lock : TableId
   pub seen : List (Entry Request Answer)
 
-module _ {State Request Answer : Type 0} where
-  abbrev pub note_data : Seat (Desk State Request) (View State Request Answer) → NoteData Request Answer
-  note_data note = record { lock = note.table_id; seen = note.me.0.seen }
+-- what a note shows, by what its place knows
+abbrev pub note_data : {State Request Answer : Type 0} → Seat (Desk State Request) (View State Request Answer) → NoteData Request Answer
+note_data note = record { lock = note.table_id; seen = note.me.0.seen }
 
-  -- It is in no call, and has no number.
-  pub record IsNote (note : Seat (Desk State Request) (View State Request Answer)) : Type 0 where
-    pub empty : note.me.1 ≡ []
-    pub idle : note.me.0.stage ≡ Idle
-    pub no_number : note.me.0.numbers ≡ []
+-- It is in no call, and has no number.
+pub record IsNote {State Request Answer : Type 0} (note : Seat (Desk State Request) (View State Request Answer)) : Type 0 where
+  pub empty : note.me.1 ≡ []
+  pub idle : note.me.0.stage ≡ Idle
+  pub no_number : note.me.0.numbers ≡ []

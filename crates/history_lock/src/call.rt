@@ -1,8 +1,8 @@
 //! Calls on a lock.
 
-ghost use Rattle.std.specs.Prelude.{◌≡◌, ◌≤◌, [], ◌∷◌, ◌++◌, true, false, OnOk, OnErr, IfOk, IfErr};
-ghost use Rattle.history_lock.specs.History.{IsLegal, entries_of};
-ghost use Rattle.history_lock.specs.Calls.{GoesOnTo, IsNumbered, IsRefused, asked_by};
+ghost use Rattle.std.specs.Prelude.{◌≡◌, ◌≤◌, [], OnOk, OnErr, IfOk, IfErr};
+ghost use Rattle.history_lock.specs.History.{IsLegal};
+ghost use Rattle.history_lock.specs.Calls.{AddsOwn, FoundFull, IsNumbered, IsRefused, OnlyCalled, OnlyTried, SeesAnswers};
 ghost use Rattle.history_lock.specs.CallsInside.{IsMade};
 ghost use Rattle.history_lock.specs.Seats.{IsAt, IsSame, IsResting, seat_data};
 
@@ -35,12 +35,11 @@ fn call_at<M: Machine, R: Wait>(
     ensures made { IfOk result (λ n. IsMade M.step M.Fits
         (seat_data start.now.value.machine.value place.old) n request.now out.new.items
         (seat_data start.now.value.machine.value place.new)) }
-    ensures rest { OnOk result (seat_data start.now.value.machine.value place.new
-        ≡ record (seat_data start.now.value.machine.value place.old)
-        { seen = place.new.me.0.seen; ticket_full = false }) }
-    ensures full { OnErr result ((seat_data start.now.value.machine.value place.new
-        ≡ record (seat_data start.now.value.machine.value place.old) { ticket_full = true })
-        × (out.new ≡ out.old)) }
+    ensures rest { OnOk result (OnlyCalled (seat_data start.now.value.machine.value place.old)
+        (seat_data start.now.value.machine.value place.new)) }
+    ensures full { OnErr result (FoundFull (seat_data start.now.value.machine.value place.old)
+        (seat_data start.now.value.machine.value place.new)) }
+    ensures kept { OnErr result (out.new ≡ out.old) }
     ensures places { out.new.places ≡ out.old.places }
 {
     let Some(ticket) = queue(rt, top, place) else {
@@ -68,9 +67,8 @@ fn try_at<M: Machine>(
     ensures made { IfOk result (λ n. IsMade M.step M.Fits
         (seat_data start.now.value.machine.value place.old) n request.now out.new.items
         (seat_data start.now.value.machine.value place.new)) }
-    ensures rest { OnOk result (seat_data start.now.value.machine.value place.new
-        ≡ record (seat_data start.now.value.machine.value place.old)
-        { seen = place.new.me.0.seen; serving_full = false }) }
+    ensures rest { OnOk result (OnlyTried (seat_data start.now.value.machine.value place.old)
+        (seat_data start.now.value.machine.value place.new)) }
     ensures refused { IfErr result (λ fault. IsRefused (seat_data start.now.value.machine.value
         place.old) fault (seat_data start.now.value.machine.value place.new)) }
     ensures kept { OnErr result (out.new ≡ out.old) }
@@ -98,15 +96,11 @@ impl<M: Machine> HistoryLock<M> {
         requires places { M.room seat.old.first ≤ out.old.places }
         ensures legal { OnOk result (IsLegal M.step M.Fits seat.old.first seat.new.seen) }
         ensures number { IfOk result (λ n. IsNumbered n seat.new.seen) }
-        ensures seen { OnOk result (GoesOnTo seat.old.seen
-            (asked_by seat.old request.now out.new.items) seat.new.seen) }
-        ensures own { OnOk result (entries_of seat.old.number seat.new.seen
-            ≡ entries_of seat.old.number seat.old.seen ++ asked_by seat.old request.now
-            out.new.items ∷ []) }
-        ensures rest { OnOk result (seat.new ≡ record seat.old
-            { seen = seat.new.seen; ticket_full = false }) }
-        ensures full { OnErr result ((seat.new ≡ record seat.old { ticket_full = true })
-            × (out.new ≡ out.old)) }
+        ensures seen { OnOk result (SeesAnswers seat.old request.now out.new.items seat.new) }
+        ensures own { OnOk result (AddsOwn seat.old request.now out.new.items seat.new) }
+        ensures rest { OnOk result (OnlyCalled seat.old seat.new) }
+        ensures full { OnErr result (FoundFull seat.old seat.new) }
+        ensures kept { OnErr result (out.new ≡ out.old) }
         ensures places { out.new.places ≡ out.old.places }
     {
         call_at(
@@ -132,13 +126,9 @@ impl<M: Machine> HistoryLock<M> {
         requires places { M.room seat.old.first ≤ out.old.places }
         ensures legal { OnOk result (IsLegal M.step M.Fits seat.old.first seat.new.seen) }
         ensures number { IfOk result (λ n. IsNumbered n seat.new.seen) }
-        ensures seen { OnOk result (GoesOnTo seat.old.seen
-            (asked_by seat.old request.now out.new.items) seat.new.seen) }
-        ensures own { OnOk result (entries_of seat.old.number seat.new.seen
-            ≡ entries_of seat.old.number seat.old.seen ++ asked_by seat.old request.now
-            out.new.items ∷ []) }
-        ensures rest { OnOk result (seat.new ≡ record seat.old
-            { seen = seat.new.seen; serving_full = false }) }
+        ensures seen { OnOk result (SeesAnswers seat.old request.now out.new.items seat.new) }
+        ensures own { OnOk result (AddsOwn seat.old request.now out.new.items seat.new) }
+        ensures rest { OnOk result (OnlyTried seat.old seat.new) }
         ensures refused { IfErr result (λ fault. IsRefused seat.old fault seat.new) }
         ensures kept { OnErr result (out.new ≡ out.old) }
         ensures places { out.new.places ≡ out.old.places }

@@ -1,10 +1,11 @@
 //! The end of a lock.
 
-ghost use Rattle.std.specs.Prelude.{◌≡◌, ◌<◌, ◌≤◌, ◌^◌, ℕ, true, [], length, All, Contains};
+ghost use Rattle.std.specs.Prelude.{◌≡◌, ◌<◌, ◌≤◌, ◌^◌, ℕ, [], length, All, Contains};
 ghost use mathlib.Core.List.{IsPrefix};
 ghost use Rattle.history_lock.specs.declared.view.Stage.TheVariants.{Idle};
-ghost use Rattle.history_lock.specs.History.{run, IsLegal, entries_of};
-ghost use Rattle.history_lock.specs.Closing.{HasAll, IsOf};
+ghost use Rattle.history_lock.specs.History.{run, IsLegal};
+ghost use Rattle.history_lock.specs.Calls.{HasOwn};
+ghost use Rattle.history_lock.specs.Closing.{FullByServing, FullByTicket, HasAll, IsOf};
 ghost use Rattle.history_lock.specs.ClosingInside.{Covers, IsEnded, IsTaken};
 ghost use Rattle.history_lock.specs.Seats.{IsAt, SeatData};
 
@@ -86,13 +87,10 @@ impl<M: Machine> HistoryLock<M> {
         ensures entries { result.entries ≡ length result.past }
         ensures limit { result.entries ≤ 2 ^ 62 }
         ensures seen { All (λ seat. IsPrefix seat.seen result.past) seats.items }
-        ensures own { All (λ seat. entries_of seat.number result.past
-            ≡ entries_of seat.number seat.seen) seats.items }
+        ensures own { All (HasOwn result.past) seats.items }
         ensures by_seats { All (λ entry. entry.seat < self.seats) result.past }
-        ensures ticket_full { All (λ seat. seat.ticket_full ≡ true
-            → result.entries ≡ 2 ^ 62) seats.items }
-        ensures serving_full { All (λ seat. seat.serving_full ≡ true
-            → result.entries ≡ 2 ^ 62) seats.items }
+        ensures ticket_full { All (FullByTicket result.entries) seats.items }
+        ensures serving_full { All (FullByServing result.entries) seats.items }
     {
         let HistoryLock { table, seats: _ } = self;
         let place = gather(&table.shared, seats);

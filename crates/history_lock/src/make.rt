@@ -1,11 +1,11 @@
 //! A new lock with its seats.
 
-ghost use Rattle.std.specs.Prelude.{◌≡◌, ℕ, ◌+◌, ◌<◌, ◌≤◌, [], ◌∷◌, length, IfOk, Some, None, slice_get};
+ghost use Rattle.std.specs.Prelude.{◌≡◌, ◌<◌, ◌≤◌, [], length, IfOk, Some};
 ghost use Rattle.history_lock.specs.declared.view.Stage.TheVariants.{Idle};
 ghost use Rattle.history_lock.specs.Plays.{fresh, gave};
 ghost use Rattle.history_lock.specs.Rule.{maker};
-ghost use Rattle.history_lock.specs.Seats.{IsAt, IsSame, IsResting, seat_data};
-ghost use Rattle.history_lock.specs.Locks.{lock_data, new_seat};
+ghost use Rattle.history_lock.specs.Seats.{IsAt, IsSame};
+ghost use Rattle.history_lock.specs.Locks.{AreNew, new_seat};
 
 use crate::lock::HistoryLock;
 use crate::machine::Machine;
@@ -68,8 +68,7 @@ impl<M: Machine + Drop> HistoryLock<M> {
         requires seats { (0 < seats) × (seats ≤ 4096) }
         ensures lock { IfOk result (λ made. (made.0.first ≡ machine) × (made.0.seats ≡ seats)) }
         ensures count { IfOk result (λ made. length made.1.items ≡ seats) }
-        ensures each { IfOk result (λ made. (k : ℕ) → k < seats
-            → slice_get made.1.items k ≡ Some (new_seat made.0.id machine k)) }
+        ensures each { IfOk result (λ made. AreNew made.0.id machine seats made.1.items) }
     {
         let mut all = Vec::with_capacity(alloc, seats as usize)?;
         let start = Start {

@@ -2,7 +2,7 @@
 
 ghost use Rattle.std.specs.Prelude.{◌≡◌, ◌⊎◌};
 ghost use mathlib.Core.List.{IsPrefix};
-ghost use Rattle.history_lock.specs.History.{entries_of};
+ghost use Rattle.history_lock.specs.Calls.{HasOwn};
 
 use crate::lock::HistoryLock;
 use crate::machine::Machine;
@@ -29,8 +29,7 @@ impl<M: Machine> HistoryLock<M> {
         ensures own { IsPrefix seat.old.seen seat.new.seen }
         ensures met { IsPrefix note.seen seat.new.seen }
         ensures no_more { (seat.new.seen ≡ seat.old.seen) ⊎ (seat.new.seen ≡ note.seen) }
-        ensures entries { entries_of seat.old.number seat.new.seen
-            ≡ entries_of seat.old.number seat.old.seen }
+        ensures entries { HasOwn seat.new.seen seat.old }
         ensures rest { seat.new ≡ record seat.old { seen = seat.new.seen } }
     {
         let Note { place: note } = note;
