@@ -2,7 +2,7 @@
 use Rattle.std.specs.Prelude.{◌||◌, nat_lt, ◌≡◌, ℕ, ◌<◌, ◌≤◌, ◌^◌, ◌==◌, if◌then◌else◌, List, [], ◌∷◌, ◌++◌, length, slice_index, All, Option, Some, None, IfSome, MatchBool, false, ◌+◌}
 use Rattle.std.specs.Option.{option_map, unwrap_or}
 use mathlib.Core.List.{IsPrefix}
-use Rattle.std.specs.declared.snapshot.Snapshot.{Snapshot}
+use Rattle.history_lock.specs.declared.told.Told.{Told}
 use Rattle.atomic_table.specs.Table.{Me, Step}
 use Rattle.history_lock.specs.declared.entry.Entry.{Entry}
 use Rattle.history_lock.specs.declared.view.Desk.{Desk}
@@ -51,7 +51,7 @@ longer xs ys = if nat_lt (length xs) (length ys) then ys else xs
 
 -- what was asked last
 abbrev pub IsAsked : {State Request : Type 0} → Desk State Request → Request → Type 0
-IsAsked {State} {Request} desk request = (asked : Snapshot Request) × (desk.asked ≡ Some asked) × (asked.value ≡ request)
+IsAsked {State} {Request} desk request = (asked : Told Request) × (desk.asked ≡ Some asked) × (asked.value ≡ request)
 
 -- it asked this, which ends the history, and its turn is over
 abbrev pub ended : {State Request Answer : Type 0} (step : State → Request → Stepped State Answer) → State → View State Request Answer → Request → View State Request Answer

@@ -12,9 +12,9 @@ use crate::machine::Machine;
 use crate::out_box::OutBox;
 use crate::rule::{Place, Top};
 use crate::seat::Seat;
+use crate::told::Told;
 use crate::turns::{answer, enter, queue, seize, take_turn};
 use crate::view::Start;
-use std::snapshot::Snapshot;
 use std::sync::Wait;
 
 /// One call, at a seat's place.
@@ -22,7 +22,7 @@ fn call_at<M: Machine, R: Wait>(
     rt: &R,
     top: &Top<M>,
     place: &mut Place<M>,
-    start: &Snapshot<Start<M>>,
+    start: &Told<Start<M>>,
     request: &M::Request,
     out: &mut OutBox<M::Answer>,
 ) -> Result<u64, CallFault>
@@ -54,7 +54,7 @@ fn call_at<M: Machine, R: Wait>(
 fn try_at<M: Machine>(
     top: &Top<M>,
     place: &mut Place<M>,
-    start: &Snapshot<Start<M>>,
+    start: &Told<Start<M>>,
     request: &M::Request,
     out: &mut OutBox<M::Answer>,
 ) -> Result<u64, TryFault>

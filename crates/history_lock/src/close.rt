@@ -14,8 +14,8 @@ use crate::machine::Machine;
 use crate::rule::{LockTable, Place, Top};
 use crate::seat::{Closed, Past, Seat};
 use crate::steps::{look, take_seat};
+use crate::told::Told;
 use crate::view::Desk;
-use std::snapshot::Snapshot;
 
 /// The place of a seat, to which others are joined.
 fn begin<M: Machine>(seat: Seat<M>) -> Place<M>
@@ -95,7 +95,7 @@ impl<M: Machine> HistoryLock<M> {
         let HistoryLock { table, seats: _ } = self;
         let place = gather(&table.shared, seats);
         let past = Past {
-            last: Snapshot::of(&place),
+            last: Told::of(&place),
         };
         let (machine, entries) = unlock(table, place);
         Closed {

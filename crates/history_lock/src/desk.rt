@@ -5,8 +5,8 @@ ghost use Rattle.history_lock.specs.Plays.{IsAsked};
 
 use crate::machine::Machine;
 use crate::out_box::OutBox;
+use crate::told::Told;
 use crate::view::Desk;
-use std::snapshot::Snapshot;
 
 /// Works a request.
 pub fn work<M: Machine>(
@@ -26,5 +26,5 @@ pub fn work<M: Machine>(
         → M.Fits desk.new.machine other }
 {
     desk.machine.step(request, out);
-    desk.asked = Some(Snapshot::of(request));
+    desk.asked = Some(Told::of(request));
 }

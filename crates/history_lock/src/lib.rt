@@ -22,6 +22,7 @@ mod seat;
 mod steps;
 #[cfg(test)]
 mod tests;
+mod told;
 mod turns;
 mod view;
 

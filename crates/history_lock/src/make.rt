@@ -12,10 +12,10 @@ use crate::machine::Machine;
 use crate::plays::NewSeat;
 use crate::rule::{LockTable, Place, Top};
 use crate::seat::Seat;
+use crate::told::Told;
 use crate::view::{Desk, Start};
 use atomic_table::Table;
 use std::alloc::{AllocError, Global};
-use std::snapshot::Snapshot;
 
 /// A table with the machine, and the place of the maker of its seats.
 fn lay<M: Machine + Drop>(
@@ -53,7 +53,7 @@ fn give<M: Machine>(top: &Top<M>, maker: &mut Place<M>, start: &Start<M>, number
 {
     Seat {
         place: top.split_seat::<NewSeat>(maker),
-        start: Snapshot::of(start),
+        start: Told::of(start),
     }
 }
 
@@ -72,7 +72,7 @@ impl<M: Machine + Drop> HistoryLock<M> {
     {
         let mut all = Vec::with_capacity(alloc, seats as usize)?;
         let start = Start {
-            machine: Snapshot::of(&machine),
+            machine: Told::of(&machine),
             seats,
         };
         let (table, mut maker) = lay(alloc, machine, &start)?;

@@ -13,8 +13,8 @@ use crate::plays::{
     TryTicket,
 };
 use crate::rule::{Place, Top};
+use crate::told::Told;
 use crate::view::Start;
-use std::snapshot::Snapshot;
 
 pub fn read_ticket<M: Machine>(top: &Top<M>, place: &mut Place<M>) -> u64
     requires at { IsAt top.now.table_id place.old }
@@ -71,7 +71,7 @@ pub fn await_turn<M: Machine>(top: &Top<M>, place: &mut Place<M>, ticket: u64) -
 pub fn end_turn<M: Machine>(
     top: &Top<M>,
     place: &mut Place<M>,
-    start: &Snapshot<Start<M>>,
+    start: &Told<Start<M>>,
     request: &M::Request,
 )
     requires at { IsAt top.now.table_id place.old }

@@ -1,6 +1,8 @@
-//! Machines that the tests work, the laws at one of them, and locks in one thread and in several.
+//! Machines that the tests work, the laws at one of them, and a lock in one thread.
 
 ghost use Rattle.std.specs.Prelude.{◌≡◌, ◌+◌, ◌%◌, ◌^◌, ◌≤◌, [], ◌∷◌, IfOk, replicate};
+
+mod threads;
 
 use crate::{
     CallFault, Closed, HistoryLock, Machine, OutBox, Seat, fronts_are_legal, requests_fix_answers,

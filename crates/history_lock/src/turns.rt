@@ -12,8 +12,8 @@ use crate::machine::Machine;
 use crate::out_box::OutBox;
 use crate::rule::{Place, Top};
 use crate::steps::{await_turn, end_turn, read_serving, read_ticket, take_ticket, try_ticket};
+use crate::told::Told;
 use crate::view::Start;
-use std::snapshot::Snapshot;
 use std::sync::Wait;
 use std::thread;
 
@@ -46,7 +46,7 @@ pub fn take_turn<M: Machine, R: Wait>(
     rt: &R,
     top: &Top<M>,
     place: &mut Place<M>,
-    start: &Snapshot<Start<M>>,
+    start: &Told<Start<M>>,
     ticket: u64,
 )
     requires at { IsAt top.now.table_id place.old }
@@ -88,12 +88,7 @@ pub fn seize<M: Machine>(top: &Top<M>, place: &mut Place<M>) -> Result<u64, TryF
 }
 
 /// Enters at once: it took the ticket that it had read of `serving`.
-pub fn enter<M: Machine>(
-    top: &Top<M>,
-    place: &mut Place<M>,
-    start: &Snapshot<Start<M>>,
-    ticket: u64,
-)
+pub fn enter<M: Machine>(top: &Top<M>, place: &mut Place<M>, start: &Told<Start<M>>, ticket: u64)
     requires at { IsAt top.now.table_id place.old }
     requires waits { place.old.me.0.stage ≡ Waits ticket }
     requires first { place.old.me.0.first ≡ Some start.now.value.machine.value }
@@ -110,7 +105,7 @@ pub fn enter<M: Machine>(
 pub fn work<M: Machine>(
     top: &Top<M>,
     place: &mut Place<M>,
-    start: &Snapshot<Start<M>>,
+    start: &Told<Start<M>>,
     request: &M::Request,
     out: &mut OutBox<M::Answer>,
 )
@@ -135,7 +130,7 @@ pub fn work<M: Machine>(
 pub fn answer<M: Machine>(
     top: &Top<M>,
     place: &mut Place<M>,
-    start: &Snapshot<Start<M>>,
+    start: &Told<Start<M>>,
     request: &M::Request,
     out: &mut OutBox<M::Answer>,
 )

@@ -2,13 +2,13 @@
 //! Word 0 is `serving`, the length of the history, and word 1 is `ticket`. The one slot has the machine.
 
 use crate::entry::Entry;
+use crate::told::Told;
 use std::collections::LinkedList;
-use std::snapshot::Snapshot;
 
 /// What a lock is told once.
 #[derive(Drop)]
 pub struct Start<M> {
-    pub machine: Snapshot<M>,
+    pub machine: Told<M>,
     pub seats: u32,
 }
 
@@ -16,7 +16,7 @@ pub struct Start<M> {
 #[derive(Drop)]
 pub struct Desk<M, Q> {
     pub machine: M,
-    pub asked: Option<Snapshot<Q>>,
+    pub asked: Option<Told<Q>>,
 }
 
 /// How far a seat is in a call.
