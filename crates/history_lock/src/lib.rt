@@ -25,6 +25,7 @@ mod tests;
 mod told;
 mod turns;
 mod view;
+mod waiting;
 
 pub use entry::Entry;
 pub use fault::{CallFault, TryFault};

@@ -9,6 +9,7 @@ use crate::{
     runs_compose, steps_stay_legal,
 };
 use std::alloc::{AllocError, Global};
+use std::hint::spin_loop;
 use std::sync::Wait;
 use std::test::Fail;
 
@@ -45,10 +46,18 @@ impl Machine for Repeater {
     }
 }
 
-/// It counts its requests from 0 on, and answers with the count before.
+/// It counts its requests from 0 on, and answers with the count before. Each takes it so long.
 #[derive(Drop)]
 struct Counter {
     count: u64,
+    pause: u32,
+}
+
+/// Takes a while.
+fn spin(times: u32) {
+    for _ in 0..times {
+        spin_loop();
+    }
 }
 
 impl Machine for Counter {
@@ -56,7 +65,7 @@ impl Machine for Counter {
 
     type Answer = u64;
 
-    ghost step = { λ counter _. record { state = record { count = (counter.count + 1) % 2 ^ 64 }; answers = counter.count ∷ [] } };
+    ghost step = { λ counter _. record { state = record counter { count = (counter.count + 1) % 2 ^ 64 }; answers = counter.count ∷ [] } };
 
     ghost Fits = { λ counter _. Unit {0} };
 
@@ -71,6 +80,7 @@ impl Machine for Counter {
     }
 
     fn step(&mut self, _request: &(), out: &mut OutBox<u64>) {
+        spin(self.pause);
         out.put(self.count);
         self.count = self.count.wrapping_add(1);
     }
@@ -118,12 +128,13 @@ fn the_laws_are_of_any_machine() {
 /// A lock round a counter, with two seats.
 fn counted(
     alloc: Global,
+    pause: u32,
 ) -> Result<(HistoryLock<Counter>, Seat<Counter>, Seat<Counter>), AllocError>
     ensures seats { IfOk result (λ made. made.0.seats ≡ 2) }
     ensures first { IfOk result (λ made. (made.1.lock ≡ made.0.id) × (made.1.number ≡ 0)) }
     ensures second { IfOk result (λ made. (made.2.lock ≡ made.0.id) × (made.2.number ≡ 1)) }
 {
-    let (lock, mut seats) = HistoryLock::new(alloc, Counter { count: 0 }, 2)?;
+    let (lock, mut seats) = HistoryLock::new(alloc, Counter { count: 0, pause }, 2)?;
     let Some(second) = seats.pop() else {
         unreachable!()
     };
@@ -181,7 +192,7 @@ fn calls<R: Wait>(
 
 #[test]
 fn two_seats_call_and_try(rt: HostRuntime) -> Result<(), Fail> {
-    let (lock, mut first, mut second) = counted(rt.alloc())?;
+    let (lock, mut first, mut second) = counted(rt.alloc(), 0)?;
     let mut out = OutBox::new(rt.alloc(), 1)?;
     assert_eq!(rt; lock.seats(), 2);
     assert_eq!(rt; lock.call(&rt, &mut first, &(), &mut out), Ok(0));

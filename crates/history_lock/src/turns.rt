@@ -14,8 +14,8 @@ use crate::rule::{Place, Top};
 use crate::steps::{await_turn, end_turn, read_serving, read_ticket, take_ticket, try_ticket};
 use crate::told::Told;
 use crate::view::Start;
+use crate::waiting::{wait, wake};
 use std::sync::Wait;
-use std::thread;
 
 /// Takes a ticket, `None` where there are no more.
 pub fn queue<M: Machine, R: Wait>(rt: &R, top: &Top<M>, place: &mut Place<M>) -> Option<u64>
@@ -56,11 +56,14 @@ pub fn take_turn<M: Machine, R: Wait>(
     ensures enters { Enters M.step M.Fits M.room place.old.me start.now.value.machine.value ticket
         place.new.me }
 {
+    let mut looks = 0u32;
     for _ in rt.forever() {
-        if await_turn(top, place, ticket) == ticket {
+        let serving = await_turn(top, place, ticket);
+        if serving == ticket {
             return;
         }
-        thread::yield_now();
+        wait(rt, top, serving, looks);
+        looks = looks.saturating_add(1);
     }
     unreachable!()
 }
@@ -126,7 +129,7 @@ pub fn work<M: Machine>(
     desk::work(desk, request, out);
 }
 
-/// Works the request, and ends the turn.
+/// Works the request, ends the turn, and wakes those that wait for theirs.
 pub fn answer<M: Machine>(
     top: &Top<M>,
     place: &mut Place<M>,
@@ -151,4 +154,5 @@ pub fn answer<M: Machine>(
 {
     work(top, place, start, request, out);
     end_turn(top, place, start, request);
+    wake(top);
 }

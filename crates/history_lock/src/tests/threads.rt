@@ -42,8 +42,9 @@ fn by_two<R: Threads + Wait + Sync>(
     rt: &R,
     alloc: Global,
     count: u64,
+    pause: u32,
 ) -> Result<(u64, u64, bool), AllocError> {
-    let (lock, first, second) = counted(alloc)?;
+    let (lock, first, second) = counted(alloc, pause)?;
     let ((first, one), (second, two)) = both_call(rt, alloc, &lock, first, second, count);
     let Closed {
         machine,
@@ -55,7 +56,13 @@ fn by_two<R: Threads + Wait + Sync>(
 
 #[test]
 fn two_threads_call_a_thousand_times_each(rt: HostRuntime) -> Result<(), Fail> {
-    assert_eq!(rt; by_two(&rt, rt.alloc(), 1000)?, (2000, 2000, true));
+    assert_eq!(rt; by_two(&rt, rt.alloc(), 1000, 0)?, (2000, 2000, true));
+    Ok(())
+}
+
+#[test]
+fn whoever_sleeps_is_woken(rt: HostRuntime) -> Result<(), Fail> {
+    assert_eq!(rt; by_two(&rt, rt.alloc(), 50, 30_000)?, (100, 100, true));
     Ok(())
 }
 
@@ -168,7 +175,7 @@ fn counted_by_four(
     ensures second { IfOk result (λ made. (made.2.0.lock ≡ made.0.id) × (made.2.1.lock ≡ made.0.id)
         × (made.2.0.number ≡ 2) × (made.2.1.number ≡ 3)) }
 {
-    let (lock, mut seats) = HistoryLock::new(alloc, Counter { count: 0 }, 4)?;
+    let (lock, mut seats) = HistoryLock::new(alloc, Counter { count: 0, pause: 0 }, 4)?;
     let Some(three) = seats.pop() else {
         unreachable!()
     };

@@ -1,0 +1,38 @@
+//! How a caller waits for its turn, and how whoever ends a turn wakes it.
+
+ghost use Rattle.std.specs.Prelude.{◌≡◌};
+
+use crate::machine::Machine;
+use crate::rule::Top;
+use std::hint::spin_loop;
+use std::sync::Wait;
+use std::thread;
+
+// How often a caller looks again at once, and how often before it sleeps.
+const SPINS: u32 = 64;
+
+const LOOKS: u32 = 128;
+
+/// Waits a little, or until `serving` isn't what was read. A turn is mostly short, so a caller looks again at once at
+/// first, then lets other threads go ahead, and sleeps at last.
+pub fn wait<M: Machine, R: Wait>(rt: &R, top: &Top<M>, serving: u64, looks: u32)
+    requires { top.now.table_id.words ≡ 2 }
+{
+    if looks < SPINS {
+        spin_loop();
+    } else if looks < LOOKS {
+        thread::yield_now();
+    } else {
+        top.park(rt, 0, (serving & 0xffff_ffff) as u32);
+    }
+}
+
+/// Wakes those that sleep, where there is a ticket that wasn't served. All of them, since one alone could be the wrong
+/// one. Whoever takes a ticket later reads `serving` later, too.
+pub fn wake<M: Machine>(top: &Top<M>)
+    requires { top.now.table_id.words ≡ 2 }
+{
+    if top.peek(0) != top.peek(1) {
+        top.wake_all(0);
+    }
+}
