@@ -2,14 +2,14 @@
 use Rattle.std.proofs.Common.{◌≡◌, ℕ, ◌≤◌, List, [], ◌∷◌, length, All, Option, Some, None, max, refl, arith}
 use Rattle.std.specs.List.{fold}
 use Rattle.std.specs.Option.{option_map, option_and_then, option_to_list}
-use Rattle.std.proofs.lemmas.List.Elements.{All-nil, All-push}
+use Rattle.std.proofs.lemmas.List.Elements.{All-nil, All-push, All-head, All-tail}
 use Rattle.swp08_messages.specs.declared.point.Point.{Point}
 use Rattle.swp08_messages.specs.declared.message.Message.TheVariants.{Interrogate, Connect, Tally, Connected}
 use Rattle.swp08_messages.specs.Text.{IsPoint, IsSource, InRange}
 use Rattle.plant_config.specs.declared.records.Point as places
 use Rattle.plant_config.specs.declared.records.Change.{Change}
 use Rattle.plant_config.specs.declared.records.Level.{Level}
-use Rattle.plant_config.specs.Plant.{PlantData, IsPlant, dest_numbers, source_numbers}
+use Rattle.plant_config.specs.Plant.{PlantData, IsLevel, IsPlant, dest_numbers, source_numbers}
 use Rattle.plant_config.specs.Sites.{Site, site_of, dest_at, point_of, source_number_of}
 use Rattle.plant_config.proofs.SiteLemmas.{dests_are, sources_are, site_of-IsSite}
 use Rattle.change_boards.specs.declared.sort.Sort.{Sort}
@@ -65,16 +65,16 @@ sayable-notice state (Some (dest, Source)) is = of_site (site_of dest_numbers st
 
 pub All-sayable : (state : State) (request : Request) → IsValid state → Fits state request → All IsSayable (step state request).answers
 All-sayable state (Told panel item (Interrogate at)) valid fits =
-    let point : IsPoint at = record { matrix = fits.2.0.0; level = fits.2.0.1; dest = fits.2.1.0 } in
+    let point : IsPoint at = record { matrix = fits.1.1.0.0; level = fits.1.1.0.1; dest = fits.1.1.1.0 } in
     All-one (Say (Tally at (standing state at))) (InRange-crosspoint at (standing state at) point (standing-IsSource state at valid.is_plant))
 All-sayable state (Told panel item (Connect at source)) valid fits = of_change (change_of state.plant at source)
   where
     point : IsPoint at
-    point = record { matrix = fits.2.0.0; level = fits.2.0.1; dest = fits.2.1.0.0 }
+    point = record { matrix = fits.1.1.0.0; level = fits.1.1.0.1; dest = fits.1.1.1.0.0 }
 
     of_change : (change : Option Change) → All IsSayable (connected state panel at source change).answers
     of_change None = All-one (Say (Tally at (standing state at))) (InRange-crosspoint at (standing state at) point (standing-IsSource state at valid.is_plant))
-    of_change (Some change) = All-one (Say (Connected at source)) fits.2
+    of_change (Some change) = All-one (Say (Connected at source)) fits.1.1
 All-sayable state (Told panel item (Tally at source)) valid fits = All-nil IsSayable
 All-sayable state (Told panel item (Connected at source)) valid fits = All-nil IsSayable
 All-sayable state (Poll panel item turn) valid fits = sayable-notice state (next (board_of state.boards panel)) valid.is_plant
@@ -93,8 +93,8 @@ few-notices state (Some (dest, Source)) =
 pub answer_count : (state : State) (request : Request) → Fits state request → IsAnswerCount request (length (step state request).answers)
 answer_count state (Told panel item (Interrogate at)) fits = refl
 answer_count state (Told panel item (Connect at source)) fits = connected-one state panel at source (change_of state.plant at source)
-answer_count state (Told panel item (Tally at source)) fits = let not = fits.1 in absurd cc
-answer_count state (Told panel item (Connected at source)) fits = let not = fits.1 in absurd cc
+answer_count state (Told panel item (Tally at source)) fits = let not = fits.1.0 in absurd cc
+answer_count state (Told panel item (Connected at source)) fits = let not = fits.1.0 in absurd cc
 answer_count state (Poll panel item turn) fits = few-notices state (next (board_of state.boards panel))
 answer_count state (Leave panel) fits = refl
 
@@ -103,6 +103,15 @@ pub at_most_one : (request : Request) (count : ℕ) → IsAnswerCount request co
 at_most_one (Told panel item message) count is = omega arith
 at_most_one (Poll panel item turn) count is = is
 at_most_one (Leave panel) count is = omega arith
+
+-- no level has more destinations
+pub room_within : (plant : PlantData) → IsPlant plant → room_of plant ≤ 1024
+room_within plant is = go plant.levels 64 is.each_level (omega arith)
+  where
+    go : (levels : List Level) (most : ℕ) → All IsLevel levels → most ≤ 1024 → fold (λ most (level : Level). max most level.destinations) most levels ≤ 1024
+    go [] most all within = within
+    go (level ∷ levels) most all within =
+        go levels (max most level.destinations) (All-tail IsLevel level levels all) (omega (arith, within, (All-head IsLevel level levels all).destinations.most))
 
 pub room_some : (plant : PlantData) → 64 ≤ room_of plant
 room_some plant = go plant.levels 64

@@ -4,6 +4,7 @@ use Rattle.std.specs.Option.{option_map, option_and_then, option_eq}
 use Rattle.std.specs.Ordering.{nat_cmp}
 use Rattle.std.specs.FinMap.{FinMap, empty, get, insert, remove}
 use Rattle.swp08_messages.specs.declared.point.Point.{Point}
+use Rattle.swp08_messages.specs.declared.message.Message.{Message}
 use Rattle.swp08_messages.specs.declared.message.MessageKind.TheVariants.{Plant}
 use Rattle.swp08_messages.specs.Text.{InRange, kind_of}
 use Rattle.plant_config.specs.Plant.{PlantData, IsPlant, destinations_of}
@@ -99,10 +100,13 @@ pub record IsChangeOf (plant : PlantData) (change : Change) : Type 0 where
   pub dest : change.dest < destinations_of plant
   pub source : IfSome change.source (IsCrosspoint plant change.dest)
 
--- A request fits a plant where its panel is in it; a message that is told asks something of the plant, and is in its
--- ranges.
+-- A message is for the plant where it asks something of it, and is in its ranges.
+abbrev pub IsForPlant : Message → Type 0
+IsForPlant message = (kind_of message ≡ Plant) × InRange message
+
+-- A request fits a plant where its panel is in it, and a message that is told is for the plant.
 abbrev pub FitsPlant : PlantData → Request → Type 0
-FitsPlant plant (Told panel item message) = (panel < length plant.panels) × (kind_of message ≡ Plant) × InRange message
+FitsPlant plant (Told panel item message) = (panel < length plant.panels) × IsForPlant message
 FitsPlant plant (Poll panel item turn) = panel < length plant.panels
 FitsPlant plant (Leave panel) = panel < length plant.panels
 

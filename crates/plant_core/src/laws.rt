@@ -1,6 +1,6 @@
 //! What is true of every step from every valid state, not only of those that a program makes.
 
-ghost use Rattle.std.specs.Prelude.{◌≡◌, ℕ, List, [], ◌∷◌, length, All, Option, None, IsNone};
+ghost use Rattle.std.specs.Prelude.{◌≡◌, ℕ, ◌≤◌, List, [], ◌∷◌, length, All, Option, None, IsNone};
 ghost use Rattle.swp08_messages.specs.declared.point.Point.{Point};
 ghost use Rattle.swp08_messages.specs.declared.message.Message.{Message};
 ghost use Rattle.swp08_messages.specs.declared.message.Message.TheVariants.{Interrogate, Connect};
@@ -11,7 +11,7 @@ ghost use Rattle.plant_core.specs.declared.request.Request.{Request};
 ghost use Rattle.plant_core.specs.declared.request.Request.TheVariants.{Told, Poll};
 ghost use Rattle.plant_core.specs.State.{State, IsValid, IsChangeOf, Fits, start, applied};
 ghost use Rattle.plant_core.specs.Step.{step};
-ghost use Rattle.plant_core.specs.Answer.{IsSayable, IsAnswerCount};
+ghost use Rattle.plant_core.specs.Answer.{IsSayable, IsAnswerCount, room_of};
 ghost use Rattle.plant_core.specs.Laws.{AnswersWith, IsConnectable, IsMade, IsNotMade, LeavesAlone, after};
 
 /// The state at the start is valid, every step leaves a valid state, and no step changes the plant. A list of changes
@@ -59,12 +59,13 @@ pub fn interrogates_only_ask()
 {}
 
 /// A message that asks something has one answer, a poll at most one, and a leave none. From a valid state each answer can
-/// be spelled.
+/// be spelled. No plant asks for room for more than 1,024 answers.
 pub fn answers_are_few()
     ensures count { (state : State) (request : Request) →
         Fits state request → IsAnswerCount request (length (step state request).answers) }
     ensures sayable { (state : State) (request : Request) →
         IsValid state → Fits state request → All IsSayable (step state request).answers }
+    ensures room { (plant : PlantData) → IsPlant plant → room_of plant ≤ 1024 }
 {}
 
 /// The numbers of items and turns have no effect.

@@ -1,4 +1,4 @@
-use Rattle.plant_core.proofs.AnswerLemmas.{All-sayable, answer_count}
+use Rattle.plant_core.proofs.AnswerLemmas.{All-sayable, answer_count, room_within}
 use Rattle.plant_core.proofs.laws.answers_are_few.Goals as goal
 
 pub returns-clause-count : goal.returns-clause-count
@@ -6,3 +6,6 @@ returns-clause-count c = answer_count
 
 pub returns-clause-sayable : goal.returns-clause-sayable
 returns-clause-sayable c = All-sayable
+
+pub returns-clause-room : goal.returns-clause-room
+returns-clause-room c = room_within
