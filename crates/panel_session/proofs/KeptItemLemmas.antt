@@ -16,7 +16,8 @@ use Rattle.panel_session.specs.declared.asked.Asked.TheVariants.{Nothing, Repeat
 use Rattle.panel_session.specs.declared.stage.Stage.{Stage}
 use Rattle.panel_session.specs.declared.stage.Stage.TheVariants.{Read, Tell, Poll as PollStage, End}
 use Rattle.panel_session.specs.Entry.{PlantEntry}
-use Rattle.panel_session.specs.Asked.{Asks, sent_to_plant, IsForPlant}
+use Rattle.plant_core.specs.State.{IsForPlant}
+use Rattle.panel_session.specs.Asked.{Asks, sent_to_plant}
 use Rattle.panel_session.specs.Turns.{bytes_of}
 use Rattle.panel_session.specs.Text.{Output, frames_of, with_frames, nothing_sent, output_from, polled_at, with_control, repeated, with_polls}
 use Rattle.panel_session.specs.OutgoingInside.{emptied}

@@ -2,12 +2,12 @@
 use Rattle.std.specs.Prelude.{◌≡◌, ◌≢◌, ℕ, ◌^◌, ◌<◌, List, [], ◌++◌, length, take}
 use Rattle.dle_framing.specs.Items.{items}
 use Rattle.plant_config.specs.Plant.{PlantData}
+use Rattle.plant_core.specs.State.{FitsPlant}
 use Rattle.plant_core.specs.declared.request.Request.{Request}
 use Rattle.plant_core.specs.declared.request.Request.TheVariants.{Told, Poll, Leave}
 use Rattle.panel_session.specs.declared.act.Act.{Act}
 use Rattle.panel_session.specs.declared.act.Act.TheVariants.{Send, Ask, Rest}
 use Rattle.panel_session.specs.declared.session.Session.{Session}
-use Rattle.panel_session.specs.Asked.{IsForPlant}
 use Rattle.panel_session.specs.SoFar.{Past, read_so_far, entries_so_far, with_bytes, with_sent, with_turn, IsOver}
 use Rattle.panel_session.specs.Text.{IsText}
 use Rattle.panel_session.specs.Session.{StandsFor, Awaits, outgoing_of, outbox_of}
@@ -20,12 +20,6 @@ pub record MayGoOn (past : Past) (piece : List ℕ) : Type 0 where
   pub turns : length past.turns < 2 ^ 62
   pub rest : past.now.polls ≢ [] → piece ≡ []
 
--- A plant takes a request: its panel is in the plant, and its message asks something of the plant and is in its ranges.
-abbrev pub IsTaken : PlantData → Request → Type 0
-IsTaken plant (Told panel item message) = (panel < length plant.panels) × IsForPlant message
-IsTaken plant (Poll panel item turn) = panel < length plant.panels
-IsTaken plant (Leave panel) = panel < length plant.panels
-
 -- A told request comes before all polls of the turn, and a poll once the piece is used up.
 abbrev pub IsInPlace : Past → Request → ℕ → List ℕ → Type 0
 IsInPlace now (Told panel item message) used piece = now.now.polls ≡ []
@@ -33,7 +27,7 @@ IsInPlace now (Poll panel item turn) used piece = used ≡ length piece
 IsInPlace now (Leave panel) used piece = ⊥
 
 -- What `act` does behind a past that now has the bytes that it used. `Send`: some bytes are to be sent, and once they are,
--- all of the session's text so far is. `Ask`: a request that the plant takes is to be answered into the
+-- all of the session's text so far is. `Ask`: a request that fits the plant is to be answered into the
 -- outbox, which is empty. `Rest`: the piece is used up and the turn is over.
 abbrev pub Acts : PlantData → ℕ → Past → List ℕ → ℕ → Act → Session → Type 0
 Acts plant panel now piece used Send session =
@@ -43,7 +37,7 @@ Acts plant panel now piece used Send session =
 Acts plant panel now piece used (Ask request) session =
     Awaits plant panel session now request
     × (outbox_of session ≡ record { items = []; places = most_answers })
-    × IsTaken plant request
+    × FitsPlant plant request
     × IsInPlace now request used piece
     × IsText plant (items (read_so_far now)) (entries_so_far now) now.sent
 Acts plant panel now piece used Rest session =

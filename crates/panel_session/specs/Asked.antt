@@ -4,16 +4,12 @@ use Rattle.dle_framing.specs.declared.item.Item.{Item}
 use Rattle.dle_framing.specs.declared.item.Item.TheVariants.{Good, Bad, Ack, Nak}
 use Rattle.swp08_messages.specs.declared.message.Message.{Message}
 use Rattle.swp08_messages.specs.declared.message.MessageKind.TheVariants.{Plant}
-use Rattle.swp08_messages.specs.Text.{InRange, kind_of}
+use Rattle.swp08_messages.specs.Text.{kind_of}
 use Rattle.swp08_messages.specs.Spelled.{Spells}
 use Rattle.panel_session.specs.declared.asked.Asked.{Asked}
 use Rattle.panel_session.specs.declared.asked.Asked.TheVariants.{Nothing, Repeat, Refused, Noted, Sent}
 use Rattle.plant_core.specs.declared.request.Request.{Request}
 use Rattle.plant_core.specs.declared.request.Request.TheVariants.{Told}
-
--- A message asks something of the plant, and is in its ranges.
-abbrev pub IsForPlant : Message → Type 0
-IsForPlant message = (kind_of message ≡ Plant) × InRange message
 
 -- A good frame sends the plant the message that its DATA spell, where that asks something of the plant; else it is noted.
 abbrev pub GoodAsks : List ℕ → Asked → Type 0

@@ -1,5 +1,5 @@
 -- A turn that is on its way.
-use Rattle.std.specs.Prelude.{◌≡◌, ◌≢◌, ℕ, List, [], ◌++◌}
+use Rattle.std.specs.Prelude.{◌≡◌, ◌≢◌, ℕ, List, [], ◌++◌, All}
 use Rattle.history_lock.specs.History.{run, IsLegal}
 use Rattle.history_lock.specs.Step.{Stepped}
 use Rattle.plant_config.specs.Plant.{PlantData}
@@ -8,14 +8,16 @@ use Rattle.plant_core.specs.declared.request.Request.{Request}
 use Rattle.panel_session.specs.declared.session.Session.{Session}
 use Rattle.panel_session.specs.Session.{StandsFor}
 use Rattle.panel_session.specs.SoFar.{Past}
+use Rattle.panel_session.specs.Turns.{entries_in}
 
-module _ {State : Type 0} (step : State → Request → Stepped State Answer) (Fits : State → Request → Type 0) where
-  -- So far the session stands for this past of the turn, and this is left of the piece.
-  pub record IsUnderWay (plant : PlantData) (panel : ℕ) (past : Past) (piece : List ℕ) (machine machine_now : State) (session_now : Session) (rest : List ℕ) (now : Past) (more : List ℕ) : Type 0 where
-    pub turns : now.turns ≡ past.turns
-    pub piece_is : now.now.piece ++ rest ≡ piece
-    pub idle : now.now.polls ≢ [] → rest ≡ []
-    pub sent : now.sent ≡ past.sent ++ more
-    pub legal : IsLegal step Fits machine (now.now.told ++ now.now.polls)
-    pub machine_is : machine_now ≡ run step machine (now.now.told ++ now.now.polls)
-    pub stands : StandsFor plant panel session_now now
+-- So far the session stands for this past of the turn, and this is left of the piece.
+pub record IsUnderWay {State : Type 0} (step : State → Request → Stepped State Answer) (Fits : State → Request → Type 0)
+    (plant : PlantData) (panel : ℕ) (past : Past) (piece : List ℕ) (machine machine_now : State) (session_now : Session) (rest : List ℕ) (now : Past) (more : List ℕ) : Type 0 where
+  pub turns : now.turns ≡ past.turns
+  pub piece_is : now.now.piece ++ rest ≡ piece
+  pub idle : now.now.polls ≢ [] → rest ≡ []
+  pub sent : now.sent ≡ past.sent ++ more
+  pub seats : All (λ entry. entry.seat ≡ panel) (entries_in now.now)
+  pub legal : IsLegal step Fits machine (entries_in now.now)
+  pub machine_is : machine_now ≡ run step machine (entries_in now.now)
+  pub stands : StandsFor plant panel session_now now

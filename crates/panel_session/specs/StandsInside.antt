@@ -5,12 +5,13 @@ use Rattle.dle_framing.specs.declared.item.Item.{Item}
 use Rattle.dle_framing.specs.Items.{items}
 use Rattle.plant_core.specs.declared.request.Request.{Request}
 use Rattle.plant_core.specs.declared.request.Request.TheVariants.{Poll}
+use Rattle.plant_core.specs.State.{IsForPlant}
 use Rattle.panel_session.specs.declared.asked.Asked.{Asked}
 use Rattle.panel_session.specs.declared.asked.Asked.TheVariants.{Nothing, Repeat, Refused, Noted, Sent}
 use Rattle.panel_session.specs.declared.stage.Stage.{Stage}
 use Rattle.panel_session.specs.declared.stage.Stage.TheVariants.{Read, Tell, Poll as PollStage, End}
 use Rattle.panel_session.specs.Entry.{PlantEntry}
-use Rattle.panel_session.specs.Asked.{AllAsk, sent_to_plant, IsForPlant}
+use Rattle.panel_session.specs.Asked.{AllAsk, sent_to_plant}
 use Rattle.panel_session.specs.Turns.{bytes_of, EndIn, AreTurns, ArePolls}
 use Rattle.panel_session.specs.Text.{Output, nothing_sent, output_from, told_at, polled_at}
 use Rattle.panel_session.specs.OutgoingInside.{emptied}

@@ -20,9 +20,12 @@ pub record Turn : Type 0 where
 abbrev pub bytes_of : List Turn → List ℕ
 bytes_of turns = flat_map (λ turn. turn.piece) turns
 
--- the entries, in order
+-- the entries of a turn, and of turns, in order
+abbrev pub entries_in : Turn → List PlantEntry
+entries_in turn = turn.told ++ turn.polls
+
 abbrev pub entries_of : List Turn → List PlantEntry
-entries_of turns = flat_map (λ turn. turn.told ++ turn.polls) turns
+entries_of turns = flat_map entries_in turns
 
 -- A turn polls until a poll has no answer, and at most 32 times.
 pub record ArePolls (poll : Request) (polls : List PlantEntry) : Type 0 where

@@ -8,6 +8,7 @@ mod asked;
 mod counts;
 mod laws;
 mod outgoing;
+mod outlet;
 mod session;
 mod stage;
 mod turn;
@@ -15,6 +16,7 @@ mod turn;
 pub use act::Act;
 pub use counts::Counts;
 pub use laws::stands_so_far;
+pub use outlet::Outlet;
 pub use session::Session;
 pub use turn::run_turn;
 

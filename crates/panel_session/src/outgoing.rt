@@ -132,9 +132,15 @@ impl Outgoing {
         ensures output { self.new ≡ with_frame (frame (text message)) self.old }
         ensures most { length self.new.bytes ≤ length self.old.bytes + most_message_frame }
     {
-        spell_frame(message, &mut self.spelled, &mut self.last);
-        append(&mut self.bytes, &self.last);
-        self.repeats = 0;
+        let Outgoing {
+            bytes,
+            last,
+            repeats,
+            spelled,
+        } = self;
+        spell_frame(message, spelled, last);
+        append(bytes, last);
+        *repeats = 0;
     }
 }
 

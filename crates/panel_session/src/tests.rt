@@ -1,6 +1,7 @@
 //! Sessions against a tiny machine.
 
 mod board;
+mod turns;
 
 use crate::{Act, Session};
 use board::Board;

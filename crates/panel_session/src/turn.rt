@@ -1,8 +1,6 @@
-//! A whole turn of a session, over any machine that takes the plant's requests and any sink.
+//! A whole turn of a session, over any machine that takes the plant's requests and any outlet.
 
-ghost use Rattle.std.specs.Prelude.{◌≡◌, ◌≤◌, [], not, All};
-ghost use Rattle.std.specs.Bool.{OnTrue};
-ghost use Rattle.ctl_io.specs.Faults.{counted};
+ghost use Rattle.std.specs.Prelude.{◌≡◌, ◌≤◌, [], All};
 ghost use Rattle.plant_core.specs.Answer.{IsSayable};
 ghost use Rattle.plant_core.specs.declared.request.Request.{Request};
 ghost use Rattle.panel_session.specs.CallsLeft.{IsNearer};
@@ -11,34 +9,29 @@ ghost use Rattle.panel_session.specs.Session.{outbox_of, TakesAnswers};
 ghost use Rattle.panel_session.specs.MostAnswers.{most_answers};
 
 use crate::act::Act;
+use crate::outlet::Outlet;
 use crate::session::Session;
-use ctl_io::{Sink, write_all};
 use history_lock::Machine;
 use plant_core::{Answer, Request};
 
-/// Works one turn of a session with this piece: the machine works what the session asks, and the sink is written what it
-/// sends. It answers whether all was written, and takes no memory.
-pub fn run_turn<M, K>(session: &mut Session<'_>, machine: &mut M, piece: &[u8], out: &mut K) -> bool
+/// Works one turn of a session with this piece: the machine works what the session asks, and the outlet is given what it
+/// sends. It takes no memory.
+pub fn run_turn<M, O>(session: &mut Session<'_>, machine: &mut M, piece: &[u8], out: &mut O)
 where
     M: Machine<Request = Request, Answer = Answer>,
-    K: Sink,
+    O: Outlet,
     requires { IsReady M.step M.Fits M.room session.old machine.old piece.now }
-    ensures ran { OnTrue result (RunsOn M.step M.Fits M.room piece.now session.old session.new
-        machine.old machine.new (K.written out.old) (K.written out.new)) }
-    ensures count { K.faults out.new ≡ counted (not result) (K.faults out.old) }
+    ensures { RunsOn M.step M.Fits M.room O.Given piece.now session.old session.new
+        machine.old machine.new out.old out.new }
 {
     let mut rest = piece;
     loop {
         let (used, act) = session.act(rest);
         rest = &rest[used..];
         match act {
-            Act::Send => {
-                if !write_all(out, session.outgoing()) {
-                    return false;
-                }
-            }
+            Act::Send => out.give(session.outgoing()),
             Act::Ask(request) => ask(session, machine, &request),
-            Act::Rest => return true,
+            Act::Rest => return,
         }
     }
 }

@@ -1,5 +1,4 @@
 use Rattle.std.proofs.Common.{◌≡◌, ℕ, ◌+◌, ◌*◌, List, length}
-use Rattle.ctl_io.specs.Sink.{appended}
 use Rattle.plant_config.specs.Plant.{PlantData}
 use Rattle.plant_core.specs.declared.request.Request.{Request}
 use Rattle.panel_session.specs.CallsLeft.{calls_left}
@@ -11,12 +10,12 @@ use Rattle.panel_session.proofs.turn.run_turn.Given as goal
 -- The turn is under way, and the machine still takes what it took.
 abbrev pub invariant-loop-out : goal.invariant-loop-out
 invariant-loop-out g l = record {
-  way : (plant : PlantData) (panel : ℕ) (past : Past) → MayTurn g.M.Machine.step g.M.Machine.Fits g.M.Machine.room plant panel l.fn.session past l.fn.machine l.fn.piece
-      → (now : Past) × (more : List ℕ) × (g.K.Sink.written l.out ≡ appended (g.K.Sink.written l.fn.out) more)
+  way : (plant : PlantData) (panel : ℕ) (past : Past)
+      → MayTurn g.M.Machine.step g.M.Machine.Fits g.M.Machine.room plant panel l.fn.session past l.fn.machine l.fn.piece
+      → (now : Past) × (more : List ℕ) × g.O.Outlet.Given l.fn.out more l.out
       × IsUnderWay g.M.Machine.step g.M.Machine.Fits plant panel past l.fn.piece l.fn.machine l.machine l.session l.rest now more;
   fits : (request : Request) → g.M.Machine.Fits l.fn.machine request → g.M.Machine.Fits l.machine request;
   room : g.M.Machine.room l.machine ≡ g.M.Machine.room l.fn.machine;
-  count : g.K.Sink.faults l.out ≡ g.K.Sink.faults l.fn.out;
 }
 
 abbrev pub decreases-loop-out : goal.decreases-loop-out

@@ -1,0 +1,27 @@
+use Rattle.std.proofs.Common.{refl, arith, rules}
+use Rattle.dle_framing.specs.Items.{reading}
+use Rattle.plant_core.specs.declared.request.Request.TheVariants.{Told, Poll, Leave}
+use Rattle.panel_session.specs.SoFar.{nothing_yet}
+use Rattle.panel_session.proofs.tests.turns.an_outlet_is_given_what_a_turn_sends.Goals as goal
+
+pub run_turn-requires : goal.run_turn-requires
+unfolding reading
+run_turn-requires g c = record {
+  plant = c.in_ok-plant.plant;
+  panel = c.of.result;
+  past = nothing_yet;
+  may = record {
+    stands = c.in_ok-session.ensures.new;
+    begins = refl;
+    may = record { items = omega arith; turns = omega arith; rest = λ some. absurd (some refl) };
+    serves = record {
+      takes = λ request fits. tt;
+      sayable = λ history request legal fits. elim request [
+        | (Told panel item message) ↦ search rules
+        | (Poll panel item turn) ↦ search rules
+        | (Leave panel) ↦ search rules
+      ];
+      within = omega arith;
+    };
+  };
+}
