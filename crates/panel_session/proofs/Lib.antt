@@ -9,3 +9,10 @@ pub mod SessionLemmas
 pub mod FrameRoom
 pub mod LeftLemmas
 pub mod RunLemmas
+pub mod TurnOnce
+pub mod ByteEnds
+pub mod AsksExist
+pub mod TurnExists
+pub mod TurnsFit
+pub mod TurnsOnce
+pub mod NoLeaves

@@ -19,3 +19,4 @@ pub mod ReadingInside
 pub mod Lending
 pub mod Run
 pub mod RunInside
+pub mod SettledInside

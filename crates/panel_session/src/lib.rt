@@ -15,7 +15,7 @@ mod turn;
 
 pub use act::Act;
 pub use counts::Counts;
-pub use laws::stands_so_far;
+pub use laws::{one_turn, stands_so_far, turns_fit};
 pub use outlet::Outlet;
 pub use session::Session;
 pub use turn::run_turn;

@@ -1,0 +1,249 @@
+-- Each piece is worked as a turn, whatever machine takes what fits the plant.
+use Rattle.std.proofs.Common.{◌≡◌, ◌≢◌, ℕ, ◌+◌, ◌-◌, ◌<◌, ◌≤◌, ◌⊎◌, inl, inr, zero, suc, true≢false, true, false, List, [], ◌∷◌, ◌++◌, length, Option, Some, None, refl, sym, ap, ◌∙◌, subst, arith}
+use Rattle.std.specs.Prelude.{All}
+use Rattle.std.specs.Option.{option_to_list}
+use Rattle.std.proofs.lemmas.Bool.Decides.{eqb_tells}
+use Rattle.std.proofs.lemmas.List.{append-nil, append_assoc, length-append}
+use Rattle.std.proofs.lemmas.List.Elements.{All-nil, All-push}
+use Rattle.dle_framing.specs.declared.item.Item.{Item}
+use Rattle.dle_framing.specs.Items.{items}
+use Rattle.history_lock.specs.History.{run, IsLegal, entry_at}
+use Rattle.history_lock.specs.Step.{Stepped}
+use Rattle.history_lock.proofs.HistoryLemmas.{legal_snoc}
+use Rattle.swp08_messages.specs.declared.message.Message.{Message}
+use Rattle.plant_config.specs.Plant.{PlantData}
+use Rattle.plant_core.specs.State.{FitsPlant}
+use Rattle.plant_core.specs.declared.answer.Answer.{Answer}
+use Rattle.plant_core.specs.declared.request.Request.{Request}
+use Rattle.plant_core.specs.declared.request.Request.TheVariants.{Told, Poll}
+use Rattle.panel_session.specs.declared.asked.Asked.{Asked}
+use Rattle.panel_session.specs.declared.asked.Asked.TheVariants.{Nothing, Repeat, Refused, Noted, Sent}
+use Rattle.panel_session.specs.declared.stage.Stage.{Stage}
+use Rattle.panel_session.specs.declared.stage.Stage.TheVariants.{Read, Tell, Poll as PollStage, End}
+use Rattle.panel_session.specs.Entry.{PlantEntry}
+use Rattle.panel_session.specs.OutgoingInside.{emptied}
+use Rattle.panel_session.specs.Run.{IsWorked, turned}
+use Rattle.panel_session.specs.SettledInside.{Settled}
+use Rattle.panel_session.specs.SoFar.{Past, nothing_yet, unread, read_so_far, with_sent}
+use Rattle.panel_session.specs.StandsInside.{Kept, Keeps}
+use Rattle.panel_session.specs.TakenInside.{taken_output, taken_stage, sent_by}
+use Rattle.panel_session.specs.Text.{Output, nothing_sent, with_frames, frames_of}
+use Rattle.panel_session.specs.Turns.{Turn, entries_in}
+use Rattle.panel_session.proofs.AsksExist.{item_asks}
+use Rattle.panel_session.proofs.ByteEnds.{byte_ends}
+use Rattle.panel_session.proofs.KeepsLemmas.{keeps_sent, keeps_told, keeps_polled_last}
+use Rattle.panel_session.proofs.KeptItemLemmas.{taken, keeps_item, keeps_none, keeps_to_poll}
+use Rattle.panel_session.proofs.KeptTurnLemmas.{keeps_nothing, keeps_polled_more, keeps_text, keeps_turn, turn_over}
+
+-- Where nothing was done, all turns are over.
+pub settled_nothing : (panel : ℕ) → Settled panel nothing_yet
+settled_nothing panel = record { count = 0; turns = 0; output = nothing_sent; begins = refl; keeps = keeps_nothing panel }
+
+-- a request's entry, behind those of the turn, which hasn't polled
+told_behind : (told polls : List PlantEntry) (entry : PlantEntry) → polls ≡ [] → (told ++ entry ∷ []) ++ polls ≡ (told ++ polls) ++ entry ∷ []
+told_behind told polls entry none =
+    let P : List PlantEntry → Type 0 = λ polls. (told ++ entry ∷ []) ++ polls ≡ (told ++ polls) ++ entry ∷ [] in
+    subst P (sym none) (append-nil (told ++ entry ∷ []) ∙ ap (λ (told : List PlantEntry). told ++ entry ∷ []) (sym (append-nil told)))
+
+-- Polls are over where one has no answer or was the 32nd, and else go on.
+over : (answers : List Answer) (polls : ℕ) → ((answers ≡ []) ⊎ (polls ≡ 32)) ⊎ ((answers ≢ []) × (polls ≢ 32))
+over [] polls = inl (inl refl)
+over (answer ∷ answers) polls = elim (eqb_tells polls 32) [
+  | (inl full) ↦ inl (inr full.1)
+  | (inr more) ↦ inr (λ is. cc, more.1)
+]
+
+module _ {State : Type 0} (step : State → Request → Stepped State Answer) (Fits : State → Request → Type 0) (plant : PlantData) (panel : ℕ) (past : Past) (machine : State) where
+  -- the past with a turn that is on its way, in which these bytes were sent
+  abbrev at : Turn → List ℕ → Past
+  at turn more = record { turns = past.turns; now = turn; sent = past.sent ++ more }
+
+  -- A turn is on its way, with nothing to be sent: what is kept at this stage, what was sent in the turn, and that its entries
+  -- so far are the panel's and are answered as the machine answers them.
+  record Goes (stage : Stage) (turn : Turn) : Type 0 where
+    count : ℕ
+    turns : ℕ
+    polls : ℕ
+    output : Output
+    more : List ℕ
+    keeps : Keeps (record { panel = panel; stage = stage; items = count; turns = turns; polls = polls; output = output; unsent = false }) (at turn more)
+    seats : All (λ entry. entry.seat ≡ panel) (entries_in turn)
+    legal : IsLegal step Fits machine (entries_in turn)
+
+  -- The turn begins.
+  goes_begin : Settled panel past → Goes Read unread
+  goes_begin settled =
+      let kept : Kept = record { panel = panel; stage = Read; items = settled.count; turns = settled.turns; polls = 0; output = settled.output; unsent = false } in
+      let begun : past ≡ at unread [] = λ i. record { turns = past.turns; now = settled.begins i; sent = (sym (append-nil past.sent)) i } in
+      record {
+        count = settled.count;
+        turns = settled.turns;
+        polls = 0;
+        output = settled.output;
+        more = [];
+        keeps = subst (Keeps kept) begun settled.keeps;
+        seats = All-nil _;
+        legal = tt;
+      }
+
+  -- what was sent, with more behind it
+  sent_at : (kept : Kept) (turn : Turn) (more bytes : List ℕ) → Keeps kept (with_sent bytes (at turn more)) → Keeps kept (at turn (more ++ bytes))
+  sent_at kept turn more bytes k =
+      let KeepsSent : List ℕ → Type 0 = λ sent. Keeps kept (record { turns = past.turns; now = turn; sent = sent }) in
+      subst KeepsSent (append_assoc past.sent more bytes) k
+
+  -- What was to be sent is sent.
+  goes_sent : (stage : Stage) (turn : Turn) (more : List ℕ) (count turns polls : ℕ) (output : Output)
+      → Keeps (record { panel = panel; stage = stage; items = count; turns = turns; polls = polls; output = output; unsent = true }) (at turn more)
+      → All (λ entry. entry.seat ≡ panel) (entries_in turn) → IsLegal step Fits machine (entries_in turn) → Goes stage turn
+  goes_sent stage turn more count turns polls output k seats legal =
+      let kept : Kept = record { panel = panel; stage = stage; items = count; turns = turns; polls = polls; output = output; unsent = true } in
+      record {
+        count = count;
+        turns = turns;
+        polls = polls;
+        output = output;
+        more = more ++ output.bytes;
+        keeps = sent_at (record kept { unsent = false }) turn more output.bytes (keeps_sent kept (at turn more) refl k);
+        seats = seats;
+        legal = legal;
+      }
+
+  -- The piece is used up.
+  goes_on : (turn : Turn) → Goes Read turn → Goes PollStage turn
+  goes_on turn goes = record {
+    count = goes.count;
+    turns = goes.turns;
+    polls = goes.polls;
+    output = goes.output;
+    more = goes.more;
+    keeps = keeps_to_poll panel goes.count goes.turns goes.polls goes.output (at turn goes.more) goes.keeps;
+    seats = goes.seats;
+    legal = goes.legal;
+  }
+
+  -- The machine takes what fits the plant.
+  module _ (has_panel : panel < length plant.panels)
+      (fits : (history : List PlantEntry) (request : Request) → IsLegal step Fits machine history → FitsPlant plant request → Fits (run step machine history) request) where
+    -- A request is answered behind these entries: there is one entry more.
+    answered : (entries now : List PlantEntry) (request : Request) → now ≡ entries ++ entry_at step (run step machine entries) panel request ∷ [] → FitsPlant plant request
+        → All (λ entry. entry.seat ≡ panel) entries → IsLegal step Fits machine entries → All (λ entry. entry.seat ≡ panel) now × IsLegal step Fits machine now
+    answered entries now request is fit seats legal =
+        let Seated : PlantEntry → Type 0 = λ entry. entry.seat ≡ panel in
+        let P : List PlantEntry → Type 0 = λ now. All Seated now × IsLegal step Fits machine now in
+        let entry : PlantEntry = entry_at step (run step machine entries) panel request in
+        subst P (sym is) (All-push Seated entries entry seats refl, legal_snoc step Fits machine entries panel request legal (fits entries request legal fit))
+
+    -- The machine answers what an item sent to the plant.
+    goes_told : (message : Message) (turn : Turn) → Goes (Tell message) turn → (now : Turn) × (now.piece ≡ turn.piece) × Goes Read now
+    goes_told message turn goes =
+        let request = Told panel (goes.count - 1) message in
+        let entry : PlantEntry = entry_at step (run step machine (entries_in turn)) panel request in
+        let now : Turn = record turn { told = turn.told ++ entry ∷ [] } in
+        let output = with_frames (frames_of entry.answers) (emptied goes.output) in
+        let so = answered (entries_in turn) (entries_in now) request (told_behind turn.told turn.polls entry goes.keeps.stage.3) (has_panel, goes.keeps.stage.6) goes.seats goes.legal in
+        let told = keeps_told panel goes.count goes.turns goes.polls panel message goes.output (at turn goes.more) entry.answers true goes.keeps (λ is. absurd (true≢false is)) in
+        (now, refl, goes_sent Read now goes.more goes.count goes.turns goes.polls output told so.0 so.1)
+
+    -- An item is taken: of what it asks only a message to the plant is yet to be told.
+    goes_taken : (asked : Asked) (turn : Turn) → Goes (taken_stage asked) turn → (now : Turn) × (now.piece ≡ turn.piece) × Goes Read now
+    goes_taken Nothing turn goes = (turn, refl, goes)
+    goes_taken Repeat turn goes = (turn, refl, goes)
+    goes_taken Refused turn goes = (turn, refl, goes)
+    goes_taken Noted turn goes = (turn, refl, goes)
+    goes_taken (Sent message) turn goes = goes_told message turn goes
+
+    -- A byte more of the piece is read, in which an item ends or none.
+    goes_item : (byte : ℕ) (turn : Turn) (goes : Goes Read turn) (ended : Option (Item (List ℕ)))
+        → items (read_so_far (at turn goes.more) ++ byte ∷ []) ≡ items (read_so_far (at turn goes.more)) ++ option_to_list ended
+        → (now : Turn) × (now.piece ≡ turn.piece ++ byte ∷ []) × Goes Read now
+    goes_item byte turn goes None adds = (
+      record turn { piece = turn.piece ++ byte ∷ [] },
+      refl,
+      record {
+        count = goes.count;
+        turns = goes.turns;
+        polls = goes.polls;
+        output = goes.output;
+        more = goes.more;
+        keeps = keeps_none panel goes.count goes.turns goes.polls goes.output (at turn goes.more) (byte ∷ []) goes.keeps (adds ∙ append-nil (items (read_so_far (at turn goes.more))));
+        seats = goes.seats;
+        legal = goes.legal;
+      },
+    )
+    goes_item byte turn goes (Some item) adds =
+        let (asked, asks) = item_asks item in
+        let now : Turn = record turn { piece = turn.piece ++ byte ∷ [] } in
+        let sent = sent_by asked goes.output in
+        goes_taken asked now (record {
+          count = goes.count + 1;
+          turns = goes.turns;
+          polls = goes.polls;
+          output = taken_output asked goes.output;
+          more = goes.more ++ sent;
+          keeps = sent_at (taken asked panel goes.count goes.turns goes.polls goes.output) now goes.more sent
+              (keeps_item asked item panel goes.count goes.turns goes.polls goes.output (at turn goes.more) (byte ∷ []) goes.keeps adds asks);
+          seats = goes.seats;
+          legal = goes.legal;
+        })
+
+    -- All bytes of the piece are read.
+    goes_bytes : (bytes : List ℕ) (turn : Turn) → Goes Read turn → (now : Turn) × (now.piece ≡ turn.piece ++ bytes) × Goes Read now
+    goes_bytes [] turn goes = (turn, sym (append-nil turn.piece), goes)
+    goes_bytes (byte ∷ bytes) turn goes =
+        let ended = byte_ends (read_so_far (at turn goes.more)) byte in
+        let first = goes_item byte turn goes ended.0 ended.1 in
+        let later = goes_bytes bytes first.0 first.2 in
+        (later.0, later.1 ∙ ap (λ (piece : List ℕ). piece ++ bytes) first.1 ∙ append_assoc turn.piece (byte ∷ []) bytes, later.2)
+
+    -- The machine answers polls, until one has no answer or is the 32nd.
+    goes_polls : (left : ℕ) (turn : Turn) → Goes PollStage turn → 32 ≤ left + length turn.polls → (now : Turn) × (now.piece ≡ turn.piece) × Goes End now
+    goes_polls zero turn goes within = absurd (omega (arith, within, goes.keeps.stage.1.more))
+    goes_polls (suc left) turn goes within =
+        let request = Poll panel goes.count goes.turns in
+        let entry : PlantEntry = entry_at step (run step machine (entries_in turn)) panel request in
+        let now : Turn = record turn { polls = turn.polls ++ entry ∷ [] } in
+        let output = with_frames (frames_of entry.answers) (emptied goes.output) in
+        let so = answered (entries_in turn) (entries_in now) request (sym (append_assoc turn.told turn.polls (entry ∷ []))) has_panel goes.seats goes.legal in
+        let kept : Stage → Kept = λ stage. record { panel = panel; stage = stage; items = goes.count; turns = goes.turns; polls = goes.polls + 1; output = output; unsent = true } in
+        let sent : (stage : Stage) → Keeps (kept stage) (at now goes.more) → Goes stage now =
+        λ stage k. goes_sent stage now goes.more goes.count goes.turns (goes.polls + 1) output k so.0 so.1 in
+        elim (over entry.answers (goes.polls + 1)) [
+          | (inl last) ↦ (
+            now,
+            refl,
+            sent End
+                (keeps_polled_last panel goes.count goes.turns goes.polls panel goes.output (at turn goes.more) entry.answers true goes.keeps (λ is. absurd (true≢false is)) last),
+          )
+          | (inr on) ↦ goes_polls left now
+              (sent PollStage
+              (keeps_polled_more panel goes.count goes.turns goes.polls panel goes.output (at turn goes.more) entry.answers true goes.keeps (λ is. absurd (true≢false is)) on.0 on.1))
+              (omega (arith, within, length-append turn.polls (entry ∷ [])))
+        ]
+
+  -- Each piece is worked as a turn behind a past whose turns are over, and then the turns of the past with it are over.
+  pub turn_exists : (piece : List ℕ) → panel < length plant.panels → Settled panel past
+      → ((history : List PlantEntry) (request : Request) → IsLegal step Fits machine history → FitsPlant plant request → Fits (run step machine history) request)
+      → (turn : Turn) × (more : List ℕ) × (turn.piece ≡ piece) × IsWorked step Fits plant panel past machine turn more × Settled panel (turned turn more past)
+  turn_exists piece has_panel settled fits =
+      let read = goes_bytes has_panel fits piece unread (goes_begin settled) in
+      let done = goes_polls has_panel fits 32 read.0 (goes_on read.0 read.2) (omega arith) in
+      let goes = done.2 in
+      let kept : Kept = record { panel = panel; stage = End; items = goes.count; turns = goes.turns; polls = goes.polls; output = goes.output; unsent = false } in (
+        done.0,
+        goes.more,
+        done.1 ∙ read.1,
+        record {
+          is_turn = turn_over panel goes.count goes.turns goes.polls goes.output (at done.0 goes.more) goes.keeps;
+          seats = goes.seats;
+          legal = goes.legal;
+          text = keeps_text plant kept (at done.0 goes.more) refl goes.keeps;
+        },
+        record {
+          count = goes.count;
+          turns = goes.turns + 1;
+          output = goes.output;
+          begins = refl;
+          keeps = keeps_turn panel goes.count goes.turns goes.polls goes.output (at done.0 goes.more) goes.keeps;
+        },
+      )

@@ -1,0 +1,51 @@
+-- What a session's past is where its turns are over.
+use Rattle.std.proofs.Common.{◌≡◌, ◌⊎◌, inl, inr, true, false, if◌then◌else◌, ℕ, List, [], ◌++◌, map, refl, sym, ap, subst}
+use Rattle.std.proofs.lemmas.List.{append-nil}
+use Rattle.dle_framing.specs.declared.item.Item.{Item}
+use Rattle.dle_framing.specs.Items.{items}
+use Rattle.plant_config.specs.Plant.{PlantData}
+use Rattle.panel_session.specs.declared.session.Session.{Session}
+use Rattle.panel_session.specs.Asked.{AllAsk}
+use Rattle.panel_session.specs.Entry.{PlantEntry}
+use Rattle.panel_session.specs.OutgoingInside.{emptied}
+use Rattle.panel_session.specs.Session.{Stands, outgoing_of, kept_of}
+use Rattle.panel_session.specs.SoFar.{Past, unread, read_so_far, entries_so_far}
+use Rattle.panel_session.specs.StandsInside.{Kept, Keeps, pending}
+use Rattle.panel_session.specs.Text.{Output, IsText}
+use Rattle.panel_session.specs.Turns.{Fits, AreTurns, Turn, bytes_of, entries_of}
+use Rattle.panel_session.proofs.EntryLemmas.{all_ask-append}
+
+-- Turns fit their own pieces and entries.
+pub turns_fit_lem : (plant : PlantData) (panel : ℕ) (session : Session) (past : Past) → Stands plant panel session past → Fits panel (map (λ turn. turn.piece) past.turns) (entries_of past.turns)
+turns_fit_lem plant panel session past stands =
+    let Turns : ℕ → Type 0 = λ panel. AreTurns panel past.turns in
+    record { turns = past.turns; are_turns = subst Turns stands.panel_is stands.keeps.turns; pieces = refl; entries_are = refl }
+
+-- The text is what was sent, and what is yet to be.
+text_left : (plant : PlantData) (kept : Kept) (past : Past) → Keeps kept past → IsText plant (items (read_so_far past)) (entries_so_far past) (past.sent ++ (pending kept).bytes)
+text_left plant kept past k =
+    let AskOf : List (Item (List ℕ)) → Type 0 = λ its. AllAsk its (k.before ++ k.asked) in
+    record {
+      asked = k.before ++ k.asked;
+      items_ask = subst AskOf (sym k.end_in) (all_ask-append (items (bytes_of past.turns)) k.ended k.before k.asked k.ask_before k.ask);
+      bytes = sym (ap (λ (output : Output). output.bytes) k.output);
+    }
+
+-- The same where nothing was done of the present turn.
+text_over : (plant : PlantData) (past : Past) (text : List ℕ) → past.now ≡ unread → IsText plant (items (read_so_far past)) (entries_so_far past) text
+    → IsText plant (items (bytes_of past.turns)) (entries_of past.turns) text
+text_over plant past text begins is =
+    let TextWith : Turn → Type 0 = λ now. IsText plant (items (bytes_of past.turns ++ now.piece)) (entries_of past.turns ++ (now.told ++ now.polls)) text in
+    let TextOf : List ℕ → Type 0 = λ read. IsText plant (items read) (entries_of past.turns ++ []) text in
+    let TextIn : List PlantEntry → Type 0 = λ entries. IsText plant (items (bytes_of past.turns)) entries text in
+    subst TextIn (append-nil (entries_of past.turns)) (subst TextOf (append-nil (bytes_of past.turns)) (subst TextWith begins is))
+
+-- The whole text of turns that are over was sent, or is once the outgoing bytes are.
+pub turns_text_lem : (plant : PlantData) (panel : ℕ) (session : Session) (past : Past) → Stands plant panel session past → past.now ≡ unread
+    → IsText plant (items (bytes_of past.turns)) (entries_of past.turns) past.sent ⊎ IsText plant (items (bytes_of past.turns)) (entries_of past.turns) (past.sent ++ outgoing_of session)
+turns_text_lem plant panel session past stands begins =
+    let TextOf : List ℕ → Type 0 = λ text. IsText plant (items (bytes_of past.turns)) (entries_of past.turns) text in
+    (elim (session.unsent) as (λ unsent. TextOf (past.sent ++ (if unsent then session.outgoing else emptied session.outgoing).bytes) → TextOf past.sent ⊎ TextOf (past.sent ++ outgoing_of session)) [
+      | true ↦ λ text. inr text
+      | false ↦ λ text. inl (subst TextOf (append-nil past.sent) text)
+    ]) (text_over plant past (past.sent ++ (pending (kept_of session)).bytes) begins (text_left plant (kept_of session) past stands.keeps))
