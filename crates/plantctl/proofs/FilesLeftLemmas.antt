@@ -40,7 +40,7 @@ others_stay words before now status name run other = others_of words before now 
 
 no_file_fault : (end : End) → status_of end ≢ 3 → is_file_fault end ≡ false
 no_file_fault (Done output) other = refl
-no_file_fault (NoMemory front) other = refl
+no_file_fault NoMemory other = refl
 no_file_fault Usage other = refl
 no_file_fault (FileMissing name) other = refl
 no_file_fault (FileFault name) other = absurd (other refl)

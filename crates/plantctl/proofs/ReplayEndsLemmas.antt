@@ -10,7 +10,7 @@ use Rattle.plant_config.specs.Plant.{PlantData}
 use Rattle.record_replay.specs.declared.replay.ReplayFault.{ReplayFault}
 use Rattle.record_replay.specs.declared.replay.ReplayFault.TheVariants as replays
 use Rattle.record_replay.specs.Script.{IsFirstBad}
-use Rattle.record_replay.specs.Replay.{IsReplay, IsReplayFront, HasReplayed, HasReplayedFront}
+use Rattle.record_replay.specs.Replay.{IsReplay, HasReplayed, HasReplayedFront}
 use Rattle.plantctl.specs.declared.stop.Stop.{Stop}
 use Rattle.plantctl.specs.declared.stop.Stop.TheVariants as stops
 use Rattle.plantctl.specs.End.{End, Done, NoMemory, FileMissing, FileFault as FileFailed, LineRefused, ScriptTooLong}
@@ -33,8 +33,8 @@ err_stop {T} (Err found) stop Cause before now is stops = subst (λ (s : Stop). 
 pub memory_stop : {T : Type 0} (plant : PlantData) (name : List ℕ) (held : Held) (before now : Option (List ℕ)) → IfHeld held (λ bytes. Unit {0}) → now ≡ before
     → StopsFor {T = T} (Err stops.NoMemory) (ReplayEnds plant name held) before now
 memory_stop plant name held before now there same = record {
-  end = NoMemory [];
-  cause = if_held held (λ bytes h. inl refl) there;
+  end = NoMemory;
+  cause = there;
   comes = record { status_is = refl; front = []; text_is = refl; appends = same ∙ sym (appended-nil before) };
   fault = refl;
 }
@@ -81,25 +81,14 @@ done_stop done plant name held script before now read within replayed = record {
 -- the replay ended early
 pub replay_stop : {T A : Type 0} (fault : ReplayFault) (plant : PlantData) (name : List ℕ) (held : Held) (script : List ℕ) (before now : Option (List ℕ)) (ended : Result A ReplayFault) → ended ≡ Err fault
     → IfHeld held (λ bytes. script ≡ bytes) → length script ≤ longest_script
-    → ((number : ℕ) → ended ≡ Err (replays.BadLine number) → IsFirstBad script number) → ((number : ℕ) → ended ≡ Err (replays.BadLine number) → now ≡ before)
-    → (ended ≡ Err replays.OutputFault → HasReplayedFront plant script before now) → (ended ≡ Err replays.NoMemory → (now ≡ before) ⊎ HasReplayedFront plant script before now)
+    → ((number : ℕ) → ended ≡ Err (replays.BadLine number) → IsFirstBad plant script number) → ((number : ℕ) → ended ≡ Err (replays.BadLine number) → now ≡ before)
+    → (ended ≡ Err replays.OutputFault → HasReplayedFront plant script before now) → (ended ≡ Err replays.NoMemory → now ≡ before)
     → StopsFor {T = T} (Err (stop_of_replay fault)) (ReplayEnds plant name held) before now
-replay_stop replays.NoMemory plant name held script before now ended is read within bad_line same output_fault no_memory = elim (no_memory is) [
-  | inl nothing ↦ memory_stop plant name held before now (if_held held (λ bytes h. tt) read) nothing
-  | inr wrote ↦ record {
-    end = NoMemory (take wrote.appends.count wrote.output);
-    cause =
-        if_held held (λ bytes fits. inr fits) (
-        read_held (λ (b : List ℕ). IsReplayFront plant b (take wrote.appends.count wrote.output)) held script read within
-        (record { output = wrote.output; replay = wrote.replay; count = wrote.appends.count; shorter = wrote.appends.shorter; is_front = refl })
-        );
-    comes = record { status_is = refl; front = take wrote.appends.count wrote.output; text_is = refl; appends = wrote.appends.appends };
-    fault = refl;
-  }
-]
+replay_stop replays.NoMemory plant name held script before now ended is read within bad_line same output_fault no_memory =
+    memory_stop plant name held before now (if_held held (λ bytes h. tt) read) (no_memory is)
 replay_stop (replays.BadLine number) plant name held script before now ended is read within bad_line same output_fault no_memory = record {
   end = LineRefused number;
-  cause = read_held (λ (b : List ℕ). IsFirstBad b number) held script read within (bad_line number is);
+  cause = read_held (λ (b : List ℕ). IsFirstBad plant b number) held script read within (bad_line number is);
   comes = record { status_is = refl; front = []; text_is = refl; appends = same number is ∙ sym (appended-nil before) };
   fault = refl;
 }

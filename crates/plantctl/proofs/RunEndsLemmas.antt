@@ -9,7 +9,7 @@ use Rattle.plantctl.proofs.CauseLemmas.{is_written, status_or_7}
 -- the six statuses
 six : (end : End) → (status_of end ≡ 0) ⊎ (status_of end ≡ 1) ⊎ (status_of end ≡ 2) ⊎ (status_of end ≡ 3) ⊎ (status_of end ≡ 5) ⊎ (status_of end ≡ 7)
 six (Done output) = inl refl
-six (NoMemory front) = inr (inl refl)
+six NoMemory = inr (inl refl)
 six Usage = inr (inr (inl refl))
 six (FileMissing name) = inr (inr (inr (inl refl)))
 six (FileFault name) = inr (inr (inr (inl refl)))
@@ -26,7 +26,7 @@ six_statuses words before now status run = elim (status_or_7 run.end before now 
 -- no end of its own has status 7
 not_7 : (end : End) → status_of end ≡ 7 → ⊥
 not_7 (Done output) is = omega arith
-not_7 (NoMemory front) is = omega arith
+not_7 NoMemory is = omega arith
 not_7 Usage is = omega arith
 not_7 (FileMissing name) is = omega arith
 not_7 (FileFault name) is = omega arith

@@ -28,7 +28,7 @@ done_of words before now (Done output) cause written =
       replay = if_held (before.held r.name 0) (λ bytes h. h.1) r.ends;
       appends = written.appends;
     }
-done_of words before now (NoMemory front) cause written = absurd (let h = written.status_is in omega arith)
+done_of words before now NoMemory cause written = absurd (let h = written.status_is in omega arith)
 done_of words before now Usage cause written = absurd (let h = written.status_is in omega arith)
 done_of words before now (FileMissing name) cause written = absurd (let h = written.status_is in omega arith)
 done_of words before now (FileFault name) cause written = absurd (let h = written.status_is in omega arith)
@@ -39,14 +39,13 @@ pub done : (words : List (List ℕ)) (before now : World) → RunEnds words befo
 done words before now run = done_of words before now run.end run.cause (is_written run.end before now 0 (λ h. omega arith) run.output)
 
 memory_of : (words : List (List ℕ)) (before now : World) (end : End) → Cause words before now end → IsWritten end before now 1 → RanOutOfMemory words before now
-memory_of words before now (NoMemory front) cause written =
-    let r = by_command words before now (NoMemory front) (λ h. cc) cause in
+memory_of words before now NoMemory cause written =
+    let r = by_command words before now NoMemory (λ h. cc) cause in
     record {
       plant = r.plant;
       name = r.name;
       asks = r.asks;
-      front = front;
-      is_front = if_held (before.held r.name 0) (λ bytes h. elim h [ inl nothing ↦ inl nothing | inr fits ↦ inr fits.1 ]) r.ends;
+      there = r.ends;
       appends = written.appends;
     }
 memory_of words before now (Done output) cause written = absurd (let h = written.status_is in omega arith)
@@ -63,7 +62,7 @@ ran_out words before now run = memory_of words before now run.end run.cause (is_
 usage_of : (end : End) → 2 ≡ status_of end → end ≡ Usage
 usage_of Usage is = refl
 usage_of (Done output) is = absurd (omega arith)
-usage_of (NoMemory front) is = absurd (omega arith)
+usage_of NoMemory is = absurd (omega arith)
 usage_of (FileMissing name) is = absurd (omega arith)
 usage_of (FileFault name) is = absurd (omega arith)
 usage_of (LineRefused number) is = absurd (omega arith)
@@ -116,7 +115,7 @@ file_of words before now (FileFault name) cause written count =
       appends = written.appends ∙ ap (λ (n : List ℕ). appended before.written (file_fault n)) r.ends;
     })
 file_of words before now (Done output) cause written count = absurd (let h = written.status_is in omega arith)
-file_of words before now (NoMemory front) cause written count = absurd (let h = written.status_is in omega arith)
+file_of words before now NoMemory cause written count = absurd (let h = written.status_is in omega arith)
 file_of words before now Usage cause written count = absurd (let h = written.status_is in omega arith)
 file_of words before now (LineRefused number) cause written count = absurd (let h = written.status_is in omega arith)
 file_of words before now ScriptTooLong cause written count = absurd (let h = written.status_is in omega arith)
@@ -140,7 +139,7 @@ script_of words before now ScriptTooLong cause written =
     let r = by_command words before now ScriptTooLong (λ h. cc) cause in
     inr (record { plant = r.plant; name = r.name; asks = r.asks; too_long = r.ends; appends = written.appends })
 script_of words before now (Done output) cause written = absurd (let h = written.status_is in omega arith)
-script_of words before now (NoMemory front) cause written = absurd (let h = written.status_is in omega arith)
+script_of words before now NoMemory cause written = absurd (let h = written.status_is in omega arith)
 script_of words before now Usage cause written = absurd (let h = written.status_is in omega arith)
 script_of words before now (FileMissing name) cause written = absurd (let h = written.status_is in omega arith)
 script_of words before now (FileFault name) cause written = absurd (let h = written.status_is in omega arith)
@@ -176,8 +175,8 @@ missing_of words before now (FileFault failed) plant name asks is cause = refl
 missing_of words before now Usage plant name asks is cause = absurd (not_usage words before now plant name asks cause)
 missing_of words before now (Done output) plant name asks is cause =
     absurd (ends_of words before now (Done output) plant name NoFile asks is (λ h. cc) cause)
-missing_of words before now (NoMemory front) plant name asks is cause =
-    absurd (ends_of words before now (NoMemory front) plant name NoFile asks is (λ h. cc) cause)
+missing_of words before now NoMemory plant name asks is cause =
+    absurd (ends_of words before now NoMemory plant name NoFile asks is (λ h. cc) cause)
 missing_of words before now (LineRefused number) plant name asks is cause =
     absurd (ends_of words before now (LineRefused number) plant name NoFile asks is (λ h. cc) cause)
 missing_of words before now ScriptTooLong plant name asks is cause =
@@ -195,7 +194,7 @@ missing_always words before now status plant name asks is run = elim (status_or_
 accepted_of : (words : List (List ℕ)) (before now : World) (end : End) (plant : PlantData) (name script : List ℕ) → AskReplay words plant name → before.held name 0 ≡ Holds script → IsAccepted plant script
     → Cause words before now end → now.file_faults ≡ counted (is_file_fault end) before.file_faults → (status_of end ≡ 0) ⊎ WasKept before now (status_of end)
 accepted_of words before now (Done output) plant name script asks is accepted cause count = inl refl
-accepted_of words before now (NoMemory front) plant name script asks is accepted cause count = inr (inl refl)
+accepted_of words before now NoMemory plant name script asks is accepted cause count = inr (inl refl)
 accepted_of words before now (FileFault failed) plant name script asks is accepted cause count = inr (inr (inl (refl, count)))
 accepted_of words before now Usage plant name script asks is accepted cause count = absurd (not_usage words before now plant name asks cause)
 accepted_of words before now (FileMissing missing) plant name script asks is accepted cause count =
@@ -207,15 +206,15 @@ accepted_of words before now ScriptTooLong plant name script asks is accepted ca
     let long = ends_of words before now ScriptTooLong plant name (Holds script) asks is (λ h. cc) cause in
     absurd (omega (arith, long))
 
-refused_script : (plant : PlantData) (script output : List ℕ) → IsRefused script → IfFits script (IsReplay plant script output) → ⊥
+refused_script : (plant : PlantData) (script output : List ℕ) → IsRefused plant script → IfFits script (IsReplay plant script output) → ⊥
 refused_script plant script output (inl long) fits = omega (arith, fits.0)
 refused_script plant script output (inr bad) fits = apart plant script output bad.0 fits.1 bad.1
 
-refused_of : (words : List (List ℕ)) (before now : World) (end : End) (plant : PlantData) (name script : List ℕ) → AskReplay words plant name → before.held name 0 ≡ Holds script → IsRefused script
+refused_of : (words : List (List ℕ)) (before now : World) (end : End) (plant : PlantData) (name script : List ℕ) → AskReplay words plant name → before.held name 0 ≡ Holds script → IsRefused plant script
     → Cause words before now end → now.file_faults ≡ counted (is_file_fault end) before.file_faults → (status_of end ≡ 5) ⊎ WasKept before now (status_of end)
 refused_of words before now (Done output) plant name script asks is refused cause count =
     absurd (refused_script plant script output refused (ends_of words before now (Done output) plant name (Holds script) asks is (λ h. cc) cause))
-refused_of words before now (NoMemory front) plant name script asks is refused cause count = inr (inl refl)
+refused_of words before now NoMemory plant name script asks is refused cause count = inr (inl refl)
 refused_of words before now (FileFault failed) plant name script asks is refused cause count = inr (inr (inl (refl, count)))
 refused_of words before now Usage plant name script asks is refused cause count = absurd (not_usage words before now plant name asks cause)
 refused_of words before now (FileMissing missing) plant name script asks is refused cause count =
@@ -236,7 +235,7 @@ accepted_always words before now status plant name script asks is accepted run =
   | inr failed ↦ inr (inr (inr failed))
 ]
 
-pub refused_always : (words : List (List ℕ)) (before now : World) (status : ℕ) (plant : PlantData) (name script : List ℕ) → AskReplay words plant name → before.held name 0 ≡ Holds script → IsRefused script
+pub refused_always : (words : List (List ℕ)) (before now : World) (status : ℕ) (plant : PlantData) (name script : List ℕ) → AskReplay words plant name → before.held name 0 ≡ Holds script → IsRefused plant script
     → RunEnds words before now status → (status ≡ 5) ⊎ WasKept before now status
 refused_always words before now status plant name script asks is refused run = elim (status_or_7 run.end before now status run.output) [
   | inl same ↦ elim (refused_of words before now run.end plant name script asks is refused run.cause run.file_faults) [

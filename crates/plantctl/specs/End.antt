@@ -1,12 +1,11 @@
 -- How a run may end, with its exit status and its text.
-use Rattle.std.specs.Prelude.{ℕ, Bool, true, false, List, ◌++◌}
+use Rattle.std.specs.Prelude.{ℕ, Bool, true, false, List}
 use Rattle.plantctl.specs.Lines.{usage, no_memory, file_missing, file_fault, line_refused, script_too_long}
 
--- An end, with what its text names: the output of what was done, the front of it that was written when memory ran out,
--- the name of a file, the number of a line.
+-- An end, with what its text names: the output of what was done, the name of a file, the number of a line.
 pub data End : Type 0 where
   Done : (output : List ℕ) → End
-  NoMemory : (front : List ℕ) → End
+  NoMemory : End
   Usage : End
   FileMissing : (name : List ℕ) → End
   FileFault : (name : List ℕ) → End
@@ -16,7 +15,7 @@ pub data End : Type 0 where
 -- the exit status
 abbrev pub status_of : End → ℕ
 status_of (Done output) = 0
-status_of (NoMemory front) = 1
+status_of NoMemory = 1
 status_of Usage = 2
 status_of (FileMissing name) = 3
 status_of (FileFault name) = 3
@@ -30,7 +29,7 @@ output_failed = 7
 -- all that is appended to the output
 abbrev pub text_of : End → List ℕ
 text_of (Done output) = output
-text_of (NoMemory front) = front ++ no_memory
+text_of NoMemory = no_memory
 text_of Usage = usage
 text_of (FileMissing name) = file_missing name
 text_of (FileFault name) = file_fault name
@@ -40,7 +39,7 @@ text_of ScriptTooLong = script_too_long
 -- whether the files had a fault
 abbrev pub is_file_fault : End → Bool
 is_file_fault (Done output) = false
-is_file_fault (NoMemory front) = false
+is_file_fault NoMemory = false
 is_file_fault Usage = false
 is_file_fault (FileMissing name) = false
 is_file_fault (FileFault name) = true

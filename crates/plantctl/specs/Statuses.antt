@@ -1,11 +1,11 @@
 -- What the exit statuses tell of a run. Each is a law over the ends of runs.
-use Rattle.std.specs.Prelude.{◌≡◌, ◌⊎◌, ℕ, ◌<◌, ◌≤◌, List, [], ◌++◌, length}
+use Rattle.std.specs.Prelude.{◌≡◌, ◌⊎◌, ℕ, ◌<◌, ◌≤◌, List, length}
 use Rattle.ctl_io.specs.Faults.{one_more}
 use Rattle.ctl_io.specs.Sink.{appended}
 use Rattle.ctl_io.specs.Held.{IfHeld, MayBeMissing}
 use Rattle.plant_config.specs.Plant.{PlantData}
 use Rattle.record_replay.specs.Script.{IsFirstBad}
-use Rattle.record_replay.specs.Replay.{IsReplay, IsReplayFront}
+use Rattle.record_replay.specs.Replay.{IsReplay}
 use Rattle.plantctl.specs.World.{World}
 use Rattle.plantctl.specs.Lines.{no_memory, file_missing, file_fault, line_refused, script_too_long}
 use Rattle.plantctl.specs.Words.{Replay, LeadsTo, Ask}
@@ -27,14 +27,13 @@ pub record WasReplayed (words : List (List ℕ)) (before now : World) : Type 0 w
   pub replay : IfHeld (before.held name 0) (λ script. IsReplay plant script output)
   pub appends : now.written ≡ appended before.written output
 
--- Memory ran out: nothing was appended before the line that says so, or a front of the script's replay text.
+-- Memory ran out, and nothing was appended but the line that says so.
 pub record RanOutOfMemory (words : List (List ℕ)) (before now : World) : Type 0 where
   pub plant : PlantData
   pub name : List ℕ
   pub asks : AskReplay words plant name
-  pub front : List ℕ
-  pub is_front : IfHeld (before.held name 0) (λ script. (front ≡ []) ⊎ IsReplayFront plant script front)
-  pub appends : now.written ≡ appended before.written (front ++ no_memory)
+  pub there : IfHeld (before.held name 0) (λ script. Unit {0})
+  pub appends : now.written ≡ appended before.written no_memory
 
 -- The script's file is missing, and the line says so.
 pub record WasMissing (words : List (List ℕ)) (before now : World) : Type 0 where
@@ -60,7 +59,7 @@ pub record RefusedLine (words : List (List ℕ)) (before now : World) : Type 0 w
   pub asks : AskReplay words plant name
   pub number : ℕ
   pub within : IfHeld (before.held name 0) (λ script. length script ≤ longest_script)
-  pub first_bad : IfHeld (before.held name 0) (λ script. IsFirstBad script number)
+  pub first_bad : IfHeld (before.held name 0) (λ script. IsFirstBad plant script number)
   pub appends : now.written ≡ appended before.written (line_refused number)
 
 -- The script was refused for its length.
@@ -76,8 +75,8 @@ abbrev pub IsAccepted : PlantData → List ℕ → Type 0
 IsAccepted plant script = (length script ≤ longest_script) × ((output : List ℕ) × IsReplay plant script output)
 
 -- A script is refused where it is too long or has a line without a form.
-abbrev pub IsRefused : List ℕ → Type 0
-IsRefused script = (longest_script < length script) ⊎ ((number : ℕ) × IsFirstBad script number)
+abbrev pub IsRefused : PlantData → List ℕ → Type 0
+IsRefused plant script = (longest_script < length script) ⊎ ((number : ℕ) × IsFirstBad plant script number)
 
 -- A run was kept from its end: memory ran out, the files had a fault, or a write failed, which their counts show.
 abbrev pub WasKept : World → World → ℕ → Type 0

@@ -55,7 +55,7 @@ pub fn script_refused()
         → RefusedLine words before now ⊎ RefusedLength words before now }
     ensures refused { (words : List (List ℕ)) (before now : World) (status : ℕ)
         (plant : PlantData) (name script : List ℕ)
-        → AskReplay words plant name → before.held name 0 ≡ Holds script → IsRefused script
+        → AskReplay words plant name → before.held name 0 ≡ Holds script → IsRefused plant script
         → RunEnds words before now status → (status ≡ 5) ⊎ WasKept before now status }
     ensures accepted { (words : List (List ℕ)) (before now : World) (status : ℕ)
         (plant : PlantData) (name script : List ℕ)

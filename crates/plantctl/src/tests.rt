@@ -4,6 +4,7 @@ mod ends;
 mod frames;
 mod limits;
 mod replays;
+mod sessions;
 mod words;
 
 use crate::run_quiet;

@@ -1,217 +1,190 @@
 -- What a line spells.
-use Rattle.std.proofs.Common.{◌≡◌, ℕ, ◌<◌, ◌≤◌, ◌⊎◌, inl, inr, Bool, true, false, List, [], ◌∷◌, ◌++◌, length, get_or, take, drop, All, Option, Some, None, Result, Ok, Err, refl, sym, ◌∙◌, ap, subst, arith}
-use Rattle.std.specs.Prelude.{MatchOption, codes, Decides, ◌==◌, not, filter}
-use Rattle.std.specs.Fmt.{decimal}
+use Rattle.std.proofs.Common.{◌≡◌, ℕ, ◌+◌, ◌*◌, ◌≤◌, ◌≢◌, ◌⊎◌, inl, inr, Bool, true, false, List, [], ◌∷◌, ◌++◌, length, get_or, take, drop, All, refl, sym, ◌∙◌, ap, subst, append_assoc, arith, length-append}
+use Rattle.std.specs.Prelude.{codes, filter, ◌==◌, not}
 use Rattle.std.specs.Str.{bytes_eq}
-use Rattle.std.proofs.lemmas.Fmt.{decimal_digit}
 use Rattle.std.proofs.Math.ListN.{take-append-drop}
-use Rattle.std.proofs.lemmas.Slice.Eq.{bytes_eq-Decides}
+use Rattle.std.proofs.Math.Seq.{take-append_seam}
 use Rattle.std.proofs.lemmas.Bool.{cases_lt}
-use Rattle.std.proofs.lemmas.List.{get_or_past}
-use Rattle.std.proofs.lemmas.List.Elements.{All-get_or}
-use Rattle.hex.specs.Hex.{decode_of}
-use Rattle.hex.specs.declared.error.FromHexError.{FromHexError}
-use Rattle.hex.proofs.HexLemmas.{decode_of-same}
-use Rattle.dle_framing.specs.declared.item.Item.{Item}
-use Rattle.dle_framing.specs.declared.item.Item.TheVariants.{Good, Bad, Ack, Nak}
-use Rattle.dle_framing.specs.Frame.{IsData, frame}
-use Rattle.dle_framing.specs.Items.{items}
-use Rattle.dle_framing.proofs.FrameLemmas.{one_frame}
-use Rattle.dle_framing.proofs.LawLemmas.{reads_one}
-use Rattle.swp08_messages.specs.declared.message.Message.{Message}
-use Rattle.swp08_messages.specs.declared.message.Message.TheVariants.{Interrogate, Connect, Tally, Connected}
-use Rattle.swp08_messages.specs.declared.message.MessageKind.{MessageKind}
-use Rattle.swp08_messages.specs.declared.message.MessageKind.TheVariants as kinds
-use Rattle.swp08_messages.specs.declared.fault.ReadFault.{ReadFault}
-use Rattle.swp08_messages.specs.Row.{row}
-use Rattle.swp08_messages.specs.Text.{text, kind_of}
-use Rattle.swp08_messages.specs.Spelled.{Spells}
-use Rattle.swp08_messages.specs.ReadingInside.{message_of, fault_of}
-use Rattle.swp08_messages.proofs.SpelledLemmas.{Spells-text, All-text}
-use Rattle.swp08_messages.proofs.ReadingLemmas.{message_of-Spells, one_message, one_text}
-use Rattle.swp08_messages.proofs.RefusedLemmas.{not_both}
-use Rattle.swp08_messages.proofs.FaultLemmas.{tail-cons, tail, data_ok, data_err}
-use Rattle.record_replay.specs.declared.line.Work.{Work}
-use Rattle.record_replay.specs.Script.{space, longest_line, Asks, LineSpells, HexSpells}
+use Rattle.std.proofs.lemmas.Bool.Decides.{nat_tests}
+use Rattle.std.proofs.lemmas.Slice.Eq.{bytes_eq-Decides}
+use Rattle.std.proofs.lemmas.List.Filters.{length-filter_both}
+use Rattle.hex.proofs.HexLemmas.{decode_of-same, decode_of-ok}
+use Rattle.plant_config.specs.Plant.{PlantData}
+use Rattle.record_replay.specs.Script.{Work, Read, Leave, space, hash, longest_line, is_skipped, IsDigit, NumberSpells, HexSpells, LineSpells}
+use Rattle.record_replay.specs.LineInside.{IsTurn}
+use Rattle.record_replay.proofs.NumberSpellsLemmas.{NoPanel, one_number, panel_of_digits}
+use Rattle.record_replay.proofs.LineInsideLemmas.{no_space-digits, one_cut, turn_of}
 
--- a message's DATA can be framed
-pub IsData-text : (message : Message) → IsData (text message)
-IsData-text (Interrogate at) = (omega arith, omega arith)
-IsData-text (Connect at source) = (omega arith, omega arith)
-IsData-text (Tally at source) = (omega arith, omega arith)
-IsData-text (Connected at source) = (omega arith, omega arith)
+-- the line of a turn with these digits
+abbrev turn : List ℕ → List ℕ → List ℕ
+turn digits hex = codes "> " ++ digits ++ codes " " ++ hex
 
--- What was found of DATA is what is found of their frame.
-pub found_in_frame : (found : Option Message) (bytes carried : List ℕ) → bytes ≡ frame carried
-    → MatchOption found ((message : Message) → Asks message → carried ≡ text message → ⊥) (λ message. Asks message × (carried ≡ text message))
-    → MatchOption found ((message : Message) → Asks message → bytes ≡ frame (text message) → ⊥) (λ message. Asks message × (bytes ≡ frame (text message)))
-found_in_frame None bytes carried is none = λ message asks same. none message asks (one_frame carried (text message) (sym is ∙ same))
-found_in_frame (Some message) bytes carried is found = (found.0, is ∙ ap frame found.1)
+turn-cut : (digits hex : List ℕ) → turn digits hex ≡ 62 ∷ 32 ∷ (digits ++ space ∷ hex)
+turn-cut digits hex = ap (λ (l : List ℕ). 62 ∷ 32 ∷ l) (append_assoc digits (space ∷ []) hex)
 
-begins_0 : (hex : List ℕ) → codes "> " ++ decimal 0 ++ codes " " ++ hex ≡ codes "> 0 " ++ hex
-begins_0 hex = ap (λ (d : List ℕ). codes "> " ++ d ++ codes " " ++ hex) (decimal_digit 0 (omega arith))
+-- two turns that one line spells
+one_turn : (line digits others hex other_hex : List ℕ) → All IsDigit digits → All IsDigit others → line ≡ turn digits hex → line ≡ turn others other_hex → (digits ≡ others) × (hex ≡ other_hex)
+one_turn line digits others hex other_hex each_digits each_others is_one is_other =
+    one_cut digits others hex other_hex (no_space-digits digits each_digits) (no_space-digits others each_others)
+    (ap (drop 2) (sym (is_one ∙ turn-cut digits hex) ∙ is_other ∙ turn-cut others other_hex))
 
--- the front of each line of work
-pub begins : (line hex : List ℕ) (panel : ℕ) → panel ≡ 0 → line ≡ codes "> " ++ decimal panel ++ codes " " ++ hex → line ≡ codes "> 0 " ++ hex
-begins line hex panel is form = form ∙ ap (λ (p : ℕ). codes "> " ++ decimal p ++ codes " " ++ hex) is ∙ begins_0 hex
-
--- a line by the test of its front
-pub with_front : (line hex : List ℕ) → bytes_eq (take 4 line) (codes "> 0 ") ≡ true → hex ≡ drop 4 line → line ≡ codes "> 0 " ++ hex
-with_front line hex is behind =
-    sym (take-append-drop 4 line) ∙ ap (λ (l : List ℕ). l ++ drop 4 line) ((bytes_eq-Decides (take 4 line) (codes "> 0 ")).0 is)
-    ∙ ap (λ (l : List ℕ). codes "> 0 " ++ l) (sym behind)
-
-pub without_front : (line : List ℕ) → bytes_eq (take 4 line) (codes "> 0 ") ≡ false → (hex : List ℕ) → line ≡ codes "> 0 " ++ hex → ⊥
-without_front line isnt hex form =
-    let is = (bytes_eq-Decides (take 4 line) (codes "> 0 ")).1 (ap (take 4) form) in cc
+-- the three forms of a line differ in its first byte
+first_is : (line : List ℕ) (byte : ℕ) (more : List ℕ) → line ≡ byte ∷ more → get_or line 0 0 ≡ byte
+first_is line byte more is = ap (λ (l : List ℕ). get_or l 0 0) is
 
 -- a line spells one piece of work
-pub one_work : (line : List ℕ) (a b : Work) → LineSpells line a → LineSpells line b → a ≡ b
-one_work line a b spells_a spells_b =
-    let panel : a.panel ≡ b.panel = spells_a.is_work.panel ∙ sym spells_b.is_work.panel in
-    let form_a = begins line spells_a.hex a.panel spells_a.is_work.panel spells_a.form in
-    let form_b = begins line spells_b.hex b.panel spells_b.is_work.panel spells_b.form in
-    let hex : spells_b.hex ≡ spells_a.hex = ap (drop 4) (sym form_b ∙ form_a) in
-    let bytes : frame (text a.message) ≡ frame (text b.message) =
-    decode_of-same _ _ _ spells_a.frame (subst (λ (h : List ℕ). HexSpells h (frame (text b.message))) hex spells_b.frame) in
-    let message : a.message ≡ b.message =
-    one_text a.message b.message spells_a.is_work.asks.in_range spells_b.is_work.asks.in_range (one_frame (text a.message) (text b.message) bytes) in
-    λ i. record { panel = panel i; message = message i }
+pub one_work : (plant : PlantData) (line : List ℕ) (a b : Work) → LineSpells plant line a → LineSpells plant line b → a ≡ b
+one_work plant line (Read m []) (Read n []) a b =
+    ap (λ (panel : ℕ). Read panel []) (one_number a.digits b.digits m n (ap (drop 5) (sym a.form ∙ b.form)) a.number b.number)
+one_work plant line (Read m []) (Read n (byte ∷ bytes)) a b = absurd (omega (arith, first_is line 112 _ a.form, first_is line 62 _ b.form.1))
+one_work plant line (Read m []) (Leave n) a b = absurd (omega (arith, first_is line 112 _ a.form, first_is line 108 _ b.form))
+one_work plant line (Read m (byte ∷ bytes)) (Read n []) a b = absurd (omega (arith, first_is line 62 _ a.form.1, first_is line 112 _ b.form))
+one_work plant line (Read m (byte ∷ bytes)) (Read n (other ∷ others)) a b =
+    let same = one_turn line a.digits b.digits a.form.0 b.form.0 a.number.each b.number.each a.form.1 b.form.1 in
+    let panel = one_number a.digits b.digits m n same.0 a.number b.number in
+    let piece = decode_of-same _ _ _ a.form.2 (subst (λ (hex : List ℕ). HexSpells hex (other ∷ others)) (sym same.1) b.form.2) in
+    λ i. Read (panel i) (piece i)
+one_work plant line (Read m (byte ∷ bytes)) (Leave n) a b = absurd (omega (arith, first_is line 62 _ a.form.1, first_is line 108 _ b.form))
+one_work plant line (Leave m) (Read n []) a b = absurd (omega (arith, first_is line 108 _ a.form, first_is line 112 _ b.form))
+one_work plant line (Leave m) (Read n (byte ∷ bytes)) a b = absurd (omega (arith, first_is line 108 _ a.form, first_is line 62 _ b.form.1))
+one_work plant line (Leave m) (Leave n) a b =
+    ap (λ (panel : ℕ). Leave panel) (one_number a.digits b.digits m n (ap (drop 6) (sym a.form ∙ b.form)) a.number b.number)
 
--- a test that decides a fact tells whether it holds
-decided : (b : Bool) (P : Type 0) → Decides b P → P ⊎ (P → ⊥)
-decided true P decides = inl (decides.0 refl)
-decided false P decides = inr (λ p. let h = decides.1 p in cc)
+-- what passes a test is no longer than the text
+length-filter : (test : ℕ → Bool) (text : List ℕ) → length (filter test text) ≤ length text
+length-filter test text = omega (arith, length-filter_both test (λ byte. not (test byte)) (λ byte. refl) text)
 
-same_bytes : (xs ys : List ℕ) → (xs ≡ ys) ⊎ (xs ≡ ys → ⊥)
-same_bytes xs ys = decided (bytes_eq xs ys) (xs ≡ ys) (bytes_eq-Decides xs ys)
+length-HexSpells : (hex bytes : List ℕ) → HexSpells hex bytes → 2 * length bytes ≤ length hex
+length-HexSpells hex bytes spells =
+    let digits = filter (λ byte. not (byte == space)) hex in
+    omega (arith, (decode_of-ok digits bytes spells).2, length-filter (λ byte. not (byte == space)) hex)
 
--- These bytes are the canonical DATA of a message that asks something of the plant.
-abbrev IsAsked : List ℕ → Type 0
-IsAsked bytes = (message : Message) × (Asks message × (bytes ≡ text message))
+-- a line is longer than the hexadecimal of its bytes
+pub length-Read : (plant : PlantData) (line : List ℕ) (panel : ℕ) (piece : List ℕ) → LineSpells plant line (Read panel piece) → 2 * length piece + 4 ≤ length line
+length-Read plant line panel [] spells =
+    let some = spells.number.some in
+    omega (arith, ap length spells.form)
+length-Read plant line panel (byte ∷ bytes) spells =
+    let some = spells.number.some in
+    let hex = length-HexSpells spells.form.0 (byte ∷ bytes) spells.form.2 in
+    omega (arith, ap length (spells.form.1 ∙ turn-cut spells.digits spells.form.0), length-append spells.digits (space ∷ spells.form.0))
 
--- These bytes are the frame of such a message.
-abbrev IsAskedFrame : List ℕ → Type 0
-IsAskedFrame bytes = (message : Message) × (Asks message × (bytes ≡ frame (text message)))
+-- a line of work has at least six bytes
+pub length-work : (plant : PlantData) (line : List ℕ) (work : Work) → LineSpells plant line work → 6 ≤ length line
+length-work plant line (Read panel []) spells =
+    let some = spells.number.some in
+    omega (arith, ap length spells.form)
+length-work plant line (Read panel (byte ∷ bytes)) spells = omega (arith, length-Read plant line panel (byte ∷ bytes) spells)
+length-work plant line (Leave panel) spells =
+    let some = spells.number.some in
+    omega (arith, ap length spells.form)
 
--- what DATA spells is asked with it, or nothing is
-spelled_asked : (bytes : List ℕ) (message : Message) → Spells bytes message → IsAsked bytes ⊎ (IsAsked bytes → ⊥)
-spelled_asked bytes message spells = elim (same_bytes bytes (text message)) [
-  | inl same ↦ of_kind (kind_of message) refl same
-  | inr other ↦ inr (λ one. let is = only one in other (one.1.1 ∙ ap text is))
-]
-  where
-    only : (one : IsAsked bytes) → one.0 ≡ message
-    only one = one_message bytes one.0 message (subst (λ (b : List ℕ). Spells b one.0) (sym one.1.1) (Spells-text one.0 one.1.0.in_range)) spells
+-- a line that isn't empty and doesn't begin with `#` isn't skipped
+pub not_skipped : (line : List ℕ) → 1 ≤ length line → get_or line 0 0 ≢ hash → is_skipped line ≡ false
+not_skipped [] some isnt = absurd (omega arith)
+not_skipped (byte ∷ more) some isnt = grind (arith, nat_tests)
 
-    of_kind : (kind : MessageKind) → kind_of message ≡ kind → bytes ≡ text message → IsAsked bytes ⊎ (IsAsked bytes → ⊥)
-    of_kind kinds.Plant is same = inl (message, (record { kind = is; in_range = spells.in_range }, same))
-    of_kind kinds.Report is same = inr (λ one. let kind = one.1.0.kind in let other = ap kind_of (only one) in cc)
+-- a line by the test of its front
+pub with_front : (front line behind : List ℕ) → bytes_eq (take (length front) line) front ≡ true → behind ≡ drop (length front) line → line ≡ front ++ behind
+with_front front line behind is cut =
+    sym (take-append-drop (length front) line) ∙ ap (λ (l : List ℕ). l ++ drop (length front) line) ((bytes_eq-Decides (take (length front) line) front).0 is)
+    ∙ ap (λ (l : List ℕ). front ++ l) (sym cut)
 
--- each of these is below 256, and so is what is read past them
-small : (bytes : List ℕ) → All (λ byte. byte < 256) bytes → (k : ℕ) → get_or bytes k 0 < 256
-small bytes all k = elim (cases_lt k (length bytes)) [
-  | inl within ↦ All-get_or (λ byte. byte < 256) bytes k 0 within all
-  | inr past ↦ rw (get_or_past bytes k 0 past) (omega arith)
-]
+-- The line hasn't this front.
+abbrev HasNoFront : List ℕ → List ℕ → Type 0
+HasNoFront line front = (behind : List ℕ) → line ≡ front ++ behind → ⊥
 
-asked_behind : (command : ℕ) (behind : List ℕ) (read : Option Message) → message_of command behind ≡ read → IsAsked (command ∷ behind) ⊎ (IsAsked (command ∷ behind) → ⊥)
-asked_behind command behind None is =
-    inr (λ one.
-    let spells : Spells (command ∷ behind) one.0 = subst (λ (b : List ℕ). Spells b one.0) (sym one.1.1) (Spells-text one.0 one.1.0.in_range) in
-    let some = message_of-Spells command behind one.0 spells in
-    cc)
-asked_behind command behind (Some message) is = by_fault (fault_of (row message).fields behind) refl
-  where
-    read : Some message ≡ message_of command (tail (command ∷ behind))
-    read = sym is ∙ ap (message_of command) (sym (tail-cons command behind))
+without_front : (front line : List ℕ) → bytes_eq (take (length front) line) front ≡ false → HasNoFront line front
+without_front front line isnt behind form =
+    let is = (bytes_eq-Decides (take (length front) line) front).1 (ap (take (length front)) form ∙ take-append_seam front behind) in cc
 
-    by_fault : (fault : Option ReadFault) → fault_of (row message).fields behind ≡ fault → IsAsked (command ∷ behind) ⊎ (IsAsked (command ∷ behind) → ⊥)
-    by_fault None none =
-        spelled_asked (command ∷ behind) message (data_ok (command ∷ behind) message (omega arith) read (ap (fault_of (row message).fields) (tail-cons command behind) ∙ none))
-    by_fault (Some fault) some =
-        inr (λ one.
-        let spells : Spells (command ∷ behind) one.0 = subst (λ (b : List ℕ). Spells b one.0) (sym one.1.1) (Spells-text one.0 one.1.0.in_range) in
-        let bytes : (k : ℕ) → get_or (command ∷ behind) k 0 < 256 = subst (λ (b : List ℕ). (k : ℕ) → get_or b k 0 < 256) (sym one.1.1) (small (text one.0) (All-text one.0 one.1.0.in_range)) in
-        not_both (command ∷ behind) one.0 fault spells
-        (data_err (command ∷ behind) message fault (omega arith) bytes read (ap (fault_of (row message).fields) (tail-cons command behind) ∙ some)))
-
--- bytes are the canonical DATA of a message that asks something of the plant, or not
-asked : (bytes : List ℕ) → IsAsked bytes ⊎ (IsAsked bytes → ⊥)
-asked [] = inr (λ one. let empty = one.1.1 in cc)
-asked (command ∷ behind) = asked_behind command behind (message_of command behind) refl
-
--- the DATA of the first item, if it is a good one
-abbrev carried_of : List (Item (List ℕ)) → List ℕ
-carried_of [] = []
-carried_of (Good carried ∷ more) = carried
-carried_of (Bad ∷ more) = []
-carried_of (Ack ∷ more) = []
-carried_of (Nak ∷ more) = []
-
--- a frame of DATA is read as them
-carried-frame : (bytes : List ℕ) (message : Message) → bytes ≡ frame (text message) → carried_of (items bytes) ≡ text message
-carried-frame bytes message is =
-    ap (λ (b : List ℕ). carried_of (items b)) is ∙ ap carried_of (reads_one (text message) (IsData-text message)).all_items
-
-asked_frame : (bytes : List ℕ) → IsAskedFrame bytes ⊎ (IsAskedFrame bytes → ⊥)
-asked_frame bytes = elim (asked (carried_of (items bytes))) [
-  | inr none ↦ inr (λ found. none (found.0, (found.1.0, carried-frame bytes found.0 found.1.1)))
-  | inl one ↦ elim (same_bytes bytes (frame (text one.0))) [
-    | inl same ↦ inl (one.0, (one.1.0, same))
-    | inr other ↦ inr (λ found.
-        let carried : text found.0 ≡ text one.0 = sym (carried-frame bytes found.0 found.1.1) ∙ one.1.1 in
-        other (found.1.1 ∙ ap frame carried))
-  ]
-]
-
--- A line spells a piece of work.
-abbrev IsSpelled : List ℕ → Type 0
-IsSpelled line = (work : Work) × LineSpells line work
-
--- a line of another form spells nothing
-pub no_form : (line : List ℕ) → ((hex : List ℕ) → line ≡ codes "> 0 " ++ hex → ⊥) → (work : Work) → LineSpells line work → ⊥
-no_form line none work spells = none spells.hex (begins line spells.hex work.panel spells.is_work.panel spells.form)
-
--- the hexadecimal behind the front of a line spells the frame
-hex_frame : (line hex : List ℕ) (work : Work) → line ≡ codes "> 0 " ++ hex → LineSpells line work → HexSpells hex (frame (text work.message))
-hex_frame line hex work form spells =
-    let same : spells.hex ≡ hex = ap (drop 4) (sym (begins line spells.hex work.panel spells.is_work.panel spells.form) ∙ form) in
-    subst (λ (h : List ℕ). HexSpells h (frame (text work.message))) same spells.frame
-
-pub no_hex : (line hex : List ℕ) → line ≡ codes "> 0 " ++ hex → ((bytes : List ℕ) → HexSpells hex bytes → ⊥) → (work : Work) → LineSpells line work → ⊥
-no_hex line hex form none work spells = none (frame (text work.message)) (hex_frame line hex work form spells)
-
-pub no_frame : (line hex bytes : List ℕ) → line ≡ codes "> 0 " ++ hex → HexSpells hex bytes → ((message : Message) → Asks message → bytes ≡ frame (text message) → ⊥)
-    → (work : Work) → LineSpells line work → ⊥
-no_frame line hex bytes form is none work spells =
-    none work.message spells.is_work.asks (decode_of-same _ _ _ is (hex_frame line hex work form spells))
-
-pub line_spells : (line hex bytes : List ℕ) (message : Message) → length line ≤ longest_line → line ≡ codes "> 0 " ++ hex → HexSpells hex bytes → Asks message → bytes ≡ frame (text message)
-    → LineSpells line (record { panel = 0; message = message })
-line_spells line hex bytes message within form is asks framed = record {
-  is_work = record { panel = refl; asks = asks };
-  hex = hex;
-  form = form ∙ sym (begins_0 hex);
-  frame = subst (HexSpells hex) framed is;
+-- a turn by what stands behind its front
+turn_spells : (plant : PlantData) (line behind : List ℕ) (panel : ℕ) (piece : List ℕ) → length line ≤ longest_line → line ≡ codes "> " ++ behind → IsTurn plant behind panel piece → LineSpells plant line (Read panel piece)
+turn_spells plant line behind panel [] within front found = let some = found.some in absurd (omega arith)
+turn_spells plant line behind panel (byte ∷ bytes) within front found = record {
+  digits = found.digits;
+  number = found.number;
+  has_panel = found.has_panel;
+  form = (found.hex, front ∙ ap (λ (l : List ℕ). codes "> " ++ l) found.place ∙ sym (turn-cut found.digits found.hex), found.spelled);
   within = within;
 }
 
-spelled_hex : (line hex : List ℕ) (read : Result (List ℕ) FromHexError) → decode_of (filter (λ byte. not (byte == space)) hex) ≡ read
-    → length line ≤ longest_line → line ≡ codes "> 0 " ++ hex → IsSpelled line ⊎ (IsSpelled line → ⊥)
-spelled_hex line hex (Err fault) is within form =
-    inr (λ one. let spelled : decode_of (filter (λ byte. not (byte == space)) hex) ≡ Ok _ = hex_frame line hex one.0 form one.1 in cc)
-spelled_hex line hex (Ok bytes) is within form = elim (asked_frame bytes) [
-  | inl found ↦ inl (record { panel = 0; message = found.0 }, line_spells line hex bytes found.0 within form is found.1.0 found.1.1)
-  | inr none ↦ inr (λ one. no_frame line hex bytes form is (λ message asks framed. none (message, (asks, framed))) one.0 one.1)
+pub no_turn : (plant : PlantData) (line behind : List ℕ) → line ≡ codes "> " ++ behind → ((panel : ℕ) (piece : List ℕ) → IsTurn plant behind panel piece → ⊥) → (work : Work) → LineSpells plant line work → ⊥
+no_turn plant line behind front none (Read panel []) spells = absurd (omega (arith, first_is line 62 _ front, first_is line 112 _ spells.form))
+no_turn plant line behind front none (Read panel (byte ∷ bytes)) spells = none panel (byte ∷ bytes) (record {
+  digits = spells.digits;
+  hex = spells.form.0;
+  place = ap (drop 2) (sym front ∙ spells.form.1 ∙ turn-cut spells.digits spells.form.0);
+  number = spells.number;
+  has_panel = spells.has_panel;
+  spelled = spells.form.2;
+  some = omega arith;
+})
+no_turn plant line behind front none (Leave panel) spells = absurd (omega (arith, first_is line 62 _ front, first_is line 108 _ spells.form))
+
+no_poll : (plant : PlantData) (line digits : List ℕ) → line ≡ codes "poll " ++ digits → NoPanel digits (length plant.panels) → (work : Work) → LineSpells plant line work → ⊥
+no_poll plant line digits form none (Read panel []) spells =
+    none panel (subst (λ (d : List ℕ). NumberSpells d panel) (ap (drop 5) (sym spells.form ∙ form)) spells.number) spells.has_panel
+no_poll plant line digits form none (Read panel (byte ∷ bytes)) spells = absurd (omega (arith, first_is line 112 _ form, first_is line 62 _ spells.form.1))
+no_poll plant line digits form none (Leave panel) spells = absurd (omega (arith, first_is line 112 _ form, first_is line 108 _ spells.form))
+
+no_leave : (plant : PlantData) (line digits : List ℕ) → line ≡ codes "leave " ++ digits → NoPanel digits (length plant.panels) → (work : Work) → LineSpells plant line work → ⊥
+no_leave plant line digits form none (Read panel []) spells = absurd (omega (arith, first_is line 108 _ form, first_is line 112 _ spells.form))
+no_leave plant line digits form none (Read panel (byte ∷ bytes)) spells = absurd (omega (arith, first_is line 108 _ form, first_is line 62 _ spells.form.1))
+no_leave plant line digits form none (Leave panel) spells =
+    none panel (subst (λ (d : List ℕ). NumberSpells d panel) (ap (drop 6) (sym spells.form ∙ form)) spells.number) spells.has_panel
+
+no_form : (plant : PlantData) (line : List ℕ) → HasNoFront line (codes "> ") → HasNoFront line (codes "poll ") → HasNoFront line (codes "leave ") → (work : Work) → LineSpells plant line work → ⊥
+no_form plant line no_turn no_poll no_leave (Read panel []) spells = no_poll spells.digits spells.form
+no_form plant line no_turn no_poll no_leave (Read panel (byte ∷ bytes)) spells =
+    no_turn (spells.digits ++ space ∷ spells.form.0) (spells.form.1 ∙ turn-cut spells.digits spells.form.0)
+no_form plant line no_turn no_poll no_leave (Leave panel) spells = no_leave spells.digits spells.form
+
+-- a line has a front or not
+front_of : (front line : List ℕ) → ((behind : List ℕ) × (line ≡ front ++ behind)) ⊎ HasNoFront line front
+front_of front line = decided (bytes_eq (take (length front) line) front) refl
+  where
+    decided : (is : Bool) → bytes_eq (take (length front) line) front ≡ is → ((behind : List ℕ) × (line ≡ front ++ behind)) ⊎ HasNoFront line front
+    decided true is = inl (drop (length front) line, with_front front line (drop (length front) line) is refl)
+    decided false isnt = inr (without_front front line isnt)
+
+-- A line spells a piece of work of the plant.
+abbrev pub IsSpelled : PlantData → List ℕ → Type 0
+IsSpelled plant line = (work : Work) × LineSpells plant line work
+
+spelled_turn : (plant : PlantData) (line behind : List ℕ) → length line ≤ longest_line → line ≡ codes "> " ++ behind → IsSpelled plant line ⊎ ¬ IsSpelled plant line
+spelled_turn plant line behind within form = elim (turn_of plant behind) [
+  | inl turn ↦ inl (Read turn.0 turn.1, turn_spells plant line behind turn.0 turn.1 within form turn.2)
+  | inr none ↦ inr (λ spelled. no_turn plant line behind form none spelled.0 spelled.1)
 ]
 
--- a line spells a piece of work, or none
-pub spelled_line : (line : List ℕ) → IsSpelled line ⊎ (IsSpelled line → ⊥)
-spelled_line line = elim (cases_lt longest_line (length line)) [
-  | inl long ↦ inr (λ one. absurd (omega (arith, one.1.within)))
-  | inr within ↦ elim (same_bytes (take 4 line) (codes "> 0 ")) [
-    | inl front ↦ spelled_hex line (drop 4 line) _ refl within (sym (take-append-drop 4 line) ∙ ap (λ (l : List ℕ). l ++ drop 4 line) front)
-    | inr other ↦ inr (λ one. no_form line (λ hex form. other (ap (take 4) form)) one.0 one.1)
+spelled_poll : (plant : PlantData) (line digits : List ℕ) → length line ≤ longest_line → line ≡ codes "poll " ++ digits → IsSpelled plant line ⊎ ¬ IsSpelled plant line
+spelled_poll plant line digits within form = elim (panel_of_digits digits (length plant.panels)) [
+  | inl panel ↦ inl (Read panel.0 [], record { digits = digits; number = panel.1; has_panel = panel.2; form = form; within = within })
+  | inr none ↦ inr (λ spelled. no_poll plant line digits form none spelled.0 spelled.1)
+]
+
+spelled_leave : (plant : PlantData) (line digits : List ℕ) → length line ≤ longest_line → line ≡ codes "leave " ++ digits → IsSpelled plant line ⊎ ¬ IsSpelled plant line
+spelled_leave plant line digits within form = elim (panel_of_digits digits (length plant.panels)) [
+  | inl panel ↦ inl (Leave panel.0, record { digits = digits; number = panel.1; has_panel = panel.2; form = form; within = within })
+  | inr none ↦ inr (λ spelled. no_leave plant line digits form none spelled.0 spelled.1)
+]
+
+spelled_within : (plant : PlantData) (line : List ℕ) → length line ≤ longest_line → IsSpelled plant line ⊎ ¬ IsSpelled plant line
+spelled_within plant line within = elim (front_of (codes "> ") line) [
+  | inl turn ↦ spelled_turn plant line turn.0 within turn.1
+  | inr isnt_turn ↦ elim (front_of (codes "poll ") line) [
+    | inl poll ↦ spelled_poll plant line poll.0 within poll.1
+    | inr isnt_poll ↦ elim (front_of (codes "leave ") line) [
+      | inl leave ↦ spelled_leave plant line leave.0 within leave.1
+      | inr isnt_leave ↦ inr (λ spelled. no_form plant line isnt_turn isnt_poll isnt_leave spelled.0 spelled.1)
+    ]
   ]
+]
+
+-- a line spells a piece of work or none
+pub spelled_line : (plant : PlantData) (line : List ℕ) → IsSpelled plant line ⊎ ¬ IsSpelled plant line
+spelled_line plant line = elim (cases_lt longest_line (length line)) [
+  | inl long ↦ inr (λ spelled. absurd (omega (arith, spelled.1.within)))
+  | inr within ↦ spelled_within plant line within
 ]

@@ -4,4 +4,10 @@ pub use Rattle.plant_core.specs.State
 pub use Rattle.plant_config.specs.Plant
 pub use Rattle.plant_config.specs.Bench
 pub mod Script
+pub mod LineInside
 pub mod Replay
+pub mod OutputInside
+pub mod OutputLaws
+pub mod StandInside
+pub mod StageInside
+pub mod Laws

@@ -1,53 +1,81 @@
 -- What a replay writes.
-use Rattle.std.specs.Prelude.{◌≡◌, ℕ, ◌+◌, ◌<◌, Bool, true, false, List, [], ◌∷◌, ◌++◌, length, take, codes, Option, Result, Ok, Err}
+use Rattle.std.specs.Prelude.{◌≡◌, ℕ, ◌<◌, ◌==◌, Bool, true, false, if◌then◌else◌, List, [], ◌∷◌, ◌++◌, length, take, codes, Option, Result, Ok, Err}
 use Rattle.std.specs.Fmt.{decimal}
-use Rattle.std.specs.List.{flat_map}
 use Rattle.hex.specs.Hex.{encode_upper}
 use Rattle.ctl_io.specs.Sink.{appended, AppendsPart}
-use Rattle.dle_framing.specs.Numbers.{ack}
-use Rattle.dle_framing.specs.Frame.{frame}
-use Rattle.swp08_messages.specs.Text.{text}
+use Rattle.history_lock.specs.History.{run}
 use Rattle.plant_config.specs.Plant.{PlantData}
-use Rattle.plant_core.specs.declared.request.Request.{Request}
-use Rattle.plant_core.specs.declared.request.Request.TheVariants.{Told}
-use Rattle.plant_core.specs.declared.answer.Answer.{Answer}
-use Rattle.plant_core.specs.declared.answer.Answer.TheVariants.{Say}
-use Rattle.plant_core.specs.State.{State, start}
+use Rattle.plant_core.specs.declared.request.Request.TheVariants as requests
+use Rattle.plant_core.specs.State.{State, Fits, start}
 use Rattle.plant_core.specs.Step.{step}
-use Rattle.record_replay.specs.declared.line.Work.{Work}
+use Rattle.panel_session.specs.Run.{IsWorked, turned}
+use Rattle.panel_session.specs.SoFar.{Past, nothing_yet}
+use Rattle.panel_session.specs.Turns.{Turn, entries_in}
 use Rattle.record_replay.specs.declared.replay.ReplayFault.{ReplayFault}
 use Rattle.record_replay.specs.declared.replay.ReplayFault.TheVariants.{NoMemory, BadLine, OutputFault}
-use Rattle.record_replay.specs.Script.{line_feed, lines, LinesSpell}
+use Rattle.record_replay.specs.Script.{Work, Read, Leave, line_feed, lines, worked, LinesSpell}
 
--- the bytes of one answer
-abbrev pub answer_frame : Answer → List ℕ
-answer_frame (Say message) = frame (text message)
+-- bytes in the output: in hexadecimal, or `-` where there are none
+abbrev pub shown : List ℕ → List ℕ
+shown [] = codes "-"
+shown (byte ∷ bytes) = encode_upper (byte ∷ bytes)
 
--- the bytes that reply to a good frame: ACK, and then the frames of the answers in order
-abbrev pub reply : List Answer → List ℕ
-reply answers = ack ++ flat_map answer_frame answers
+-- the output line of a turn of this panel's session, in which these bytes were sent
+abbrev pub turn_line : ℕ → List ℕ → List ℕ
+turn_line panel bytes = codes "< " ++ decimal panel ++ codes " " ++ shown bytes ++ line_feed ∷ []
 
--- the output line of these bytes, with which the plant replies to this panel
-abbrev pub output_line : ℕ → List ℕ → List ℕ
-output_line panel bytes = codes "< " ++ decimal panel ++ codes " " ++ encode_upper bytes ++ line_feed ∷ []
+-- the output line of a panel that leaves
+abbrev pub leave_line : ℕ → List ℕ
+leave_line panel = codes "leave " ++ decimal panel ++ line_feed ∷ []
 
--- the plant's event: the panel sends the message, as the item of this number
-abbrev pub sent : ℕ → Work → Request
-sent item work = Told work.panel item work.message
+-- Where a replay stands: the one plant's state, and what the session of each panel has done so far.
+pub record Stand : Type 0 where
+  pub state : State
+  pub pasts : ℕ → Past
 
--- The output lines of works that are done one after the other, from this state on. The first is the item of this number,
--- and each finds the state that the ones before it left.
-abbrev pub replies : State → ℕ → List Work → List ℕ
-replies state item [] = []
-replies state item (work ∷ works) =
-    output_line work.panel (reply (step state (sent item work)).answers) ++ replies (step state (sent item work)).state (item + 1) works
+-- at the start of a plant no session has done anything
+abbrev pub begun : PlantData → Stand
+begun plant = record { state = start plant; pasts = λ panel. nothing_yet }
 
--- The script has this replay text on this plant: each line spells a piece of work, and these are done in order from the
--- start of the plant.
+-- one panel's session has done this, and all others what they had
+abbrev pub with_past : ℕ → Past → (ℕ → Past) → ℕ → Past
+with_past panel past pasts other = if other == panel then past else pasts other
+
+-- where it stands behind a turn of a panel's session, in which these bytes were sent
+abbrev pub behind_turn : ℕ → Turn → List ℕ → Stand → Stand
+behind_turn panel turn more stand = record {
+  state = run step stand.state (entries_in turn);
+  pasts = with_past panel (turned turn more (stand.pasts panel)) stand.pasts;
+}
+
+-- A piece of work leads from one stand to the next, with this output line. A turn is worked by the plant, and the line has
+-- the bytes that the panel's session sends in it. A leave is one step of the plant.
+abbrev pub Works : PlantData → Work → Stand → List ℕ → Stand → Type 0
+Works plant (Read panel piece) stand line next =
+    (turn : Turn) × (more : List ℕ)
+    × (turn.piece ≡ piece)
+    × IsWorked step Fits plant panel (stand.pasts panel) stand.state turn more
+    × (line ≡ turn_line panel more)
+    × (next ≡ behind_turn panel turn more stand)
+Works plant (Leave panel) stand line next =
+    (line ≡ leave_line panel) × (next ≡ record stand { state = (step stand.state (requests.Leave panel)).state })
+
+-- Works that are done one after the other lead from one stand to another, with these output lines.
+abbrev pub AllWork : PlantData → List Work → Stand → List ℕ → Stand → Type 0
+AllWork plant [] stand output last = (output ≡ []) × (last ≡ stand)
+AllWork plant (work ∷ works) stand output last =
+    (next : Stand) × (line rest : List ℕ)
+    × Works plant work stand line next
+    × AllWork plant works next rest last
+    × (output ≡ line ++ rest)
+
+-- The script has this replay text on this plant: its lines that aren't skipped spell works, and these are done in order
+-- from the start of the plant.
 pub record IsReplay (plant : PlantData) (script output : List ℕ) : Type 0 where
   pub works : List Work
-  pub spelled : LinesSpell (lines script) works
-  pub replies : output ≡ replies (start plant) 0 works
+  pub spelled : LinesSpell plant (worked (lines script)) works
+  pub last : Stand
+  pub all_work : AllWork plant works (begun plant) output last
 
 -- A front of the script's replay text that is shorter than it.
 pub record IsReplayFront (plant : PlantData) (script front : List ℕ) : Type 0 where

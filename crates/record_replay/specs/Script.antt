@@ -1,12 +1,19 @@
 -- Scripts: the lines of a text, and the piece of work that each of them spells.
-use Rattle.std.specs.Prelude.{◌≡◌, ℕ, ◌+◌, ◌≤◌, ◌==◌, not, if◌then◌else◌, List, [], ◌∷◌, ◌++◌, length, filter, codes, Ok}
-use Rattle.std.specs.Fmt.{decimal}
+use Rattle.std.specs.Prelude.{◌≡◌, ℕ, ◌+◌, ◌-◌, ◌*◌, ◌<◌, ◌≤◌, ◌==◌, Bool, true, false, not, if◌then◌else◌, List, [], ◌∷◌, ◌++◌, length, filter, All, codes, Ok}
+use Rattle.std.specs.List.{fold}
 use Rattle.hex.specs.Hex.{decode_of}
-use Rattle.dle_framing.specs.Frame.{frame}
-use Rattle.swp08_messages.specs.declared.message.Message.{Message}
-use Rattle.swp08_messages.specs.declared.message.MessageKind.TheVariants.{Plant}
-use Rattle.swp08_messages.specs.Text.{text, InRange, kind_of}
-use Rattle.record_replay.specs.declared.line.Work.{Work}
+use Rattle.plant_config.specs.Plant.{PlantData}
+
+-- A piece of a script's work. A panel's session has one turn with this piece, which is empty where the panel is idle; or
+-- the panel leaves.
+pub data Work : Type 0 where
+  Read : (panel : ℕ) (piece : List ℕ) → Work
+  Leave : (panel : ℕ) → Work
+
+-- whose work it is
+abbrev pub panel_of : Work → ℕ
+panel_of (Read panel piece) = panel
+panel_of (Leave panel) = panel
 
 -- the byte that ends a line
 abbrev pub line_feed : ℕ
@@ -16,7 +23,11 @@ line_feed = 10
 abbrev pub space : ℕ
 space = 32
 
--- the most bytes of a line, its end not counted
+-- the byte that a line begins with that is skipped
+abbrev pub hash : ℕ
+hash = 35
+
+-- the most bytes of a line of work, its end not counted
 abbrev pub longest_line : ℕ
 longest_line = 65536
 
@@ -30,43 +41,67 @@ abbrev pub lines : List ℕ → List (List ℕ)
 lines [] = []
 lines (byte ∷ more) = if byte == line_feed then [] ∷ lines more else in_line byte (lines more)
 
+-- An empty line is skipped, and one that begins with `#`, whatever stands behind it.
+abbrev pub is_skipped : List ℕ → Bool
+is_skipped [] = true
+is_skipped (byte ∷ more) = byte == hash
+
+-- the lines that aren't skipped
+abbrev pub worked : List (List ℕ) → List (List ℕ)
+worked lines = filter (λ line. not (is_skipped line)) lines
+
+-- a decimal digit
+pub record IsDigit (byte : ℕ) : Type 0 where
+  pub least : 48 ≤ byte
+  pub most : byte ≤ 57
+
+-- the number of decimal digits, the highest first
+abbrev pub number_of : List ℕ → ℕ
+number_of digits = fold (λ number digit. 10 * number + (digit - 48)) 0 digits
+
+-- One to five decimal digits spell their number. There may be zeros in front.
+pub record NumberSpells (digits : List ℕ) (number : ℕ) : Type 0 where
+  pub some : 1 ≤ length digits
+  pub few : length digits ≤ 5
+  pub each : All IsDigit digits
+  pub number_is : number ≡ number_of digits
+
 -- A text in hexadecimal spells these bytes. Its spaces are dropped, and its digits are of either case.
 abbrev pub HexSpells : List ℕ → List ℕ → Type 0
 HexSpells hex bytes = decode_of (filter (λ byte. not (byte == space)) hex) ≡ Ok bytes
 
--- A message that asks something of the plant.
-pub record Asks (message : Message) : Type 0 where
-  pub kind : kind_of message ≡ Plant
-  pub in_range : InRange message
+-- A line has the form of a piece of work of the panel with these digits: `poll P` for an idle turn, `> P HEX` for one with
+-- at least one byte, and `leave P`.
+abbrev pub HasForm : List ℕ → List ℕ → Work → Type 0
+HasForm line digits (Read panel []) = line ≡ codes "poll " ++ digits
+HasForm line digits (Read panel (byte ∷ bytes)) =
+    (hex : List ℕ) × (line ≡ codes "> " ++ digits ++ codes " " ++ hex) × HexSpells hex (byte ∷ bytes)
+HasForm line digits (Leave panel) = line ≡ codes "leave " ++ digits
 
--- The work of a line: panel 0 sends a message that asks something of the plant.
-pub record IsWork (work : Work) : Type 0 where
-  pub panel : work.panel ≡ 0
-  pub asks : Asks work.message
-
--- A line spells a piece of work: `> `, the panel's number, a space, and in hexadecimal the one frame of the message's
--- canonical DATA.
-pub record LineSpells (line : List ℕ) (work : Work) : Type 0 where
-  pub is_work : IsWork work
-  pub hex : List ℕ
-  pub form : line ≡ codes "> " ++ decimal work.panel ++ codes " " ++ hex
-  pub frame : HexSpells hex (frame (text work.message))
+-- A line spells a piece of work of one of the plant's panels.
+pub record LineSpells (plant : PlantData) (line : List ℕ) (work : Work) : Type 0 where
+  pub digits : List ℕ
+  pub number : NumberSpells digits (panel_of work)
+  pub has_panel : panel_of work < length plant.panels
+  pub form : HasForm line digits work
   pub within : length line ≤ longest_line
 
 -- The lines spell these works, one each, in order.
-abbrev pub LinesSpell : List (List ℕ) → List Work → Type 0
-LinesSpell [] [] = Unit {0}
-LinesSpell (line ∷ others) (work ∷ works) = LineSpells line work × LinesSpell others works
-LinesSpell [] (work ∷ works) = ⊥
-LinesSpell (line ∷ others) [] = ⊥
+abbrev pub LinesSpell : PlantData → List (List ℕ) → List Work → Type 0
+LinesSpell plant [] [] = Unit {0}
+LinesSpell plant (line ∷ others) (work ∷ works) = LineSpells plant line work × LinesSpell plant others works
+LinesSpell plant [] (work ∷ works) = ⊥
+LinesSpell plant (line ∷ others) [] = ⊥
 
--- The line of this number, counted from 1, is the first of the script that spells no work.
-pub record IsFirstBad (script : List ℕ) (number : ℕ) : Type 0 where
+-- The line of this number, counted from 1 with those that are skipped, is the first of the script that isn't skipped and
+-- spells no work.
+pub record IsFirstBad (plant : PlantData) (script : List ℕ) (number : ℕ) : Type 0 where
   pub before : List (List ℕ)
   pub works : List Work
-  pub spelled : LinesSpell before works
+  pub spelled : LinesSpell plant (worked before) works
   pub line : List ℕ
   pub after : List (List ℕ)
   pub place : lines script ≡ before ++ line ∷ after
-  pub refused : (work : Work) → LineSpells line work → ⊥
+  pub not_skipped : is_skipped line ≡ false
+  pub refused : (work : Work) → LineSpells plant line work → ⊥
   pub counted : number ≡ length before + 1

@@ -10,6 +10,7 @@ ghost use Rattle.swp08_messages.specs.Spelled.{Spells};
 ghost use Rattle.plant_config.specs.Plant.{PlantData};
 ghost use Rattle.record_replay.specs.Script.{IsFirstBad};
 ghost use Rattle.record_replay.specs.Replay.{IsReplay};
+ghost use Rattle.record_replay.specs.Laws.{Deed, IsHistory};
 
 /// The frame of a message is read as one good item with the message's DATA and no rest. These DATA spell the
 /// message, and no other.
@@ -21,14 +22,27 @@ pub fn one_item()
         → Spells (text message) other → other ≡ message }
 {}
 
-/// A script has a replay text on each plant or a first bad line, never both, and one alone of either.
+/// A script has a replay text on each plant or a first bad line there, never both, and one alone of either.
 pub fn one_replay()
     ensures always { (plant : PlantData) (script : List ℕ)
         → ((output : List ℕ) × IsReplay plant script output)
-        ⊎ ((number : ℕ) × IsFirstBad script number) }
+        ⊎ ((number : ℕ) × IsFirstBad plant script number) }
     ensures text { (plant : PlantData) (script a b : List ℕ)
         → IsReplay plant script a → IsReplay plant script b → a ≡ b }
-    ensures line { (script : List ℕ) (m n : ℕ) → IsFirstBad script m → IsFirstBad script n → m ≡ n }
+    ensures line { (plant : PlantData) (script : List ℕ) (m n : ℕ)
+        → IsFirstBad plant script m → IsFirstBad plant script n → m ≡ n }
     ensures apart { (plant : PlantData) (script output : List ℕ) (number : ℕ)
-        → IsReplay plant script output → IsFirstBad script number → ⊥ }
+        → IsReplay plant script output → IsFirstBad plant script number → ⊥ }
+{}
+
+/// Each replay has a legal history of its plant. It is made line by line, and behind each of them every panel's session is
+/// one: the requests that it made fit the pieces that the script gave it, and what its lines show is its text of them. No
+/// script has two such histories, and what one shows is the replay text.
+pub fn one_history()
+    ensures some { (plant : PlantData) (script output : List ℕ) → IsReplay plant script output
+        → (deeds : List Deed) × IsHistory plant script output deeds }
+    ensures alone { (plant : PlantData) (script a b : List ℕ) (deeds others : List Deed)
+        → IsHistory plant script a deeds → IsHistory plant script b others → deeds ≡ others }
+    ensures text { (plant : PlantData) (script output : List ℕ) (deeds : List Deed)
+        → IsHistory plant script output deeds → IsReplay plant script output }
 {}

@@ -3,14 +3,22 @@
 //! text.
 #![tactic(auto)]
 
+mod check;
+mod digits;
+mod drain;
 mod laws;
 mod line;
+mod number;
 mod output;
 mod replay;
+mod room;
 mod script;
+mod stage;
 
-pub use laws::{one_item, one_replay};
+pub use laws::{one_history, one_item, one_replay};
 pub use replay::{ReplayFault, replay_script};
 
 #[cfg(test)]
 mod example;
+#[cfg(test)]
+mod tests;

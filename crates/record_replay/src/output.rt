@@ -1,41 +1,153 @@
-//! The output line that replies to a panel.
+//! The output lines of a replay, given to a sink in large pieces.
 
-ghost use Rattle.std.specs.Prelude.{◌≡◌, [], ◌∷◌, IfOk, string_bytes};
-ghost use Rattle.plant_core.specs.Answer.{IsSayable};
-ghost use Rattle.record_replay.specs.Replay.{reply, output_line};
+ghost use Rattle.std.specs.Prelude.{◌≡◌, [], ◌∷◌, false};
+ghost use Rattle.std.specs.Bool.{OnTrue, OnFalse};
+ghost use Rattle.record_replay.specs.Replay.{leave_line};
+ghost use Rattle.record_replay.specs.OutputInside.{HasNothing, Puts, Gives, IsAllGiven, IsCutShort, turn_head, turn_end};
+ghost use Rattle.record_replay.specs.OutputLaws.{gives_none, gives_more};
 
-use dle_framing::{append_ack, encode_frame, frame_len};
+use crate::drain::Drain;
+use crate::room::Room;
+use itoa::Buffer;
+use panel_session::Outlet;
 use plant_config::PanelNo;
-use plant_core::Answer;
-use std::alloc::{AllocError, Global};
-use swp08_messages::Message;
 
-// The line of the reply to this panel with one answer.
-pub(crate) fn reply_line(
-    alloc: Global,
-    panel: PanelNo,
-    answer: &Answer,
-) -> Result<String, AllocError>
-    requires { IsSayable answer.now }
-    ensures { IfOk result (λ line.
-        string_bytes line ≡ output_line panel (reply (answer.now ∷ []))) }
-{
-    let reply = reply_bytes(alloc, answer)?;
-    let digits = hex::encode_upper(alloc, &reply)?;
-    let number = panel.get();
-    format!(in alloc; "< {number} {digits}\n")
+// The digits of hexadecimal.
+const DIGITS: &[u8; 16] = b"0123456789ABCDEF";
+
+/// An output that lines are put into. Where a write of its sink fails, it drops what comes later.
+#[derive(Drop)]
+pub(crate) struct Output<'k, K: Drain> {
+    out: &'k mut K,
+    buffer: &'k mut Room,
+    // Whether the line of a turn has bytes so far.
+    some: bool,
+    failed: bool,
 }
 
-// The bytes that reply to a good frame with one answer.
-fn reply_bytes(alloc: Global, answer: &Answer) -> Result<Vec<u8>, AllocError>
-    requires { IsSayable answer.now }
-    ensures { IfOk result (λ bytes. bytes.items ≡ reply (answer.now ∷ [])) }
-{
-    let Answer::Say(message) = answer;
-    let mut data = Vec::with_capacity(alloc, Message::MAX_LEN)?;
-    message.write(&mut data);
-    let mut reply = Vec::with_capacity(alloc, 2 + frame_len(&data))?;
-    append_ack(&mut reply);
-    encode_frame(&data, &mut reply);
-    Ok(reply)
+impl<'k, K: Drain> Output<'k, K> {
+    // Nothing was put yet. The buffer is lent: of an output that owned memory no caller would know, once it is dropped, what
+    // became of the sink.
+    pub(crate) fn new(buffer: &'k mut Room, out: &'k mut K) -> Output<'k, K>
+        requires { buffer.old ≡ [] }
+        ensures same_sink { result.out.ghost_name ≡ out.entry.ghost_name }
+        ensures nothing { HasNothing K.written K.faults out.old result }
+    {
+        Output {
+            out,
+            buffer,
+            some: false,
+            failed: false,
+        }
+    }
+
+    // Puts these bytes.
+    pub(crate) fn put(&mut self, bytes: &[u8])
+        ensures puts { Puts K.written K.faults bytes.now self.old self.new }
+        ensures some { self.new.some ≡ self.old.some }
+    {
+        for byte in bytes {
+            self.put_byte(*byte);
+        }
+    }
+
+    // Puts this byte.
+    #[inline]
+    fn put_byte(&mut self, byte: u8)
+        ensures puts { Puts K.written K.faults (byte ∷ []) self.old self.new }
+        ensures some { self.new.some ≡ self.old.some }
+    {
+        if self.buffer.is_full() {
+            self.flush();
+        }
+        self.buffer.push(byte);
+    }
+
+    // Gives the sink what is in the buffer, if no write failed.
+    #[cold]
+    fn flush(&mut self)
+        ensures puts { Puts K.written K.faults [] self.old self.new }
+        ensures empty { self.new.buffer.now ≡ [] }
+        ensures some { self.new.some ≡ self.old.some }
+    {
+        if self.failed {
+            self.buffer.clear();
+            return;
+        }
+        self.failed = !self.out.take(self.buffer.bytes());
+        self.buffer.clear();
+    }
+
+    // Begins the line of a turn.
+    pub(crate) fn begin_turn(&mut self, panel: PanelNo)
+        ensures puts { Puts K.written K.faults (turn_head panel) self.old self.new }
+        ensures none { self.new.some ≡ false }
+    {
+        self.put(b"< ");
+        self.put(Buffer::new().format(panel.get()).as_bytes());
+        self.put(b" ");
+        self.some = false;
+    }
+
+    // Ends the line of a turn.
+    pub(crate) fn end_turn(&mut self)
+        ensures { Puts K.written K.faults (turn_end self.old.some) self.old self.new }
+    {
+        if !self.some {
+            self.put(b"-");
+        }
+        self.put(b"\n");
+    }
+
+    // Puts the line of a panel that leaves.
+    pub(crate) fn leave_line(&mut self, panel: PanelNo)
+        ensures { Puts K.written K.faults (leave_line panel) self.old self.new }
+    {
+        self.put(b"leave ");
+        self.put(Buffer::new().format(panel.get()).as_bytes());
+        self.put(b"\n");
+    }
+
+    // Whether a write failed.
+    pub(crate) fn failed(&self) -> bool
+        ensures { result ≡ self.now.failed }
+    {
+        self.failed
+    }
+
+    // Gives the sink what it wasn't given yet, and answers whether it was given all that was put.
+    pub(crate) fn finish(self) -> bool
+        ensures failed { OnTrue result (self.entry.failed ≡ false) }
+        ensures whole { OnTrue result
+            (IsAllGiven K.written K.faults self.entry self.exit.0.now) }
+        ensures cut { OnFalse result
+            (IsCutShort K.written K.faults self.entry self.exit.0.now) }
+    {
+        let Output {
+            out,
+            buffer,
+            some: _,
+            failed,
+        } = self;
+        if failed {
+            return false;
+        }
+        out.take(buffer.bytes())
+    }
+}
+
+impl<K: Drain> Outlet for Output<'_, K> {
+    ghost Given = { λ old bytes new. Gives K.written K.faults bytes old new };
+
+    fn give(&mut self, bytes: &[u8]) {
+        self.some = self.some || !bytes.is_empty();
+        for byte in bytes {
+            self.put_byte(DIGITS[*byte as usize / 16]);
+            self.put_byte(DIGITS[*byte as usize % 16]);
+        }
+    }
+
+    ghost given_none = { gives_none K.written K.faults };
+
+    ghost given_more = { gives_more K.written K.faults };
 }

@@ -1,12 +1,17 @@
 //! The lines of a script.
 
-ghost use Rattle.std.specs.Prelude.{◌≡◌, ◌<◌, ◌∷◌, length};
+ghost use Rattle.std.specs.Prelude.{◌≡◌, ◌+◌, ◌<◌, ◌≤◌, ◌∷◌, length};
 ghost use Rattle.record_replay.specs.Script.{lines};
 
 // Ends a line.
 pub(crate) const LF: u8 = b'\n';
 
+// May stand anywhere in hexadecimal.
 pub(crate) const SPACE: u8 = b' ';
+
+// Begins a line that is skipped.
+pub(crate) const HASH: u8 = b'#';
+
 // The most bytes of a line, its LF not counted.
 pub(crate) const MAX_LINE: usize = 65_536;
 
@@ -15,6 +20,7 @@ pub(crate) fn split_line(text: &[u8]) -> (&[u8], &[u8])
     requires { 0 < length text.now }
     ensures lines { lines text.now ≡ result.0.now ∷ lines result.1.now }
     ensures shorter { length result.1.now < length text.now }
+    ensures within { length result.0.now + length result.1.now ≤ length text.now }
 {
     for (end, byte) in text.iter().enumerate() {
         if *byte == LF {

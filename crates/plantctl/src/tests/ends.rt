@@ -6,7 +6,7 @@ use std::test::Fail;
 const TWICE: &str = "> 0 10020100000504F61003\n> 0 10020100000504F61003\n";
 
 // The name of the file, the script, what fails, the status and the output.
-const ENDS: [(&str, &str, Failing, u8, &str); 8] = [
+const ENDS: [(&str, &str, Failing, u8, &str); 7] = [
     ("x", TWICE, NOTHING, 3, "file x missing\n"),
     (
         "script",
@@ -18,13 +18,13 @@ const ENDS: [(&str, &str, Failing, u8, &str); 8] = [
         3,
         "file script fault\n",
     ),
-    ("script", "> 0 00\n", NOTHING, 5, "script line 1 refused\n"),
+    ("script", "> 0\n", NOTHING, 5, "script line 1 refused\n"),
     (
         "script",
-        "> 0 10020100000504F61003\n\n",
+        "> 0 10020100000504F61003\n\npole 1\n",
         NOTHING,
         5,
-        "script line 2 refused\n",
+        "script line 3 refused\n",
     ),
     (
         "script",
@@ -35,16 +35,6 @@ const ENDS: [(&str, &str, Failing, u8, &str); 8] = [
         },
         7,
         "",
-    ),
-    (
-        "script",
-        TWICE,
-        Failing {
-            read: NEVER,
-            write: 1,
-        },
-        7,
-        "< 0 10061002030007057F056D1003\n",
     ),
     // The line of an end can fail too, at its first write or a later one.
     (
@@ -59,7 +49,7 @@ const ENDS: [(&str, &str, Failing, u8, &str); 8] = [
     ),
     (
         "script",
-        "> 0 00\n",
+        "> 0\n",
         Failing {
             read: NEVER,
             write: 2,

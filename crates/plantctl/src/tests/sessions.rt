@@ -1,0 +1,172 @@
+//! Scripts of several panels, with bytes cut anywhere, notices, resends and leaves.
+
+ghost use Rattle.std.specs.Prelude.{◌<◌};
+
+use super::{NOTHING, REPLAY, outcome};
+use std::alloc::{AllocError, Global};
+use std::test::Fail;
+
+// A script, the status of its replay, and the output.
+const SCRIPTS: [(&str, u8, &str); 10] = [
+    // One byte of noise, and an idle turn.
+    ("> 0 00\npoll 0\n", 0, "< 0 -\n< 0 -\n"),
+    // A wrong check byte.
+    ("> 0 10020100000504F51003\n", 0, "< 0 1015\n"),
+    // A frame that the start of the next one abandons.
+    (
+        "> 0 100201000010020100000504F61003\n",
+        0,
+        "< 0 10061002030007057F056D1003\n",
+    ),
+    // An unknown command and a wrong length are acknowledged, and nothing else.
+    (
+        "> 0 10020701F81003\n> 0 10020200000504F51003\n",
+        0,
+        "< 0 1006\n< 0 1006\n",
+    ),
+    // The last frame is sent again, five times, and once more for each new one. An ACK asks nothing.
+    (
+        "> 0 10020100000504F61003\n> 0 101510151015\n> 0 1006\n> 0 101510151015\n> 0 10020100000504F610031015\n",
+        0,
+        "< 0 10061002030007057F056D1003\n\
+         < 0 1002030007057F056D10031002030007057F056D10031002030007057F056D1003\n\
+         < 0 -\n\
+         < 0 1002030007057F056D10031002030007057F056D1003\n\
+         < 0 10061002030007057F056D10031002030007057F056D1003\n",
+    ),
+    // The other panel hears of a change, once, and the panel that made it doesn't.
+    (
+        "> 0 10020200000503 05F11003\npoll 1\npoll 1\npoll 0\n",
+        0,
+        "< 0 10061002040000050305EF1003\n< 1 1002040000050305EF1003\n< 1 -\n< 0 -\n",
+    ),
+    // A notice is sent again as any frame. It has what stands when it is told.
+    (
+        "> 0 10020200000503 05F11003\n> 0 1002020007057F056E1003\n> 1 1015\npoll 1\n> 1 1015\n",
+        0,
+        "< 0 10061002040000050305EF1003\n\
+         < 0 10061002040007057F056C1003\n\
+         < 1 1002040007057F056C1003\n\
+         < 1 -\n\
+         < 1 1002040007057F056C1003\n",
+    ),
+    // Whoever left hears of nothing, and is still answered.
+    (
+        "leave 1\n> 0 10020200000503 05F11003\npoll 1\n> 001 10020100000504F61003\nleave 1\n",
+        0,
+        "leave 1\n\
+         < 0 10061002040000050305EF1003\n\
+         < 1 -\n\
+         < 1 10061002030000050305F01003\n\
+         leave 1\n",
+    ),
+    // Lines that are skipped are counted.
+    ("# \u{e9} > 9\n\npoll 00000\n#", 0, "< 0 -\n"),
+    ("# note\n\npoll 0\npole 1\n", 5, "script line 4 refused\n"),
+];
+
+// Lines that have no form.
+const REFUSED: [&str; 18] = [
+    " ",
+    "> 0",
+    "> 0 ",
+    "> 0  ",
+    "> 0 1",
+    "> 0 1g",
+    "> 2 00",
+    "> 000000 00",
+    ">0 00",
+    "> x 00",
+    "poll",
+    "poll 2",
+    "poll 0 ",
+    "poll 000000",
+    "Poll 0",
+    "leave",
+    "leave 2",
+    "show 0",
+];
+
+#[test]
+fn scripts_of_several_panels_are_replayed(rt: HostRuntime) -> Result<(), Fail> {
+    let alloc = rt.alloc();
+    for (script, status, output) in SCRIPTS {
+        let script = script.as_bytes().to_vec(alloc)?;
+        let (found, out) = outcome(alloc, &REPLAY, script, NOTHING)?;
+        assert_eq!(rt; out.written(), output.as_bytes());
+        assert_eq!(rt; found, status);
+    }
+    Ok(())
+}
+
+#[test]
+fn lines_without_a_form_are_refused(rt: HostRuntime) -> Result<(), Fail> {
+    let alloc = rt.alloc();
+    for line in REFUSED {
+        let (status, out) = outcome(alloc, &REPLAY, line.as_bytes().to_vec(alloc)?, NOTHING)?;
+        assert_eq!(rt; out.written(), b"script line 1 refused\n".as_slice());
+        assert_eq!(rt; status, 5);
+    }
+    Ok(())
+}
+
+// Noise, a connect, a frame with a wrong check byte, a NAK, the start of a frame, and an interrogate.
+const STREAM: &[u8] =
+    b"00100202000010100305E6100310020100000504F5100310151002010010020100000504F61003";
+
+const SENT: &[u8] =
+    b"1006100204000010100305E410031015100204000010100305E4100310061002030007057F056D1003";
+
+// The script in which panel 0 sends the stream in pieces of so many bytes, which are two digits each.
+fn cut(alloc: Global, size: usize) -> Result<Vec<u8>, AllocError>
+    requires some { 0 < size }
+    requires few { size < 100 }
+{
+    let mut script = Vec::new(alloc);
+    for piece in STREAM.chunks(2 * size) {
+        script.extend_from_slice(b"> 0 ")?;
+        script.extend_from_slice(piece)?;
+        script.extend_from_slice(b"\n")?;
+    }
+    Ok(script)
+}
+
+// What all lines of an output send, one behind the other.
+fn sent(alloc: Global, output: &[u8]) -> Result<Vec<u8>, AllocError> {
+    let mut all = Vec::new(alloc);
+    for line in output.split(|byte| *byte == b'\n') {
+        match line.strip_prefix(b"< 0 ") {
+            Some(b"-") | None => {}
+            Some(digits) => all.extend_from_slice(digits)?,
+        }
+    }
+    Ok(all)
+}
+
+#[test]
+fn a_cut_changes_nothing_that_is_sent(rt: HostRuntime) -> Result<(), Fail> {
+    let alloc = rt.alloc();
+    for size in 1..40 {
+        let (status, out) = outcome(alloc, &REPLAY, cut(alloc, size)?, NOTHING)?;
+        assert_eq!(rt; sent(alloc, out.written())?.as_slice(), SENT);
+        assert_eq!(rt; status, 0);
+    }
+    Ok(())
+}
+
+#[test]
+fn a_frame_that_is_too_long_is_bad(rt: HostRuntime) -> Result<(), Fail> {
+    let alloc = rt.alloc();
+    let mut script = b"> 0 1002".to_vec(alloc)?;
+    for _ in 0..300 {
+        script.extend_from_slice(b"41")?;
+    }
+    script.extend_from_slice(b"1003 10020100000504F61003\n")?;
+    let (status, out) = outcome(alloc, &REPLAY, script, NOTHING)?;
+    assert_eq!(rt;
+        out.written(),
+        b"< 0 101510061002030007057F056D1003\n".as_slice()
+    );
+    assert_eq!(rt; status, 0);
+    Ok(())
+}

@@ -1,0 +1,61 @@
+-- The number that digits spell.
+use Rattle.std.proofs.Common.{◌≡◌, ℕ, ◌+◌, ◌-◌, ◌*◌, ◌<◌, ◌⊎◌, inl, inr, List, ◌∷◌, [], length, get_or, take, All, refl, sym, ◌∙◌, ap, arith}
+use Rattle.std.proofs.lemmas.Bool.{cases_lt}
+use Rattle.std.proofs.lemmas.List.{take_more}
+use Rattle.std.proofs.lemmas.List.Elements.{All-nil, All-cons, All-head, All-tail, All-push}
+use Rattle.std.proofs.lemmas.List.Sums.{fold_more}
+use Rattle.record_replay.specs.Script.{IsDigit, number_of, NumberSpells}
+
+pub number_more : (digits : List ℕ) (i : ℕ) → i < length digits → number_of (take (i + 1) digits) ≡ 10 * number_of (take i digits) + (get_or digits i 0 - 48)
+number_more digits i below = fold_more (λ number digit. 10 * number + (digit - 48)) 0 digits i 0 below
+
+pub digits_more : (digits : List ℕ) (i : ℕ) → i < length digits → All IsDigit (take i digits) → IsDigit (get_or digits i 0) → All IsDigit (take (i + 1) digits)
+digits_more digits i below each digit = rw (take_more digits i 0 below) (All-push IsDigit (take i digits) (get_or digits i 0) each digit)
+
+-- digits spell one number
+pub one_number : (digits others : List ℕ) (m n : ℕ) → digits ≡ others → NumberSpells digits m → NumberSpells others n → m ≡ n
+one_number digits others m n same spells_m spells_n = spells_m.number_is ∙ ap (λ (ds : List ℕ). number_of ds) same ∙ sym spells_n.number_is
+
+-- a byte is a digit or not
+digit_or : (byte : ℕ) → IsDigit byte ⊎ ¬ IsDigit byte
+digit_or byte = elim (cases_lt byte 48) [
+  | inl low ↦ inr (λ digit. absurd (omega (arith, digit.least)))
+  | inr least ↦ elim (cases_lt 57 byte) [
+    | inl high ↦ inr (λ digit. absurd (omega (arith, digit.most)))
+    | inr most ↦ inl (record { least = least; most = most })
+  ]
+]
+
+digits_or : (text : List ℕ) → All IsDigit text ⊎ ¬ All IsDigit text
+digits_or [] = inl (All-nil IsDigit)
+digits_or (byte ∷ text) = elim (digit_or byte) [
+  | inr other ↦ inr (λ each. other (All-head IsDigit byte text each))
+  | inl digit ↦ elim (digits_or text) [
+    | inl each ↦ inl (All-cons IsDigit byte text digit each)
+    | inr some_other ↦ inr (λ each. some_other (All-tail IsDigit byte text each))
+  ]
+]
+
+-- A text spells no number below this count.
+abbrev pub NoPanel : List ℕ → ℕ → Type 0
+NoPanel text count = (number : ℕ) → NumberSpells text number → number < count → ⊥
+
+-- A text spells a number below this count.
+abbrev pub SomePanel : List ℕ → ℕ → Type 0
+SomePanel text count = (number : ℕ) × NumberSpells text number × (number < count)
+
+-- a text spells a number below this count or none
+pub panel_of_digits : (text : List ℕ) (count : ℕ) → SomePanel text count ⊎ NoPanel text count
+panel_of_digits text count = elim (cases_lt 0 (length text)) [
+  | inr empty ↦ inr (λ number spells below. absurd (omega (arith, spells.some)))
+  | inl some ↦ elim (cases_lt 5 (length text)) [
+    | inl many ↦ inr (λ number spells below. absurd (omega (arith, spells.few)))
+    | inr few ↦ elim (digits_or text) [
+      | inr other ↦ inr (λ number spells below. other spells.each)
+      | inl each ↦ elim (cases_lt (number_of text) count) [
+        | inl below ↦ inl (number_of text, record { some = some; few = few; each = each; number_is = refl }, below)
+        | inr past ↦ inr (λ number spells below. absurd (omega (arith, spells.number_is)))
+      ]
+    ]
+  ]
+]

@@ -1,0 +1,17 @@
+-- That the plant's state serves its plant.
+use Rattle.std.proofs.Common.{◌≡◌, sym, subst}
+use Rattle.history_lock.specs.History.{run}
+use Rattle.plant_config.specs.Plant.{PlantData}
+use Rattle.plant_core.specs.Answer.{room_of}
+use Rattle.plant_core.specs.State.{State, IsValid, FitsPlant, Fits}
+use Rattle.plant_core.specs.Step.{step}
+use Rattle.plant_core.proofs.AnswerLemmas.{All-sayable, room_within}
+use Rattle.panel_session.specs.Run.{Serves}
+use Rattle.record_replay.proofs.WorksLemmas.{run-valid}
+
+pub serves : (plant : PlantData) (state : State) → state.plant ≡ plant → IsValid state → Serves step Fits (λ (state : State). room_of state.plant) plant state
+serves plant state is valid = record {
+  takes = λ request fits. subst (λ (plant : PlantData). FitsPlant plant request) (sym is) fits;
+  sayable = λ history request legal fits. All-sayable (run step state history) request (run-valid state history valid) fits;
+  within = room_within state.plant valid.is_plant;
+}

@@ -1,0 +1,111 @@
+-- What works make of the plant and the sessions.
+use Rattle.std.proofs.Common.{◌≡◌, ◌≢◌, ℕ, ◌+◌, ◌*◌, ◌^◌, ◌≤◌, ◌<◌, ◌==◌, true, false, cond, List, length, refl, sym, ap, ◌∙◌, subst, arith}
+use Rattle.std.specs.Prelude.{slice_index_or, slice_set}
+use Rattle.std.proofs.lemmas.Bool.{eqb-true, eqb-false}
+use Rattle.std.proofs.lemmas.List.{get_or-set_same, get_or-set_other, length-set}
+use Rattle.history_lock.specs.History.{run}
+use Rattle.plant_config.specs.Plant.{PlantData}
+use Rattle.plant_core.specs.Answer.{room_of}
+use Rattle.plant_core.specs.State.{State, Fits}
+use Rattle.plant_core.specs.Step.{step}
+use Rattle.plant_core.specs.declared.request.Request.TheVariants as requests
+use Rattle.panel_session.specs.declared.session.Session.{Session}
+use Rattle.panel_session.specs.Run.{IsWorked, HasRun, IsReady, MayTurn, Serves, turned}
+use Rattle.panel_session.specs.Session.{StandsFor}
+use Rattle.panel_session.specs.SettledInside.{Settled}
+use Rattle.panel_session.specs.SoFar.{Past}
+use Rattle.panel_session.specs.Turns.{entries_in}
+use Rattle.plant_core.proofs.Steps.{IsValid-step}
+use Rattle.panel_session.proofs.TurnExists.{turn_exists}
+use Rattle.panel_session.proofs.TurnOnce.{one_turn_lem}
+use Rattle.record_replay.specs.declared.stage.Stage.{Stage}
+use Rattle.record_replay.specs.Script.{Read, Leave}
+use Rattle.record_replay.specs.Replay.{Stand, with_past, behind_turn, turn_line, leave_line}
+use Rattle.record_replay.specs.StageInside.{StandsAt, MayDo, IsSmall, HasDone, need_of}
+use Rattle.record_replay.proofs.ServesLemmas.{serves}
+use Rattle.record_replay.proofs.SmallLemmas.{small_later, small_turned, may_go_on}
+use Rattle.record_replay.proofs.WorksLemmas.{fits-run, run-valid, settled-turn, settled-leave}
+
+-- Whatever holds of each session's past holds once one of them has another.
+with_one : (P : ℕ → Past → Type 0) (panel : ℕ) (past : Past) (pasts : ℕ → Past) → P panel past → ((other : ℕ) → other ≢ panel → P other (pasts other)) → (other : ℕ) → P other (with_past panel past pasts other)
+with_one P panel past pasts here others other =
+    elim (other == panel) as (λ b. (other == panel) ≡ b → P other (cond b past (pasts other))) [
+      | true ↦ λ same. subst (λ (one : ℕ). P one past) (sym (eqb-true other panel same)) here
+      | false ↦ λ apart. others other (eqb-false other panel apart)
+    ] refl
+
+-- A session of a stage may have a turn,
+pub may_turn : (plant : PlantData) (panel : ℕ) (piece : List ℕ) (stage : Stage) (session : Session) (stand : Stand) (used : ℕ) → panel < length plant.panels → StandsAt plant stage stand used → used + (2 * length piece + 2) < 2 ^ 63
+    → session ≡ slice_index_or stage.sessions.items panel session → MayTurn step Fits (λ (state : State). room_of state.plant) plant panel session (stand.pasts panel) stage.state piece
+may_turn plant panel piece stage session stand used has stands within is =
+    record {
+      stands = subst (λ (session : Session). StandsFor plant panel session (stand.pasts panel)) (sym is) (stands.each panel session has);
+      begins = (stands.settled.each panel).begins;
+      may = may_go_on used (stand.pasts panel) piece (stands.settled.each panel).begins (stands.small panel) within;
+      serves = subst (λ (state : State). Serves step Fits (λ (state : State). room_of state.plant) plant state) (sym stands.state_is) (serves plant stand.state stands.settled.plant_is stands.valid);
+    }
+
+-- and is ready for it.
+pub ready : (plant : PlantData) (panel : ℕ) (piece : List ℕ) (stage : Stage) (session : Session) → panel < length plant.panels → MayDo (2 * length piece + 2) plant stage
+    → session ≡ slice_index_or stage.sessions.items panel session → IsReady step Fits (λ (state : State). room_of state.plant) session stage.state piece
+ready plant panel piece stage session has may is = record { plant = plant; panel = panel; past = may.stand.pasts panel; may = may_turn plant panel piece stage session may.stand may.used has may.stands may.within is }
+
+-- A turn was worked.
+pub turn_done : (plant : PlantData) (panel : ℕ) (piece : List ℕ) (before after : Stage) (session : Session) (stand : Stand) (used : ℕ) (more : List ℕ) → panel < length plant.panels
+    → StandsAt plant before stand used → HasRun step Fits plant panel (stand.pasts panel) piece before.state after.state session more
+    → after.plant ≡ before.plant → after.sessions.items ≡ slice_set before.sessions.items panel session → after.none ≡ before.none
+    → HasDone plant (Read panel piece) stand used after (turn_line panel more)
+turn_done plant panel piece before after session stand used more has stands ran same_plant set same_none =
+    let worked : IsWorked step Fits plant panel (stand.pasts panel) stand.state ran.turn more =
+    subst (λ (state : State). IsWorked step Fits plant panel (stand.pasts panel) state ran.turn more) stands.state_is ran.is_worked in
+    let made = turn_exists step Fits plant panel (stand.pasts panel) stand.state piece has (stands.settled.each panel)
+    (λ history request legal fits. fits-run plant stand.state history request stands.settled.plant_is fits) in
+    let same = one_turn_lem step Fits plant panel (stand.pasts panel) stand.state made.0 ran.turn made.1 more made.3 worked (made.2 ∙ sym ran.piece_is) in
+    let settled : Settled panel (turned ran.turn more (stand.pasts panel)) =
+    subst (Settled panel) (λ i. turned (same.0 i) (same.1 i) (stand.pasts panel)) made.4 in
+    let next = behind_turn panel ran.turn more stand in
+    record {
+      next = next;
+      works = (ran.turn, more, ran.piece_is, worked, refl, refl);
+      stands = record {
+        plant_is = ap (λ plant. plant.now) same_plant ∙ stands.plant_is;
+        state_is = ran.machine_is ∙ ap (λ (state : State). run step state (entries_in ran.turn)) stands.state_is;
+        valid = run-valid stand.state (entries_in ran.turn) stands.valid;
+        settled = settled-turn plant panel ran.turn more stand stands.settled settled;
+        count = ap (length {A = Session}) set ∙ length-set before.sessions.items panel session ∙ stands.count;
+        each = λ other default has_other.
+            with_one (λ (one : ℕ) (past : Past). one < length plant.panels → StandsFor plant one (slice_index_or after.sessions.items one default) past) panel (turned ran.turn more (stand.pasts panel)) stand.pasts
+            (λ has_one. subst (λ (session : Session). StandsFor plant panel session (turned ran.turn more (stand.pasts panel)))
+            (sym (ap (λ (all : List Session). slice_index_or all panel default) set ∙ get_or-set_same before.sessions.items panel session default (omega (arith, has, stands.count)))) ran.stands)
+            (λ one apart has_one. subst (λ (session : Session). StandsFor plant one session (stand.pasts one))
+            (sym (ap (λ (all : List Session). slice_index_or all one default) set ∙ get_or-set_other before.sessions.items panel one session default apart)) (stands.each one default has_one))
+            other has_other;
+        small =
+            with_one (λ (one : ℕ) (past : Past). IsSmall (used + need_of (Read panel piece)) past) panel (turned ran.turn more (stand.pasts panel)) stand.pasts
+            (subst (λ (piece : List ℕ). IsSmall (used + (2 * length piece + 2)) (turned ran.turn more (stand.pasts panel))) ran.piece_is (small_turned used (stand.pasts panel) ran.turn more (stands.small panel)))
+            (λ one apart. small_later used (used + need_of (Read panel piece)) (stand.pasts one) (omega arith) (stands.small one));
+        none = ap (λ box. box.items) same_none ∙ stands.none;
+        places = subst (λ (places : ℕ). room_of plant ≤ places) (sym (ap (λ box. box.places) same_none)) stands.places;
+      };
+    }
+
+-- A panel has left.
+pub leave_done : (plant : PlantData) (panel : ℕ) (before after : Stage) (stand : Stand) (used : ℕ) → StandsAt plant before stand used
+    → after.state ≡ (step before.state (requests.Leave panel)).state → after.plant ≡ before.plant → after.sessions ≡ before.sessions
+    → after.none.items ≡ (step before.state (requests.Leave panel)).answers → after.none.places ≡ before.none.places
+    → HasDone plant (Leave panel) stand used after (leave_line panel)
+leave_done plant panel before after stand used stands state same_plant same_sessions none places = record {
+  next = record stand { state = (step stand.state (requests.Leave panel)).state };
+  works = (refl, refl);
+  stands = record {
+    plant_is = ap (λ plant. plant.now) same_plant ∙ stands.plant_is;
+    state_is = state ∙ ap (λ (state : State). (step state (requests.Leave panel)).state) stands.state_is;
+    valid = IsValid-step stand.state (requests.Leave panel) stands.valid;
+    settled = settled-leave plant panel stand stands.settled;
+    count = ap (λ sessions. length sessions.items) same_sessions ∙ stands.count;
+    each = λ other default has. subst (λ sessions. StandsFor plant other (slice_index_or sessions.items other default) (stand.pasts other)) (sym same_sessions) (stands.each other default has);
+    small = λ other. small_later used (used + 0) (stand.pasts other) (omega arith) (stands.small other);
+    none = none;
+    places = subst (λ (room : ℕ). room_of plant ≤ room) (sym places) stands.places;
+  };
+}

@@ -1,0 +1,95 @@
+-- What lines make of the plant and the sessions.
+use Rattle.std.proofs.Common.{◌≡◌, ℕ, ◌+◌, ◌≤◌, Bool, true, false, not, cond, List, [], ◌∷◌, length, refl, sym, ap, ◌∙◌, subst, arith}
+use Rattle.std.proofs.lemmas.List.{append-nil}
+use Rattle.plant_config.specs.Plant.{PlantData}
+use Rattle.record_replay.specs.declared.stage.Stage.{Stage}
+use Rattle.record_replay.specs.LineInside.{IsBad}
+use Rattle.record_replay.specs.Script.{Work, Read, Leave, is_skipped, worked, LineSpells, LinesSpell}
+use Rattle.record_replay.specs.Replay.{Stand, AllWork}
+use Rattle.record_replay.specs.StageInside.{StandsAt, MayDo, HasDone, HasDoneLine, DoesWork, DoesLine, need_of}
+use Rattle.record_replay.proofs.LineSpellsLemmas.{one_work, length-Read}
+use Rattle.record_replay.proofs.LinesSpellLemmas.{worked-cons}
+use Rattle.record_replay.proofs.SmallLemmas.{small_later}
+
+-- Behind more of a script a stage stands as before.
+pub stands_later : (plant : PlantData) (stage : Stage) (stand : Stand) (used later : ℕ) → used ≤ later → StandsAt plant stage stand used → StandsAt plant stage stand later
+stands_later plant stage stand used later within stands = record {
+  plant_is = stands.plant_is;
+  state_is = stands.state_is;
+  valid = stands.valid;
+  settled = stands.settled;
+  count = stands.count;
+  each = stands.each;
+  small = λ panel. small_later used later (stand.pasts panel) within (stands.small panel);
+  none = stands.none;
+  places = stands.places;
+}
+
+-- A line has more bytes than its work needs.
+pub need_within : (plant : PlantData) (line : List ℕ) (work : Work) → LineSpells plant line work → need_of work ≤ length line
+need_within plant line (Read panel piece) spells = omega (arith, length-Read plant line panel piece spells)
+need_within plant line (Leave panel) spells = omega arith
+
+-- the lines of one line that are worked
+worked_one : (line : List ℕ) (skipped : Bool) → is_skipped line ≡ skipped → worked (line ∷ []) ≡ cond (not skipped) (line ∷ []) []
+worked_one line skipped is = worked-cons line [] ∙ ap (λ (skipped : Bool). cond (not skipped) (line ∷ []) []) is
+
+only_work : (plant : PlantData) (line : List ℕ) (work : Work) (works : List Work) → LineSpells plant line work → LinesSpell plant (line ∷ []) works → works ≡ work ∷ []
+only_work plant line work [] spells spelled = absurd spelled
+only_work plant line work (other ∷ []) spells spelled = ap (λ (work : Work). work ∷ []) (one_work plant line other work spelled.0 spells)
+only_work plant line work (other ∷ next ∷ works) spells spelled = absurd spelled.1
+
+-- The line spells this work alone,
+pub works_one : (plant : PlantData) (line : List ℕ) (work : Work) (works : List Work) → is_skipped line ≡ false → LineSpells plant line work → LinesSpell plant (worked (line ∷ [])) works → works ≡ work ∷ []
+works_one plant line work works unskipped spells spelled =
+    only_work plant line work works spells (subst (λ (all : List (List ℕ)). LinesSpell plant all works) (worked_one line false unskipped) spelled)
+
+pub no_works : (plant : PlantData) (works : List Work) → LinesSpell plant [] works → works ≡ []
+no_works plant [] spelled = refl
+no_works plant (work ∷ works) spelled = absurd spelled
+
+-- or none, where it is skipped.
+pub works_none : (plant : PlantData) (line : List ℕ) (works : List Work) → is_skipped line ≡ true → LinesSpell plant (worked (line ∷ [])) works → works ≡ []
+works_none plant line works skipped spelled = no_works plant works (subst (λ (all : List (List ℕ)). LinesSpell plant all works) (worked_one line true skipped) spelled)
+
+bad_one : (plant : PlantData) (line : List ℕ) (works : List Work) → ((work : Work) → LineSpells plant line work → ⊥) → LinesSpell plant (line ∷ []) works → ⊥
+bad_one plant line [] refused spelled = spelled
+bad_one plant line (work ∷ works) refused spelled = refused work spelled.0
+
+-- A line without a form spells nothing.
+pub works_bad : (plant : PlantData) (line : List ℕ) (works : List Work) → IsBad plant line → LinesSpell plant (worked (line ∷ [])) works → ⊥
+works_bad plant line works bad spelled = bad_one plant line works bad.1 (subst (λ (all : List (List ℕ)). LinesSpell plant all works) (worked_one line false bad.0) spelled)
+
+-- The work of a line was done.
+pub line_done : (plant : PlantData) (line : List ℕ) (work : Work) (works : List Work) (stand : Stand) (used : ℕ) (after : Stage) (text : List ℕ) → works ≡ work ∷ [] → need_of work ≤ length line
+    → HasDone plant work stand used after text → HasDoneLine plant line works stand used after text
+line_done plant line work works stand used after text is within done = record {
+  next = done.next;
+  all_work = subst (λ (works : List Work). AllWork plant works stand text done.next) (sym is) (done.next, text, [], done.works, (refl, refl), sym (append-nil text));
+  stands = stands_later plant after done.next (used + need_of work) (used + length line) (omega (arith, within)) done.stands;
+}
+
+-- A line was skipped.
+pub line_skipped : (plant : PlantData) (line : List ℕ) (works : List Work) (stand : Stand) (used : ℕ) (stage : Stage) → works ≡ [] → StandsAt plant stage stand used → HasDoneLine plant line works stand used stage []
+line_skipped plant line works stand used stage is stands = record {
+  next = stand;
+  all_work = subst (λ (works : List Work). AllWork plant works stand [] stand) (sym is) (refl, refl);
+  stands = stands_later plant stage stand used (used + length line) (omega arith) stands;
+}
+
+-- A stage that may do more may do less.
+pub may_less : (need more : ℕ) (plant : PlantData) (stage : Stage) → need ≤ more → MayDo more plant stage → MayDo need plant stage
+may_less need more plant stage within may = record { stand = may.stand; used = may.used; stands = may.stands; within = omega (arith, within, may.within) }
+
+-- The work that a line spells was done, and so the line's.
+pub does_line : (plant : PlantData) (line : List ℕ) (work : Work) (before after : Stage) (IsPut : List ℕ → Type 0) → is_skipped line ≡ false → LineSpells plant line work → DoesWork plant work before after IsPut
+    → DoesLine plant line before after IsPut
+does_line plant line work before after IsPut unskipped spells does stand used works stands within spelled =
+    let need = need_within plant line work spells in
+    let done = does stand used stands (omega (arith, within, need)) in
+    (done.0, done.1, line_done plant line work works stand used after done.0 (works_one plant line work works unskipped spells spelled) need done.2)
+
+-- A line that is skipped has no work.
+pub does_nothing : (plant : PlantData) (line : List ℕ) (stage : Stage) (IsPut : List ℕ → Type 0) → is_skipped line ≡ true → IsPut [] → DoesLine plant line stage stage IsPut
+does_nothing plant line stage IsPut skipped put stand used works stands within spelled =
+    ([], put, line_skipped plant line works stand used stage (works_none plant line works skipped spelled) stands)

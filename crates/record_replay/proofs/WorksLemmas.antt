@@ -1,0 +1,131 @@
+-- Works that are done one after the other.
+use Rattle.std.proofs.Common.{◌≡◌, ℕ, ◌<◌, ◌==◌, true, false, cond, List, [], ◌∷◌, ◌++◌, length, All, refl, sym, ◌∙◌, ap, subst, append_assoc, append-nil}
+use Rattle.std.proofs.lemmas.Bool.{eqb-true}
+use Rattle.std.proofs.lemmas.List.Elements.{All-head, All-tail}
+use Rattle.history_lock.specs.History.{run}
+use Rattle.plant_config.specs.Plant.{PlantData}
+use Rattle.plant_core.specs.State.{State, Fits, FitsPlant, IsValid}
+use Rattle.plant_core.specs.Step.{step}
+use Rattle.plant_core.specs.declared.request.Request.{Request}
+use Rattle.plant_core.specs.declared.request.Request.TheVariants as requests
+use Rattle.plant_core.proofs.Steps.{IsValid-step, plant-step}
+use Rattle.panel_session.specs.Entry.{PlantEntry}
+use Rattle.panel_session.specs.Run.{turned}
+use Rattle.panel_session.specs.SettledInside.{Settled}
+use Rattle.panel_session.specs.SoFar.{Past}
+use Rattle.panel_session.specs.Turns.{Turn, entries_in}
+use Rattle.panel_session.proofs.TurnOnce.{one_turn_lem}
+use Rattle.panel_session.proofs.TurnExists.{settled_nothing, turn_exists}
+use Rattle.record_replay.specs.Script.{Work, Read, Leave, panel_of}
+use Rattle.record_replay.specs.Replay.{Stand, begun, with_past, behind_turn, turn_line, leave_line, Works, AllWork}
+use Rattle.record_replay.specs.StandInside.{IsSettled}
+
+-- No history changes the plant.
+run-plant : (state : State) (history : List PlantEntry) → (run step state history).plant ≡ state.plant
+run-plant state [] = refl
+run-plant state (entry ∷ later) = run-plant (step state entry.request).state later ∙ plant-step state entry.request
+
+-- Each history leaves a valid state valid.
+pub run-valid : (state : State) (history : List PlantEntry) → IsValid state → IsValid (run step state history)
+run-valid state [] valid = valid
+run-valid state (entry ∷ later) valid = run-valid (step state entry.request).state later (IsValid-step state entry.request valid)
+
+-- What fits the plant fits behind any history.
+pub fits-run : (plant : PlantData) (state : State) (history : List PlantEntry) (request : Request) → state.plant ≡ plant → FitsPlant plant request → Fits (run step state history) request
+fits-run plant state history request is fits =
+    let FitsOf : PlantData → Type 0 = λ plant. FitsPlant plant request in
+    subst FitsOf (sym (run-plant state history ∙ is)) fits
+
+-- A replay begins with each session between two turns.
+pub settled-begun : (plant : PlantData) → IsSettled plant (begun plant)
+settled-begun plant = record { plant_is = refl; each = settled_nothing }
+
+-- Where one session has done more and is between two turns again, each is.
+settled-with : (panel : ℕ) (past : Past) (pasts : ℕ → Past) → Settled panel past → ((other : ℕ) → Settled other (pasts other))
+    → (other : ℕ) → Settled other (with_past panel past pasts other)
+settled-with panel past pasts here each other =
+    elim (other == panel) as (λ b. (other == panel) ≡ b → Settled other (cond b past (pasts other))) [
+      | true ↦ λ same. subst (λ (one : ℕ). Settled one past) (sym (eqb-true other panel same)) here
+      | false ↦ λ apart. each other
+    ] refl
+
+-- So it is behind a turn,
+pub settled-turn : (plant : PlantData) (panel : ℕ) (turn : Turn) (more : List ℕ) (stand : Stand) → IsSettled plant stand
+    → Settled panel (turned turn more (stand.pasts panel)) → IsSettled plant (behind_turn panel turn more stand)
+settled-turn plant panel turn more stand settled here = record {
+  plant_is = run-plant stand.state (entries_in turn) ∙ settled.plant_is;
+  each = settled-with panel (turned turn more (stand.pasts panel)) stand.pasts here settled.each;
+}
+
+-- and once a panel has left.
+pub settled-leave : (plant : PlantData) (panel : ℕ) (stand : Stand) → IsSettled plant stand → IsSettled plant (record stand { state = (step stand.state (requests.Leave panel)).state })
+settled-leave plant panel stand settled = record {
+  plant_is = plant-step stand.state (requests.Leave panel) ∙ settled.plant_is;
+  each = settled.each;
+}
+
+-- Works are done behind others.
+pub AllWork-append : (plant : PlantData) (works later : List Work) (stand mid last : Stand) (text rest : List ℕ)
+    → AllWork plant works stand text mid → AllWork plant later mid rest last → AllWork plant (works ++ later) stand (text ++ rest) last
+AllWork-append plant [] later stand mid last text rest done more =
+    let From : Stand → Type 0 = λ stand. AllWork plant later stand rest last in
+    let Says : List ℕ → Type 0 = λ text. AllWork plant later stand (text ++ rest) last in
+    subst Says (sym done.0) (subst From done.1 more)
+AllWork-append plant (work ∷ works) later stand mid last text rest done more = (
+  done.0,
+  done.1,
+  done.2 ++ rest,
+  done.3,
+  AllWork-append plant works later done.0 mid last done.2 rest done.4 more,
+  ap (λ (text : List ℕ). text ++ rest) done.5 ∙ append_assoc done.1 done.2 rest,
+)
+
+-- One more is done.
+pub AllWork-push : (plant : PlantData) (works : List Work) (work : Work) (stand mid last : Stand) (text line : List ℕ)
+    → AllWork plant works stand text mid → Works plant work mid line last → AllWork plant (works ++ work ∷ []) stand (text ++ line) last
+AllWork-push plant works work stand mid last text line done more =
+    AllWork-append plant works (work ∷ []) stand mid last text line done (last, line, [], more, (refl, refl), sym (append-nil line))
+
+-- Each work can be done where each session is between two turns, and then each is again.
+work_exists : (plant : PlantData) (work : Work) (stand : Stand) → IsSettled plant stand → panel_of work < length plant.panels
+    → (line : List ℕ) × (next : Stand) × Works plant work stand line next × IsSettled plant next
+work_exists plant (Read panel piece) stand settled has =
+    let made = turn_exists step Fits plant panel (stand.pasts panel) stand.state piece has (settled.each panel)
+    (λ history request legal fits. fits-run plant stand.state history request settled.plant_is fits) in (
+      turn_line panel made.1,
+      behind_turn panel made.0 made.1 stand,
+      (made.0, made.1, made.2, made.3, refl, refl),
+      settled-turn plant panel made.0 made.1 stand settled made.4,
+    )
+work_exists plant (Leave panel) stand settled has =
+    (leave_line panel, record stand { state = (step stand.state (requests.Leave panel)).state }, (refl, refl), settled-leave plant panel stand settled)
+
+-- All works of the plant's panels can be done, one after the other.
+pub works_exist : (plant : PlantData) (works : List Work) (stand : Stand) → IsSettled plant stand → All (λ work. panel_of work < length plant.panels) works
+    → (output : List ℕ) × (last : Stand) × AllWork plant works stand output last × IsSettled plant last
+works_exist plant [] stand settled has = ([], stand, (refl, refl), settled)
+works_exist plant (work ∷ works) stand settled has =
+    let Has : Work → Type 0 = λ work. panel_of work < length plant.panels in
+    let one = work_exists plant work stand settled (All-head Has work works has) in
+    let later = works_exist plant works one.1 one.3 (All-tail Has work works has) in
+    (one.0 ++ later.0, later.1, (one.1, one.0, later.0, one.2, later.2, refl), later.3)
+
+-- A work is done in one way,
+one_done : (plant : PlantData) (work : Work) (stand : Stand) (line other : List ℕ) (next then : Stand) → Works plant work stand line next → Works plant work stand other then
+    → (line ≡ other) × (next ≡ then)
+one_done plant (Read panel piece) stand line other next then done done' =
+    let same = one_turn_lem step Fits plant panel (stand.pasts panel) stand.state done.0 done'.0 done.1 done'.1 done.3 done'.3 (done.2 ∙ sym done'.2) in (
+      done.4 ∙ ap (turn_line panel) same.1 ∙ sym done'.4,
+      done.5 ∙ (λ i. behind_turn panel (same.0 i) (same.1 i) stand) ∙ sym done'.5,
+    )
+one_done plant (Leave panel) stand line other next then done done' = (done.0 ∙ sym done'.0, done.1 ∙ sym done'.1)
+
+-- and so are works.
+pub one_output : (plant : PlantData) (works : List Work) (stand last other : Stand) (a b : List ℕ) → AllWork plant works stand a last → AllWork plant works stand b other
+    → (a ≡ b) × (last ≡ other)
+one_output plant [] stand last other a b done done' = (done.0 ∙ sym done'.0, done.1 ∙ sym done'.1)
+one_output plant (work ∷ works) stand last other a b done done' =
+    let first = one_done plant work stand done.1 done'.1 done.0 done'.0 done.3 done'.3 in
+    let From : Stand → Type 0 = λ stand. AllWork plant works stand done'.2 other in
+    let later = one_output plant works done.0 last other done.2 done'.2 done.4 (subst From (sym first.1) done'.4) in
+    (done.5 ∙ (λ i. first.0 i ++ later.0 i) ∙ sym done'.5, later.1)

@@ -1,0 +1,28 @@
+//! Whether each line of a script has a form.
+
+ghost use Rattle.std.specs.Prelude.{List, MatchOption};
+ghost use Rattle.record_replay.specs.Script.{Work, lines, worked, LinesSpell, IsFirstBad};
+
+use crate::digits::Digits;
+use crate::line::read_line;
+use crate::script::split_line;
+use plant_config::Plant;
+
+// The number of a script's first line that has no form, counted from 1, if it has one. It takes no memory.
+pub(crate) fn check_lines(digits: &mut Digits, plant: &Plant, script: &[u8]) -> Option<u64>
+    ensures { MatchOption result
+        ((works : List Work) × LinesSpell plant.now (worked (lines script.now)) works)
+        (λ number. IsFirstBad plant.now script.now number) }
+{
+    let mut number = 0;
+    let mut rest = script;
+    while !rest.is_empty() {
+        let (line, after) = split_line(rest);
+        number += 1;
+        if read_line(digits, plant, line).is_none() {
+            return Some(number);
+        }
+        rest = after;
+    }
+    None
+}

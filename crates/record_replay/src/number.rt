@@ -1,0 +1,42 @@
+//! The number of a panel in a line.
+
+ghost use Rattle.std.specs.Prelude.{ℕ, ◌<◌, length, MatchOption};
+ghost use Rattle.record_replay.specs.Script.{NumberSpells};
+
+use plant_config::{PanelNo, Plant};
+
+// The most digits of a number.
+const MAX_DIGITS: usize = 5;
+
+// The panel of the plant whose number the digits spell, `None` where they spell none.
+pub(crate) fn read_panel(plant: &Plant, digits: &[u8]) -> Option<PanelNo>
+    ensures { MatchOption result
+        ((number : ℕ) → NumberSpells digits.now number → number < length plant.now.panels → ⊥)
+        (λ panel. NumberSpells digits.now panel × (panel < length plant.now.panels)) }
+{
+    let number = read_number(digits)?;
+    if (number as usize) < plant.panels().len() {
+        Some(PanelNo::of(number))
+    } else {
+        None
+    }
+}
+
+// The number that digits spell, `None` where a text isn't one to five digits.
+fn read_number(digits: &[u8]) -> Option<u32>
+    ensures { MatchOption result
+        ((number : ℕ) → NumberSpells digits.now number → ⊥)
+        (λ number. NumberSpells digits.now number) }
+{
+    if digits.is_empty() || digits.len() > MAX_DIGITS {
+        return None;
+    }
+    let mut number = 0;
+    for digit in digits {
+        if !digit.is_ascii_digit() {
+            return None;
+        }
+        number = 10 * number + u32::from(*digit - b'0');
+    }
+    Some(number)
+}

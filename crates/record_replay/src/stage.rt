@@ -1,0 +1,135 @@
+//! The plant and the sessions of its panels, while a script is worked.
+
+ghost use Rattle.std.specs.Prelude.{◌≡◌, ℕ, ◌+◌, ◌*◌, ◌<◌, List, [], ◌∷◌, length, IfOk};
+ghost use Rattle.record_replay.specs.OutputInside.{Puts};
+ghost use Rattle.record_replay.specs.Script.{Work, Read, Leave, lines, worked, LinesSpell};
+ghost use Rattle.record_replay.specs.Replay.{begun};
+ghost use Rattle.record_replay.specs.StageInside.{AreNew};
+
+use crate::digits::Digits;
+use crate::drain::Drain;
+use crate::line::{Line, read_line};
+use crate::output::Output;
+use crate::script::split_line;
+use history_lock::OutBox;
+use panel_session::{Session, run_turn};
+use plant_config::{PanelNo, Plant};
+use plant_core::{Answer, PlantState, Request};
+use std::alloc::{AllocError, Global};
+
+/// One plant, and a session for each of its panels.
+#[derive(Drop)]
+pub(crate) struct Stage<'p> {
+    plant: &'p Plant,
+    state: PlantState,
+    sessions: Vec<Session<'p>>,
+    // Where the plant answers a leave, which has no answer.
+    none: OutBox<Answer>,
+}
+
+impl<'p> Stage<'p> {
+    ghost use Rattle.record_replay.specs.LineInside.{IsFound};
+    ghost use Rattle.record_replay.specs.StageInside.{StandsAt, MayDo, DoesWork, DoesLine, DoesScript};
+
+    // Nothing happened yet. It takes all the memory that it ever needs.
+    pub(crate) fn start(alloc: Global, plant: &'p Plant) -> Result<Stage<'p>, AllocError>
+        ensures { IfOk result (λ stage. StandsAt plant.now stage (begun plant.now) 0) }
+    {
+        Ok(Stage {
+            plant,
+            state: PlantState::start(alloc, plant)?,
+            sessions: start_sessions(alloc, plant)?,
+            none: OutBox::new(alloc, PlantState::room_of(plant))?,
+        })
+    }
+
+    // Does the works of a script's lines, until the output fails.
+    pub(crate) fn work<K: Drain>(
+        &mut self,
+        script: &[u8],
+        digits: &mut Digits,
+        out: &mut Output<'_, K>,
+    )
+        requires may { MayDo (length script.now) self.old.plant.now self.old }
+        requires spelled { (works : List Work)
+            × LinesSpell self.old.plant.now (worked (lines script.now)) works }
+        ensures same_sink { out.new.out.ghost_name ≡ out.old.out.ghost_name }
+        ensures does { DoesScript self.old.plant.now script.now self.old out.new.failed
+            (λ text. Puts K.written K.faults text out.old out.new) }
+    {
+        let mut rest = script;
+        while !rest.is_empty() && !out.failed() {
+            let (line, after) = split_line(rest);
+            self.work_line(line, digits, out);
+            rest = after;
+        }
+    }
+
+    // Does the work of a line.
+    fn work_line<K: Drain>(&mut self, line: &[u8], digits: &mut Digits, out: &mut Output<'_, K>)
+        requires may { MayDo (length line.now) self.old.plant.now self.old }
+        requires spelled { (works : List Work)
+            × LinesSpell self.old.plant.now (worked (line.now ∷ [])) works }
+        ensures { DoesLine self.old.plant.now line.now self.old self.new
+            (λ text. Puts K.written K.faults text out.old out.new) }
+    {
+        if let Some(found) = read_line(digits, self.plant, line) {
+            self.work_found(found, digits.bytes(), out);
+        }
+    }
+
+    // Does what was found in a line, with the bytes of its turn.
+    fn work_found<K: Drain>(&mut self, found: Line, bytes: &[u8], out: &mut Output<'_, K>)
+        requires { (line : List ℕ) × IsFound self.old.plant.now line found bytes.now
+            × MayDo (length line) self.old.plant.now self.old }
+        ensures { (line : List ℕ) → IsFound self.old.plant.now line found bytes.now
+            → DoesLine self.old.plant.now line self.old self.new
+            (λ text. Puts K.written K.faults text out.old out.new) }
+    {
+        match found {
+            Line::Skipped => {}
+            Line::Read(panel) => self.turn(panel, bytes, out),
+            Line::Leave(panel) => self.leave(panel, out),
+        }
+    }
+
+    // One turn of a panel's session with this piece.
+    fn turn<K: Drain>(&mut self, panel: PanelNo, piece: &[u8], out: &mut Output<'_, K>)
+        requires panel { panel < length self.old.plant.now.panels }
+        requires may { MayDo (2 * length piece.now + 2) self.old.plant.now self.old }
+        ensures { DoesWork self.old.plant.now (Read panel piece.now) self.old self.new
+            (λ text. Puts K.written K.faults text out.old out.new) }
+    {
+        out.begin_turn(panel);
+        run_turn(
+            &mut self.sessions[panel.get() as usize],
+            &mut self.state,
+            piece,
+            out,
+        );
+        out.end_turn();
+    }
+
+    // A panel leaves.
+    fn leave<K: Drain>(&mut self, panel: PanelNo, out: &mut Output<'_, K>)
+        requires panel { panel < length self.old.plant.now.panels }
+        requires may { MayDo 0 self.old.plant.now self.old }
+        ensures { DoesWork self.old.plant.now (Leave panel) self.old self.new
+            (λ text. Puts K.written K.faults text out.old out.new) }
+    {
+        self.state.step(&Request::Leave { panel }, &mut self.none);
+        out.leave_line(panel);
+    }
+}
+
+// A session for each panel of a plant.
+fn start_sessions<'p>(alloc: Global, plant: &'p Plant) -> Result<Vec<Session<'p>>, AllocError>
+    ensures { IfOk result (λ sessions. AreNew plant.now sessions.items) }
+{
+    let panels = plant.panels().len();
+    let mut sessions = Vec::with_capacity(alloc, panels)?;
+    for panel in 0..panels {
+        sessions.push_reserved(Session::start(alloc, plant, PanelNo::of(panel as u32))?);
+    }
+    Ok(sessions)
+}
