@@ -74,14 +74,6 @@ module _ {State Request Answer : Type 0} where
         serving_full = λ h. true_also v.serving_full w.serving_full (serving ∙ h);
       }
 
-  pub taken_first : (v : View State Request Answer) (seat : SeatData State Request Answer) → v.numbers ≡ seat.number ∷ [] → v.seen ≡ seat.seen → v.ticket_full ≡ seat.ticket_full → v.serving_full ≡ seat.serving_full → IsTaken v seat
-  taken_first v seat number seen ticket serving = record {
-    number = subst (λ (l : List ℕ). Contains l seat.number) (sym number) (0, omega arith, refl);
-    seen = inl seen;
-    ticket_full = λ h. ticket ∙ h;
-    serving_full = λ h. serving ∙ h;
-  }
-
   -- a look tells that what a taken seat saw is covered
   pub covers : (v u : View State Request Answer) (seat : SeatData State Request Answer) → Tells v → u ≡ record v { former = [] } → IsTaken v seat → Covers u seat
   covers v u seat tells is t =

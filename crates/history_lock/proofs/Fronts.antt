@@ -24,9 +24,6 @@ module _ {A : Type 0} where
       let rest = front_shorter xs ys zs (p.0, cc (p.1)) (q.0, cc (q.1)) (omega arith) in
       (rest.0, cc (heads, rest.1))
 
-  pub front_length : (xs ys : List A) → IsPrefix xs ys → length xs ≤ length ys
-  front_length xs ys p = omega (arith, sym (ap length p.1) ∙ length-append xs p.0)
-
   none_left : (xs : List A) → length xs ≡ 0 → xs ≡ []
   none_left [] e = refl
   none_left (x ∷ xs) e = absurd (omega arith)

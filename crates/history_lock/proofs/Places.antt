@@ -1,5 +1,5 @@
 -- Lists read by place, of which one place is set.
-use Rattle.std.proofs.Common.{◌≡◌, ◌≢◌, ℕ, zero, suc, ◌<◌, List, [], ◌∷◌, ◌++◌, length, set, All, Bool, true, false, MatchBool, refl, ap, sym, ◌∙◌, subst, ⊎_elim, inl, inr, ◌⊎◌, arith}
+use Rattle.std.proofs.Common.{◌≡◌, ◌≢◌, ℕ, zero, suc, ◌<◌, List, [], ◌∷◌, ◌++◌, length, set, All, Bool, false, MatchBool, refl, ap, sym, ◌∙◌, subst, ⊎_elim, inl, inr, ◌⊎◌, arith}
 use mathlib.Core.Logic.{dite}
 use mathlib.Core.Option.{some, some-injective, some-ne-none}
 use native.Mathlib.Decide.{ℕ_discrete}
@@ -41,9 +41,6 @@ module _ {A : Type 0} where
 pub All-cons : {A : Type 0} (P : A → Type 0) (x : A) (xs : List A) → P x → All P xs → All P (x ∷ xs)
 All-cons P x xs h hs zero d l = h
 All-cons P x xs h hs (suc k) d l = hs k d (omega arith)
-
-pub on_true : (b : Bool) (P Q : Type 0) → b ≡ true → MatchBool b P Q → P
-on_true b P Q is h = subst (λ (c : Bool). MatchBool c P Q) is h
 
 pub on_false : (b : Bool) (P Q : Type 0) → b ≡ false → MatchBool b P Q → Q
 on_false b P Q is h = subst (λ (c : Bool). MatchBool c P Q) is h

@@ -106,13 +106,6 @@ source_of-applied crosspoints change no_ties =
     ap (λ (x : Crosspoints). source_of x change.dest) (applied-one crosspoints change.dest change.source no_ties)
     ∙ source_of-written crosspoints change.dest change.source
 
--- an idle change changes nothing
-pub changed-idle : (state : State) (asker : ℕ) (change : Change) → is_idle state.crosspoints change ≡ true → changed state asker change ≡ state
-changed-idle state asker change idle =
-    let same : applied state.crosspoints (change ∷ []) ≡ state.crosspoints =
-    one state.crosspoints change ∙ ap (λ b. cond b state.crosspoints (given (finite.remove state.crosspoints change.dest) change.dest change.source)) idle in
-    λ i. record state { crosspoints = same i; boards = cond (idle i) state.boards (noticed state.boards asker change.dest) }
-
 -- any other is made, and the others hear of it
 pub changed-busy : (state : State) (asker : ℕ) (change : Change) → is_idle state.crosspoints change ≡ false →
     record state { crosspoints = applied state.crosspoints (change ∷ []); boards = noticed state.boards asker change.dest } ≡ changed state asker change

@@ -4,7 +4,7 @@ use Rattle.std.specs.Prelude.{codes}
 use Rattle.std.specs.Fmt.{decimal}
 use Rattle.std.specs.Bool.{OnTrue, OnFalse}
 use Rattle.std.proofs.Math.Seq.{take-append-add}
-use Rattle.std.proofs.lemmas.List.{take-append-le, length-append}
+use Rattle.std.proofs.lemmas.List.{length-append}
 use Rattle.ctl_io.specs.Faults.{one_more, counted}
 use Rattle.ctl_io.specs.Sink.{appended, AppendsPart}
 use Rattle.ctl_io.proofs.SinkLemmas.{appended-nil, appended-appended}
@@ -27,14 +27,6 @@ front-part front line before mid now wrote part = record {
       ∙ ap (λ (w : Option (List ℕ)). appended w (take part.count line)) wrote
       ∙ appended-appended before front (take part.count line)
       ∙ ap (appended before) (sym (take-append-add front line part.count));
-}
-
--- a shorter front of what comes before the end is one
-pub part-front : (front line : List ℕ) (before now : Option (List ℕ)) → AppendsPart front before now → AppendsPart (front ++ line) before now
-part-front front line before now part = record {
-  count = part.count;
-  shorter = omega (arith, part.shorter, length-append front line);
-  appends = part.appends ∙ ap (appended before) (sym (take-append-le part.count front line (omega (arith, part.shorter))));
 }
 
 -- the end of two parts that are appended one after the other, by the answer to the second
