@@ -3,6 +3,8 @@
 ghost use Rattle.std.specs.Prelude.{◌≤◌};
 ghost use Rattle.plant_core.specs.Answer.{room_of};
 
+mod shared;
+
 use crate::{Answer, PlantState, Request};
 use history_lock::{Machine, OutBox};
 use plant_config::{DestId, PanelNo, Plant, SourceId};
