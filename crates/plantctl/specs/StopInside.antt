@@ -18,7 +18,7 @@ use Rattle.plantctl.specs.declared.stop.Status.TheVariants as statuses
 use Rattle.plantctl.specs.declared.words.Command as code
 use Rattle.plantctl.specs.declared.words.Command.TheVariants as commands
 use Rattle.plantctl.specs.Lines.{usage, no_memory, file_missing, file_fault, line_refused, script_too_long}
-use Rattle.plantctl.specs.End.{End, Done, status_of, output_failed, text_of, is_file_fault}
+use Rattle.plantctl.specs.End.{End, status_of, output_failed, text_of, is_file_fault}
 use Rattle.plantctl.specs.World.{World}
 use Rattle.plantctl.specs.Words.{Replay, LeadsTo, Ask}
 use Rattle.plantctl.specs.Run.{EndsAtWords, EndsByCommand}

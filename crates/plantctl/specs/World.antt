@@ -12,3 +12,14 @@ pub record World : Type 0 where
   pub file_faults : ℕ
   pub written : Option (List ℕ)
   pub output_faults : ℕ
+
+-- The world of these files and this output: what the files hold and handed out, how often they failed, what was written to
+-- the output, and how often that failed, are what their types say of them.
+abbrev pub world : {F K : Type 0} → (F → List ℕ → ℕ → Held) → (F → Custody) → (F → ℕ) → (K → Option (List ℕ)) → (K → ℕ) → F → K → World
+world held custody file_faults written output_faults files out = record {
+  held = held files;
+  custody = custody files;
+  file_faults = file_faults files;
+  written = written out;
+  output_faults = output_faults out;
+}

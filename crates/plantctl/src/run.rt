@@ -1,6 +1,6 @@
 //! The top call.
 
-ghost use Rattle.plantctl.specs.World.{World};
+ghost use Rattle.plantctl.specs.World.{world};
 ghost use Rattle.plantctl.specs.Words.{texts};
 ghost use Rattle.plantctl.specs.Run.{RunEnds};
 ghost use Rattle.plantctl.specs.StopInside.{RunStops};
@@ -22,20 +22,8 @@ pub fn run_quiet<F: Files, K: Sink>(
     out: &mut K,
 ) -> u8
     ensures { RunEnds (texts words.now)
-        (record {
-          held = F.held files.old;
-          custody = F.custody files.old;
-          file_faults = F.faults files.old;
-          written = K.written out.old;
-          output_faults = K.faults out.old;
-        })
-        (record {
-          held = F.held files.new;
-          custody = F.custody files.new;
-          file_faults = F.faults files.new;
-          written = K.written out.new;
-          output_faults = K.faults out.new;
-        })
+        (world F.held F.custody F.faults K.written K.faults files.old out.old)
+        (world F.held F.custody F.faults K.written K.faults files.new out.new)
         result }
 {
     let ended = run(alloc, words, files, out);
@@ -50,20 +38,8 @@ fn run<'a, F: Files, K: Sink>(
     out: &mut K,
 ) -> Result<(), Stop<'a>>
     ensures { RunStops (texts words.now)
-        (record {
-          held = F.held files.old;
-          custody = F.custody files.old;
-          file_faults = F.faults files.old;
-          written = K.written out.old;
-          output_faults = K.faults out.old;
-        })
-        (record {
-          held = F.held files.new;
-          custody = F.custody files.new;
-          file_faults = F.faults files.new;
-          written = K.written out.new;
-          output_faults = K.faults out.new;
-        })
+        (world F.held F.custody F.faults K.written K.faults files.old out.old)
+        (world F.held F.custody F.faults K.written K.faults files.new out.new)
         result }
 {
     match read_words(words) {
