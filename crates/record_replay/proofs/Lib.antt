@@ -8,6 +8,7 @@ pub mod IsReplayLemmas
 pub mod SessionsLemmas
 pub mod DeedsLemmas
 pub mod DeedsOnce
+pub mod DigitsLemmas
 pub mod EncodeLemmas
 pub mod OutputLemmas
 pub mod TurnLemmas

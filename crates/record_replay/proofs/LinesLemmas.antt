@@ -1,12 +1,17 @@
 -- The first line of a text.
-use Rattle.std.proofs.Common.{◌≡◌, ◌≢◌, ℕ, zero, suc, ◌+◌, ◌-◌, ◌<◌, List, [], ◌∷◌, length, get_or, take, drop, ap, ◌∙◌, add-one, arith}
+use Rattle.std.proofs.Common.{◌≡◌, ◌≢◌, ℕ, zero, suc, ◌+◌, ◌-◌, ◌<◌, ◌==◌, List, [], ◌∷◌, length, get_or, take, drop, ap, ◌∙◌, add-one, arith}
 use Rattle.std.proofs.lemmas.List.{take_all, length-drop}
 use Rattle.std.proofs.lemmas.Bool.Decides.{nat_tests}
+use Rattle.memchr.specs.Find.{Nowhere, Passes, is_byte}
 use Rattle.record_replay.specs.Script.{line_feed, lines, in_line}
 
 -- none of the first n bytes ends a line
 abbrev pub NoneEnds : List ℕ → ℕ → Type 0
 NoneEnds text n = (k : ℕ) → k < n → get_or text k 0 ≢ line_feed
+
+-- A search for LF found none of them.
+pub none_ends : (text : List ℕ) (n : ℕ) → Nowhere (Passes (is_byte line_feed) text) 0 n → NoneEnds text n
+none_ends text n none k below is = none k (omega arith) below (ap (λ (byte : ℕ). byte == line_feed) is)
 
 lines_end : (byte : ℕ) (text : List ℕ) → byte ≡ line_feed → lines (byte ∷ text) ≡ [] ∷ lines text
 lines_end byte text is = grind (arith, nat_tests)

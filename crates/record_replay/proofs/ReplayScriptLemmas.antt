@@ -20,10 +20,6 @@ pub may_begin : (plant : PlantData) (stage : Stage) (script : List ℕ) → Stan
 may_begin plant stage script stands small =
     subst (λ (plant : PlantData). MayDo (length script) plant stage) (sym stands.plant_is) (record { stand = begun plant; used = 0; stands = stands; within = omega (arith, small) })
 
-pub spelled_of : (plant : PlantData) (stage : Stage) (script : List ℕ) → StandsAt plant stage (begun plant) 0 → (works : List Work) × LinesSpell plant (worked (lines script)) works
-    → (works : List Work) × LinesSpell stage.plant.now (worked (lines script)) works
-spelled_of plant stage script stands spelled = (spelled.0, subst (λ (plant : PlantData). LinesSpell plant (worked (lines script)) spelled.0) (sym stands.plant_is) spelled.1)
-
 -- What holds of each work holds of each of the last ones.
 last_have : (P : Work → Type 0) (done left : List Work) → AllByRecursion P (done ++ left) → AllByRecursion P left
 last_have P [] left all = all

@@ -1,5 +1,5 @@
 -- Works that are done one after the other.
-use Rattle.std.proofs.Common.{◌≡◌, ℕ, ◌<◌, ◌==◌, true, false, cond, List, [], ◌∷◌, ◌++◌, length, All, refl, sym, ◌∙◌, ap, subst, append_assoc, append-nil}
+use Rattle.std.proofs.Common.{◌≡◌, ℕ, ◌<◌, ◌==◌, true, false, cond, List, [], ◌∷◌, ◌++◌, length, All, refl, sym, ◌∙◌, ap, subst, append_assoc}
 use Rattle.std.proofs.lemmas.Bool.{eqb-true}
 use Rattle.std.proofs.lemmas.List.Elements.{All-head, All-tail}
 use Rattle.history_lock.specs.History.{run}
@@ -79,12 +79,6 @@ AllWork-append plant (work ∷ works) later stand mid last text rest done more =
   AllWork-append plant works later done.0 mid last done.2 rest done.4 more,
   ap (λ (text : List ℕ). text ++ rest) done.5 ∙ append_assoc done.1 done.2 rest,
 )
-
--- One more is done.
-pub AllWork-push : (plant : PlantData) (works : List Work) (work : Work) (stand mid last : Stand) (text line : List ℕ)
-    → AllWork plant works stand text mid → Works plant work mid line last → AllWork plant (works ++ work ∷ []) stand (text ++ line) last
-AllWork-push plant works work stand mid last text line done more =
-    AllWork-append plant works (work ∷ []) stand mid last text line done (last, line, [], more, (refl, refl), sym (append-nil line))
 
 -- Each work can be done where each session is between two turns, and then each is again.
 work_exists : (plant : PlantData) (work : Work) (stand : Stand) → IsSettled plant stand → panel_of work < length plant.panels

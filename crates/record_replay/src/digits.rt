@@ -1,8 +1,8 @@
 //! The bytes that hexadecimal spells, in room that was taken before.
 
-ghost use Rattle.std.specs.Prelude.{◌≡◌, ◌≤◌, ◌*◌, ◌/◌, ◌==◌, ℕ, List, [], length, take, not, filter, vec_len, vec_capacity, IfOk};
+ghost use Rattle.std.specs.Prelude.{◌≡◌, ◌≤◌, ◌*◌, ◌/◌, ◌==◌, ℕ, List, [], length, take, not, filter, unwrap_or, vec_len, vec_capacity, IfOk};
 ghost use Rattle.std.specs.Bool.{OnTrue, OnFalse};
-ghost use Rattle.hex.specs.Hex.{decode_of};
+ghost use Rattle.hex.specs.Hex.{decode_of, hex_digit_value};
 ghost use Rattle.record_replay.specs.Script.{HexSpells, longest_line, space};
 
 use crate::script::{MAX_LINE, SPACE};
@@ -11,6 +11,24 @@ use std::marker::Model;
 
 // The most bytes that a line spells.
 const MAX_BYTES: usize = MAX_LINE / 2;
+
+// What `value_of` answers for each byte: a look-up takes no test of where a digit lies.
+static VALUES: [u16; 256] = [
+    256, 256, 256, 256, 256, 256, 256, 256, 256, 256, 256, 256, 256, 256, 256, 256, 256, 256, 256,
+    256, 256, 256, 256, 256, 256, 256, 256, 256, 256, 256, 256, 256, 256, 256, 256, 256, 256, 256,
+    256, 256, 256, 256, 256, 256, 256, 256, 256, 256, 0, 1, 2, 3, 4, 5, 6, 7, 8, 9, 256, 256, 256,
+    256, 256, 256, 256, 10, 11, 12, 13, 14, 15, 256, 256, 256, 256, 256, 256, 256, 256, 256, 256,
+    256, 256, 256, 256, 256, 256, 256, 256, 256, 256, 256, 256, 256, 256, 256, 256, 10, 11, 12, 13,
+    14, 15, 256, 256, 256, 256, 256, 256, 256, 256, 256, 256, 256, 256, 256, 256, 256, 256, 256,
+    256, 256, 256, 256, 256, 256, 256, 256, 256, 256, 256, 256, 256, 256, 256, 256, 256, 256, 256,
+    256, 256, 256, 256, 256, 256, 256, 256, 256, 256, 256, 256, 256, 256, 256, 256, 256, 256, 256,
+    256, 256, 256, 256, 256, 256, 256, 256, 256, 256, 256, 256, 256, 256, 256, 256, 256, 256, 256,
+    256, 256, 256, 256, 256, 256, 256, 256, 256, 256, 256, 256, 256, 256, 256, 256, 256, 256, 256,
+    256, 256, 256, 256, 256, 256, 256, 256, 256, 256, 256, 256, 256, 256, 256, 256, 256, 256, 256,
+    256, 256, 256, 256, 256, 256, 256, 256, 256, 256, 256, 256, 256, 256, 256, 256, 256, 256, 256,
+    256, 256, 256, 256, 256, 256, 256, 256, 256, 256, 256, 256, 256, 256, 256, 256, 256, 256, 256,
+    256, 256, 256,
+];
 
 /// The bytes that were spelled last, as which a contract sees them. Only `new` takes memory: there is room for the
 /// hexadecimal of the longest line.
@@ -71,6 +89,21 @@ impl Digits {
         ensures spelled { OnTrue result (HexSpells hex.now self.new) }
         ensures refused { OnFalse result ((bytes : List ℕ) → HexSpells hex.now bytes → ⊥) }
     {
+        // Most texts have no space, and are decoded where they stand.
+        self.used = hex.len() / 2;
+        if decode(hex, self.room.as_mut_slice()) {
+            return true;
+        }
+        self.read_spaced(hex)
+    }
+
+    // The same, by the text without its spaces. Out of line, so that `read` is short.
+    #[inline(never)]
+    fn read_spaced(&mut self, hex: &[u8]) -> bool
+        requires { length hex.now ≤ longest_line }
+        ensures spelled { OnTrue result (HexSpells hex.now self.new) }
+        ensures refused { OnFalse result ((bytes : List ℕ) → HexSpells hex.now bytes → ⊥) }
+    {
         drop_spaces(hex, &mut self.digits);
         self.used = self.digits.len() / 2;
         decode(self.digits.as_slice(), self.room.as_mut_slice())
@@ -99,6 +132,23 @@ fn decode(digits: &[u8], room: &mut [u8]) -> bool
         (decode_of digits.now ≡ Ok (take (length digits.now / 2) room.new)) }
     ensures refused { OnFalse result ((bytes : List ℕ) → decode_of digits.now ≡ Ok bytes → ⊥) }
 {
-    let count = digits.len() / 2;
-    hex::decode_to_slice(digits, &mut room[..count]).is_ok()
+    if digits.len() % 2 == 1 {
+        return false;
+    }
+    for i in 0..digits.len() / 2 {
+        let byte = 16 * value_of(digits[2 * i]) + value_of(digits[2 * i + 1]);
+        if byte > 255 {
+            return false;
+        }
+        room[i] = byte as u8;
+    }
+    true
+}
+
+// The value of a digit of either case, and more than two digits make together for any other byte.
+#[inline]
+fn value_of(digit: u8) -> u16
+    ensures { result ≡ unwrap_or (hex_digit_value digit) 256 }
+{
+    VALUES[digit as usize]
 }

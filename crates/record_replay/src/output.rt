@@ -1,7 +1,8 @@
 //! The output lines of a replay, given to a sink in large pieces.
 
-ghost use Rattle.std.specs.Prelude.{◌≡◌, [], ◌∷◌, false};
+ghost use Rattle.std.specs.Prelude.{◌≡◌, ◌+◌, ◌*◌, ◌≤◌, [], ◌∷◌, length, false};
 ghost use Rattle.std.specs.Bool.{OnTrue, OnFalse};
+ghost use Rattle.hex.specs.Hex.{encode_upper};
 ghost use Rattle.record_replay.specs.Replay.{leave_line};
 ghost use Rattle.record_replay.specs.OutputInside.{HasNothing, Puts, Gives, IsAllGiven, IsCutShort, turn_head, turn_end};
 ghost use Rattle.record_replay.specs.OutputLaws.{gives_none, gives_more};
@@ -12,8 +13,8 @@ use itoa::Buffer;
 use panel_session::Outlet;
 use plant_config::PanelNo;
 
-// The digits of hexadecimal.
-const DIGITS: &[u8; 16] = b"0123456789ABCDEF";
+// The most bytes whose hexadecimal has room in an empty buffer.
+const MOST_BYTES: usize = 32 << 10;
 
 /// An output that lines are put into. Where a write of its sink fails, it drops what comes later.
 #[derive(Drop)]
@@ -57,10 +58,45 @@ impl<'k, K: Drain> Output<'k, K> {
         ensures puts { Puts K.written K.faults (byte ∷ []) self.old self.new }
         ensures some { self.new.some ≡ self.old.some }
     {
-        if self.buffer.is_full() {
+        self.make_room(1);
+        self.buffer.push(byte);
+    }
+
+    // Puts bytes in hexadecimal: one test for room serves them all.
+    fn put_hex(&mut self, bytes: &[u8])
+        requires { 2 * length bytes.now ≤ 65536 }
+        ensures puts { Puts K.written K.faults (encode_upper bytes.now) self.old self.new }
+        ensures some { self.new.some ≡ self.old.some }
+    {
+        self.make_room(2 * bytes.len());
+        self.buffer.push_hex(bytes);
+    }
+
+    // Puts bytes in hexadecimal, of which there may be more than there is room for.
+    #[cold]
+    fn put_pieces(&mut self, bytes: &[u8])
+        ensures puts { Puts K.written K.faults (encode_upper bytes.now) self.old self.new }
+        ensures some { self.new.some ≡ self.old.some }
+    {
+        let mut at = 0;
+        while at < bytes.len() {
+            let end = at + (bytes.len() - at).min(MOST_BYTES);
+            self.put_hex(&bytes[at..end]);
+            at = end;
+        }
+    }
+
+    // Empties the buffer if it hasn't room for so many bytes more.
+    #[inline]
+    fn make_room(&mut self, count: usize)
+        requires { count ≤ 65536 }
+        ensures puts { Puts K.written K.faults [] self.old self.new }
+        ensures room { length self.new.buffer.now + count ≤ 65536 }
+        ensures some { self.new.some ≡ self.old.some }
+    {
+        if !self.buffer.has_room(count) {
             self.flush();
         }
-        self.buffer.push(byte);
     }
 
     // Gives the sink what is in the buffer, if no write failed.
@@ -139,11 +175,14 @@ impl<'k, K: Drain> Output<'k, K> {
 impl<K: Drain> Outlet for Output<'_, K> {
     ghost Given = { λ old bytes new. Gives K.written K.faults bytes old new };
 
+    // Out of line, where the loop's values stay in registers.
+    #[inline(never)]
     fn give(&mut self, bytes: &[u8]) {
         self.some = self.some || !bytes.is_empty();
-        for byte in bytes {
-            self.put_byte(DIGITS[*byte as usize / 16]);
-            self.put_byte(DIGITS[*byte as usize % 16]);
+        if bytes.len() <= MOST_BYTES {
+            self.put_hex(bytes);
+        } else {
+            self.put_pieces(bytes);
         }
     }
 

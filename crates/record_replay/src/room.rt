@@ -1,7 +1,8 @@
 //! Room for the bytes that a sink wasn't given yet.
 
-ghost use Rattle.std.specs.Prelude.{◌≡◌, ◌<◌, [], ◌∷◌, ◌++◌, length, IfOk};
-ghost use Rattle.std.specs.Bool.{OnFalse};
+ghost use Rattle.std.specs.Prelude.{◌≡◌, ◌+◌, ◌*◌, ◌<◌, ◌≤◌, [], ◌∷◌, ◌++◌, length, IfOk};
+ghost use Rattle.std.specs.Bool.{OnTrue};
+ghost use Rattle.hex.specs.Hex.{encode_upper};
 
 use std::alloc::{AllocError, Global};
 use std::marker::Model;
@@ -9,20 +10,25 @@ use std::marker::Model;
 // The most bytes that are in it at once, 64 KiB.
 const MOST: usize = 64 << 10;
 
+// The digits of hexadecimal.
+const DIGITS: &[u8; 16] = b"0123456789ABCDEF";
+
 /// Some bytes in memory that was taken before.
 #[derive(Drop)]
 pub(crate) struct Room {
+    // As long as there may be bytes, which are the first so many of it.
     bytes: Vec<u8>,
+    used: usize,
 }
 
 impl Model for Room {
-    ghost use Rattle.std.specs.Prelude.{List, ℕ, ◌≤◌, vec_capacity};
+    ghost use Rattle.std.specs.Prelude.{◌≡◌, List, ℕ, ◌≤◌, length, take};
 
     ghost Value = { List ℕ };
 
-    ghost view = { λ room. room.bytes.items };
+    ghost view = { λ room. take room.used room.bytes.items };
 
-    ghost invariant = { λ room. 65536 ≤ vec_capacity room.bytes };
+    ghost invariant = { λ room. (length room.bytes.items ≡ 65536) × (room.used ≤ 65536) };
 }
 
 impl Room {
@@ -30,23 +36,23 @@ impl Room {
     pub(crate) fn new(alloc: Global) -> Result<Room, AllocError>
         ensures { IfOk result (λ room. room ≡ []) }
     {
-        Ok(Room {
-            bytes: Vec::with_capacity(alloc, MOST)?,
-        })
+        let bytes = vec![in alloc; 0u8; MOST]?;
+        Ok(Room { bytes, used: 0 })
     }
 
     // The bytes.
     pub(crate) fn bytes(&self) -> &[u8]
         ensures { result.now ≡ self.now }
     {
-        &self.bytes
+        &self.bytes[..self.used]
     }
 
-    // Whether it has the most bytes.
-    pub(crate) fn is_full(&self) -> bool
-        ensures { OnFalse result (length self.now < 65536) }
+    // Whether so many bytes more can be put.
+    pub(crate) fn has_room(&self, count: usize) -> bool
+        requires { count ≤ 65536 }
+        ensures { OnTrue result (length self.now + count ≤ 65536) }
     {
-        self.bytes.len() >= MOST
+        self.used <= MOST - count
     }
 
     // Puts one more byte behind the others.
@@ -54,13 +60,36 @@ impl Room {
         requires { length self.old < 65536 }
         ensures { self.new ≡ self.old ++ byte ∷ [] }
     {
-        self.bytes.push_reserved(byte);
+        self.bytes[self.used] = byte;
+        self.used += 1;
+    }
+
+    // Puts bytes in hexadecimal behind the others.
+    pub(crate) fn push_hex(&mut self, bytes: &[u8])
+        requires { length self.old + 2 * length bytes.now ≤ 65536 }
+        ensures { self.new ≡ self.old ++ encode_upper bytes.now }
+    {
+        let end = self.used + 2 * bytes.len();
+        encode(bytes, &mut self.bytes[self.used..end]);
+        self.used = end;
     }
 
     // No bytes again.
     pub(crate) fn clear(&mut self)
         ensures { self.new ≡ [] }
     {
-        self.bytes.clear();
+        self.used = 0;
+    }
+}
+
+// Writes bytes in hexadecimal into room of just that length.
+fn encode(bytes: &[u8], room: &mut [u8])
+    requires { length room.old ≡ 2 * length bytes.now }
+    ensures { room.new ≡ encode_upper bytes.now }
+{
+    for i in 0..bytes.len() {
+        let byte = bytes[i] as usize;
+        room[2 * i] = DIGITS[byte / 16];
+        room[2 * i + 1] = DIGITS[byte % 16];
     }
 }

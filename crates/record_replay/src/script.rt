@@ -3,6 +3,8 @@
 ghost use Rattle.std.specs.Prelude.{◌≡◌, ◌+◌, ◌<◌, ◌≤◌, ◌∷◌, length};
 ghost use Rattle.record_replay.specs.Script.{lines};
 
+use memchr::memchr;
+
 // Ends a line.
 pub(crate) const LF: u8 = b'\n';
 
@@ -22,10 +24,8 @@ pub(crate) fn split_line(text: &[u8]) -> (&[u8], &[u8])
     ensures shorter { length result.1.now < length text.now }
     ensures within { length result.0.now + length result.1.now ≤ length text.now }
 {
-    for (end, byte) in text.iter().enumerate() {
-        if *byte == LF {
-            return (&text[..end], &text[end + 1..]);
-        }
+    match memchr(LF, text) {
+        Some(end) => (&text[..end], &text[end + 1..]),
+        None => (text, &text[text.len()..]),
     }
-    (text, &text[text.len()..])
 }

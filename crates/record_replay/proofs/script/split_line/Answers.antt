@@ -1,9 +1,14 @@
-use Rattle.std.proofs.Common.{arith}
-use Rattle.record_replay.proofs.LinesLemmas.{first_line, only_line}
+use Rattle.std.proofs.Common.{length}
+use Rattle.std.proofs.lemmas.Bool.{eqb-true}
+use Rattle.record_replay.specs.Script.{line_feed}
+use Rattle.record_replay.proofs.LinesLemmas.{none_ends, first_line, only_line}
 use Rattle.record_replay.proofs.script.split_line.Goals as goal
 
-pub returns-then-byte-eq-LF-clause-lines : goal.returns-then-byte-eq-LF-clause-lines
-returns-then-byte-eq-LF-clause-lines c = first_line c.args.text.now c.loop-end.end c.loop-end.invariant c.loop-end-test.true c.if-byte-eq-LF.true
+pub returns-in-Some-clause-lines : goal.returns-in-Some-clause-lines
+returns-in-Some-clause-lines c =
+    let text = c.args.text.now in
+    let first = c.in-Some.ensures in
+    first_line text c.in-Some.end (none_ends text c.in-Some.end first.0.before) first.0.high (eqb-true _ line_feed first.1)
 
-pub returns-clause-lines : goal.returns-clause-lines
-returns-clause-lines c = only_line c.args.text.now c.requires (λ k below. c.loop-end.invariant k (omega arith))
+pub returns-in-None-clause-lines : goal.returns-in-None-clause-lines
+returns-in-None-clause-lines c = only_line c.args.text.now c.requires (none_ends c.args.text.now (length c.args.text.now) c.in-None.ensures)
