@@ -19,17 +19,27 @@ use Rattle.panel_session.specs.Turns.{entries_in}
 use Rattle.panel_session.proofs.NoLeaves.{turn-no_leaves}
 use Rattle.record_replay.specs.Script.{Work, Read, Leave, panel_of, lines, worked, LinesSpell}
 use Rattle.record_replay.specs.Replay.{Stand, begun, behind_turn, Works, AllWork, IsReplay}
+use Rattle.record_replay.specs.StandInside.{IsSettled}
+use Rattle.record_replay.specs.Answered.{AnswersItems}
 use Rattle.record_replay.specs.Laws.{Deed, Turned, Left, work_of, line_of, entries_by, history_of, IsSeated, piece_in, sent_in, pieces_of, sent_of, session_in, AreSessions, IsHistory}
-use Rattle.record_replay.proofs.WorksLemmas.{fits-run}
+use Rattle.record_replay.proofs.WorksLemmas.{fits-run, settled-begun, settled-leave}
+use Rattle.record_replay.proofs.WorkAnswers.{work_settled, work_answers}
 use Rattle.record_replay.proofs.IsReplayLemmas.{have_panels}
-use Rattle.record_replay.proofs.SessionsLemmas.{flat_map-push, session-append, session-own, session-other, session-leave, swapped, stays-no_leave, IsBy, IsPast, past-as, past-session, past-turn}
+use Rattle.record_replay.proofs.SessionsLemmas.{flat_map-push, session-append, session-own, session-other, session-leave, swapped, stays-no_leave, IsBy, IsPast, past-as, past-bytes, past-session, past-turn}
+
+-- What is sent in a turn behind these deeds answers the items that end in its piece. A leave answers nothing.
+abbrev pub IsAnswer : List Deed → Deed → Type 0
+IsAnswer before (Turned panel piece entries sent) = AnswersItems (flat_map (λ piece. piece) (pieces_of panel before)) piece sent
+IsAnswer before (Left panel) = Unit {0}
 
 module _ (plant : PlantData) where
-  -- Deeds lead to a stand: their history to its state, and what each session did in them is what it has done.
+  -- Deeds lead to a stand: their history to its state, and what each session did in them is what it has done, all its turns
+  -- over.
   record LeadTo (deeds : List Deed) (stand : Stand) : Type 0 where
     legal : IsLegal step Fits (start plant) (history_of deeds)
     state_is : stand.state ≡ run step (start plant) (history_of deeds)
     each : (panel : ℕ) → IsPast plant panel (pieces_of panel deeds) (session_in panel (history_of deeds)) (sent_of panel deeds) (stand.pasts panel)
+    settled : IsSettled plant stand
 
   -- None leads to the start.
   lead-begun : LeadTo [] (begun plant)
@@ -43,14 +53,15 @@ module _ (plant : PlantData) where
       sent_is = refl;
       text = record { asked = []; items_ask = subst (λ its. AllAsk its []) (sym (ap (λ (reading : Reading). reading.items) (reading-by_start []))) tt; bytes = refl };
     };
+    settled = settled-begun plant;
   }
 
   -- One deed more leads on: its entries are legal and lead to the state, and each session has done its part of it.
   lead-push : (deeds : List Deed) (deed : Deed) (stand next : Stand) → LeadTo deeds stand → IsLegal step Fits stand.state (entries_by deed) → next.state ≡ run step stand.state (entries_by deed)
       → ((panel : ℕ) → IsPast plant panel (pieces_of panel deeds ++ piece_in panel deed) (session_in panel (history_of deeds) ++ session_in panel (entries_by deed))
       (sent_of panel deeds ++ sent_in panel deed) (next.pasts panel))
-      → LeadTo (deeds ++ deed ∷ []) next
-  lead-push deeds deed stand next lead legal state_is each =
+      → IsSettled plant next → LeadTo (deeds ++ deed ∷ []) next
+  lead-push deeds deed stand next lead legal state_is each settled =
       let more : history_of (deeds ++ deed ∷ []) ≡ history_of deeds ++ entries_by deed = flat_map-push entries_by deeds deed in
       let LegalAt : State → Type 0 = λ state. IsLegal step Fits state (entries_by deed) in
       let Legal : List PlantEntry → Type 0 = λ history. IsLegal step Fits (start plant) history in
@@ -66,6 +77,7 @@ module _ (plant : PlantData) where
             (sym (ap (session_in panel) more ∙ session-append panel (history_of deeds) (entries_by deed)))
             (sym (flat_map-push (sent_in panel) deeds deed))
             (each panel);
+        settled = settled;
       }
 
   -- A deed does a work that leads from a stand to the next with this line.
@@ -74,6 +86,7 @@ module _ (plant : PlantData) where
     work_is : work_of deed ≡ work
     line_is : line ≡ line_of deed
     seated : IsSeated deed
+    answer : IsAnswer deeds deed
     lead : LeadTo (deeds ++ deed ∷ []) next
 
   -- A leave is a deed,
@@ -89,18 +102,22 @@ module _ (plant : PlantData) where
         work_is = refl;
         line_is = done.0;
         seated = tt;
+        answer = tt;
         lead = subst Leads (sym done.1)
             (lead-push deeds (Left panel) stand left lead (fits, refl, tt) refl
             (λ other. past-as plant other _ _ _ _ _ _ (stand.pasts other) (sym (append-nil _))
-            (sym (ap (λ (l : List PlantEntry). session_in other (history_of deeds) ++ l) (session-leave other panel) ∙ append-nil _)) (sym (append-nil _)) (lead.each other)));
+            (sym (ap (λ (l : List PlantEntry). session_in other (history_of deeds) ++ l) (session-leave other panel) ∙ append-nil _)) (sym (append-nil _)) (lead.each other))
+            (settled-leave plant panel stand lead.settled));
       }
 
   -- and so is a turn:
-  does-turn : (deeds : List Deed) (panel : ℕ) (piece line : List ℕ) (stand next : Stand) → LeadTo deeds stand → Works plant (Read panel piece) stand line next → Does deeds (Read panel piece) line next
-  does-turn deeds panel piece line stand next lead done =
+  does-turn : (deeds : List Deed) (panel : ℕ) (piece line : List ℕ) (stand next : Stand) → LeadTo deeds stand → panel < length plant.panels → Works plant (Read panel piece) stand line next
+      → Does deeds (Read panel piece) line next
+  does-turn deeds panel piece line stand next lead has done =
       let by : All (IsBy panel) (entries_in done.0) = λ k d below. (done.3.seats k d below, stays-no_leave _ (turn-no_leaves panel _ done.0 done.3.is_turn k d below)) in
       let deed : Deed = Turned panel piece (entries_in done.0) done.1 in
       let Leads : Stand → Type 0 = λ next. LeadTo (deeds ++ deed ∷ []) next in
+      let Answers : List ℕ → Type 0 = λ read. AnswersItems read piece done.1 in
       let PastIs : ℕ → Bool → Type 0 = λ other b.
       IsPast plant other (pieces_of other deeds ++ cond b (piece ∷ []) []) (session_in other (history_of deeds) ++ session_in other (entries_in done.0)) (sent_of other deeds ++ cond b done.1 [])
       (cond b (turned done.0 done.1 (stand.pasts panel)) (stand.pasts other)) in
@@ -122,13 +139,16 @@ module _ (plant : PlantData) where
         work_is = refl;
         line_is = done.4;
         seated = by;
-        lead = subst Leads (sym done.5) (lead-push deeds deed stand (behind_turn panel done.0 done.1 stand) lead done.3.legal refl each);
+        answer = subst Answers (past-bytes plant panel _ _ _ (stand.pasts panel) (lead.each panel)) (work_answers plant panel piece line stand next lead.settled has done);
+        lead = subst Leads (sym done.5)
+            (lead-push deeds deed stand (behind_turn panel done.0 done.1 stand) lead done.3.legal refl each
+            (work_settled plant (Read panel piece) line stand (behind_turn panel done.0 done.1 stand) lead.settled has (done.0, done.1, done.2, done.3, done.4, refl)));
       }
 
   -- each work is done by a deed.
   does : (deeds : List Deed) (work : Work) (line : List ℕ) (stand next : Stand) → LeadTo deeds stand → panel_of work < length plant.panels → Works plant work stand line next
       → Does deeds work line next
-  does deeds (Read panel piece) line stand next lead has done = does-turn deeds panel piece line stand next lead done
+  does deeds (Read panel piece) line stand next lead has done = does-turn deeds panel piece line stand next lead has done
   does deeds (Leave panel) line stand next lead has done = does-leave deeds panel line stand next lead has done
 
   -- Behind such deeds the session of each panel is one.
@@ -143,6 +163,7 @@ module _ (plant : PlantData) where
     seated : All IsSeated more
     legal : IsLegal step Fits (start plant) (history_of (deeds ++ more))
     each : (before after : List Deed) → more ≡ before ++ after → AreSessions plant (deeds ++ before)
+    answers : (before after : List Deed) (deed : Deed) → more ≡ before ++ deed ∷ after → IsAnswer (deeds ++ before) deed
 
   -- No works are left,
   does_none : (deeds : List Deed) (output : List ℕ) (stand : Stand) → LeadTo deeds stand → output ≡ [] → DoesAll deeds [] output
@@ -153,11 +174,16 @@ module _ (plant : PlantData) where
     seated = All-nil IsSeated;
     legal = subst (λ (deeds : List Deed). IsLegal step Fits (start plant) (history_of deeds)) (sym (append-nil deeds)) lead.legal;
     each = each;
+    answers = answers;
   }
     where
       each : (before after : List Deed) → [] ≡ before ++ after → AreSessions plant (deeds ++ before)
       each [] after is = subst (AreSessions plant) (sym (append-nil deeds)) (lead-sessions deeds stand lead)
       each (first ∷ before) after is = absurd cc
+
+      answers : (before after : List Deed) (deed : Deed) → [] ≡ before ++ deed ∷ after → IsAnswer (deeds ++ before) deed
+      answers [] after deed is = absurd cc
+      answers (first ∷ before) after deed is = absurd cc
 
   -- or one is done before the others.
   does_first : (deeds : List Deed) (work : Work) (works : List Work) (line rest output : List ℕ) (stand next : Stand) → LeadTo deeds stand → (one : Does deeds work line next)
@@ -169,6 +195,7 @@ module _ (plant : PlantData) where
     seated = All-cons IsSeated one.deed later.more one.seated later.seated;
     legal = subst (λ (deeds : List Deed). IsLegal step Fits (start plant) (history_of deeds)) (append_assoc deeds (one.deed ∷ []) later.more) later.legal;
     each = each;
+    answers = answers;
   }
     where
       each : (before after : List Deed) → one.deed ∷ later.more ≡ before ++ after → AreSessions plant (deeds ++ before)
@@ -177,6 +204,17 @@ module _ (plant : PlantData) where
           let head : one.deed ≡ first = cc in
           let tail : later.more ≡ before ++ after = cc in
           subst (AreSessions plant) (append_assoc deeds (one.deed ∷ []) before ∙ ap (λ (deed : Deed). deeds ++ deed ∷ before) head) (later.each before after tail)
+
+      answers : (before after : List Deed) (deed : Deed) → one.deed ∷ later.more ≡ before ++ deed ∷ after → IsAnswer (deeds ++ before) deed
+      answers [] after deed is =
+          let Behind : List Deed → Type 0 = λ before. IsAnswer before deed in
+          let head : one.deed ≡ deed = cc in
+          subst Behind (sym (append-nil deeds)) (subst (IsAnswer deeds) head one.answer)
+      answers (first ∷ before) after deed is =
+          let Behind : List Deed → Type 0 = λ before. IsAnswer before deed in
+          let head : one.deed ≡ first = cc in
+          let tail : later.more ≡ before ++ deed ∷ after = cc in
+          subst Behind (append_assoc deeds (one.deed ∷ []) before ∙ ap (λ (first : Deed). deeds ++ first ∷ before) head) (later.answers before after deed tail)
 
   -- So all works are done by deeds,
   does_all : (works : List Work) (deeds : List Deed) (output : List ℕ) (stand last : Stand) → LeadTo deeds stand → All (λ work. panel_of work < length plant.panels) works
@@ -188,9 +226,10 @@ module _ (plant : PlantData) where
       does_first deeds work works done.1 done.2 output stand done.0 lead one
       (does_all works (deeds ++ one.deed ∷ []) done.2 done.0 last one.lead (All-tail Has work works has) done.4) done.5
 
-  -- and each replay has a history.
-  pub history_exists : (script output : List ℕ) → IsReplay plant script output → (deeds : List Deed) × IsHistory plant script output deeds
-  history_exists script output replay =
+  -- and each replay has a history, in which what each turn sends answers its items.
+  pub history_answers : (script output : List ℕ) → IsReplay plant script output
+      → (deeds : List Deed) × IsHistory plant script output deeds × ((before after : List Deed) (deed : Deed) → deeds ≡ before ++ deed ∷ after → IsAnswer before deed)
+  history_answers script output replay =
       let has = All-from_recursion (λ (work : Work). panel_of work < length plant.panels) replay.works (have_panels plant (worked (lines script)) replay.works replay.spelled) in
       let all : DoesAll [] replay.works output = does_all replay.works [] output (begun plant) replay.last lead-begun has replay.all_work in (
         all.more,
@@ -201,4 +240,8 @@ module _ (plant : PlantData) where
           legal = all.legal;
           each = all.each;
         },
+        all.answers,
       )
+
+  pub history_exists : (script output : List ℕ) → IsReplay plant script output → (deeds : List Deed) × IsHistory plant script output deeds
+  history_exists script output replay = let made = history_answers script output replay in (made.0, made.1)

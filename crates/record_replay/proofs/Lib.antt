@@ -9,6 +9,10 @@ pub mod SessionsLemmas
 pub mod DeedsLemmas
 pub mod DeedsOnce
 pub mod DigitsLemmas
+pub mod TurnEntries
+pub mod AnsweredLemmas
+pub mod TurnAnswers
+pub mod WorkAnswers
 pub mod EncodeLemmas
 pub mod OutputLemmas
 pub mod TurnLemmas

@@ -107,15 +107,18 @@ module _ (plant : PlantData) where
     text = is.text;
   }
 
+  -- The bytes that it has read are those of its pieces.
+  pub past-bytes : (panel : ℕ) (pieces : List (List ℕ)) (entries : List PlantEntry) (sent : List ℕ) (past : Past) → IsPast panel pieces entries sent past
+      → bytes_of past.turns ≡ flat_map (λ piece. piece) pieces
+  past-bytes panel pieces entries sent past is =
+      sym (flat_map-map (λ (piece : List ℕ). piece) (λ (turn : Turn). turn.piece) past.turns) ∙ ap (flat_map (λ (piece : List ℕ). piece)) is.pieces_are
+
   -- What a session has done is a session.
   pub past-session : (panel : ℕ) (pieces : List (List ℕ)) (entries : List PlantEntry) (sent : List ℕ) (past : Past) → IsPast panel pieces entries sent past → IsSession plant panel pieces entries sent
-  past-session panel pieces entries sent past is =
-      let bytes : bytes_of past.turns ≡ flat_map (λ (piece : List ℕ). piece) pieces =
-      sym (flat_map-map (λ (piece : List ℕ). piece) (λ (turn : Turn). turn.piece) past.turns) ∙ ap (flat_map (λ (piece : List ℕ). piece)) is.pieces_are in
-      record {
-        fits = record { turns = past.turns; are_turns = is.are_turns; pieces = is.pieces_are; entries_are = is.entries_are };
-        text = text-as _ _ past.sent sent (entries_of past.turns) entries bytes is.entries_are is.sent_is is.text;
-      }
+  past-session panel pieces entries sent past is = record {
+    fits = record { turns = past.turns; are_turns = is.are_turns; pieces = is.pieces_are; entries_are = is.entries_are };
+    text = text-as _ _ past.sent sent (entries_of past.turns) entries (past-bytes panel pieces entries sent past is) is.entries_are is.sent_is is.text;
+  }
 
   -- A turn more was worked.
   pub past-turn : (panel : ℕ) (pieces : List (List ℕ)) (entries : List PlantEntry) (sent piece : List ℕ) (past : Past) (machine : State) (turn : Turn) (more : List ℕ)

@@ -11,3 +11,4 @@ pub mod OutputLaws
 pub mod StandInside
 pub mod StageInside
 pub mod Laws
+pub mod Answered

@@ -1,5 +1,5 @@
 -- What a replay writes.
-use Rattle.std.specs.Prelude.{◌≡◌, ℕ, ◌<◌, ◌==◌, Bool, true, false, if◌then◌else◌, List, [], ◌∷◌, ◌++◌, length, take, codes, Option, Result, Ok, Err}
+use Rattle.std.specs.Prelude.{◌≡◌, ℕ, ◌==◌, Bool, true, false, if◌then◌else◌, List, [], ◌∷◌, ◌++◌, codes, Option, Result, Ok, Err}
 use Rattle.std.specs.Fmt.{decimal}
 use Rattle.hex.specs.Hex.{encode_upper}
 use Rattle.ctl_io.specs.Sink.{appended, AppendsPart}
@@ -76,14 +76,6 @@ pub record IsReplay (plant : PlantData) (script output : List ℕ) : Type 0 wher
   pub spelled : LinesSpell plant (worked (lines script)) works
   pub last : Stand
   pub all_work : AllWork plant works (begun plant) output last
-
--- A front of the script's replay text that is shorter than it.
-pub record IsReplayFront (plant : PlantData) (script front : List ℕ) : Type 0 where
-  pub output : List ℕ
-  pub replay : IsReplay plant script output
-  pub count : ℕ
-  pub shorter : count < length output
-  pub is_front : front ≡ take count output
 
 -- A sink was given the script's replay text.
 pub record HasReplayed (plant : PlantData) (script : List ℕ) (before now : Option (List ℕ)) : Type 0 where

@@ -1,6 +1,7 @@
 //! What holds of every message's frame and of every script.
 
-ghost use Rattle.std.specs.Prelude.{◌≡◌, ◌⊎◌, ℕ, List, [], ◌∷◌};
+ghost use Rattle.std.specs.Prelude.{◌≡◌, ◌⊎◌, ℕ, List, [], ◌∷◌, ◌++◌};
+ghost use Rattle.std.specs.List.{flat_map};
 ghost use Rattle.dle_framing.specs.declared.item.Item.TheVariants.{Good};
 ghost use Rattle.dle_framing.specs.Frame.{frame};
 ghost use Rattle.dle_framing.specs.Laws.{IsReadAs};
@@ -8,9 +9,11 @@ ghost use Rattle.swp08_messages.specs.declared.message.Message.{Message};
 ghost use Rattle.swp08_messages.specs.Text.{text, InRange};
 ghost use Rattle.swp08_messages.specs.Spelled.{Spells};
 ghost use Rattle.plant_config.specs.Plant.{PlantData};
+ghost use Rattle.panel_session.specs.Entry.{PlantEntry};
 ghost use Rattle.record_replay.specs.Script.{IsFirstBad};
 ghost use Rattle.record_replay.specs.Replay.{IsReplay};
-ghost use Rattle.record_replay.specs.Laws.{Deed, IsHistory};
+ghost use Rattle.record_replay.specs.Laws.{Deed, Turned, IsHistory, pieces_of};
+ghost use Rattle.record_replay.specs.Answered.{AnswersItems};
 
 /// The frame of a message is read as one good item with the message's DATA and no rest. These DATA spell the
 /// message, and no other.
@@ -45,4 +48,15 @@ pub fn one_history()
         → IsHistory plant script a deeds → IsHistory plant script b others → deeds ≡ others }
     ensures text { (plant : PlantData) (script output : List ℕ) (deeds : List Deed)
         → IsHistory plant script output deeds → IsReplay plant script output }
+{}
+
+/// What is sent in a turn of a panel's session answers the items that end in its piece, in order, and then tells
+/// notices. A frame is answered by NAK exactly where it is bad: a good one by ACK and message frames, an ACK by
+/// nothing, a NAK by nothing or one message frame.
+pub fn lines_answer_items()
+    ensures { (plant : PlantData) (script output : List ℕ) (deeds before after : List Deed)
+        (panel : ℕ) (piece sent : List ℕ) (entries : List PlantEntry)
+        → IsHistory plant script output deeds
+        → deeds ≡ before ++ Turned panel piece entries sent ∷ after
+        → AnswersItems (flat_map (λ piece. piece) (pieces_of panel before)) piece sent }
 {}

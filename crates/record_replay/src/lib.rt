@@ -15,7 +15,7 @@ mod room;
 mod script;
 mod stage;
 
-pub use laws::{one_history, one_item, one_replay};
+pub use laws::{lines_answer_items, one_history, one_item, one_replay};
 pub use replay::{ReplayFault, replay_script};
 
 #[cfg(test)]

@@ -1,0 +1,153 @@
+-- What a session sends for its items, one after the other.
+use Rattle.std.proofs.Common.{◌≡◌, ℕ, ◌+◌, ◌⊎◌, inl, inr, true, false, if◌then◌else◌, nat_lt, List, [], ◌∷◌, ◌++◌, length, Option, Some, None, refl, sym, ap, ◌∙◌, subst, arith, append_assoc, append-nil}
+use Rattle.std.specs.Prelude.{IsSome}
+use Rattle.std.specs.List.{flat_map}
+use Rattle.std.proofs.lemmas.Bool.{false≢true}
+use Rattle.dle_framing.specs.Numbers.{ack, nak}
+use Rattle.dle_framing.specs.declared.item.Item.{Item}
+use Rattle.dle_framing.specs.declared.item.Item.TheVariants.{Good, Bad, Ack, Nak}
+use Rattle.swp08_messages.specs.declared.message.Message.{Message}
+use Rattle.plant_core.specs.declared.answer.Answer.{Answer}
+use Rattle.plant_core.specs.declared.answer.Answer.TheVariants.{Say}
+use Rattle.panel_session.specs.Asked.{GoodAsks, Asks, AllAsk}
+use Rattle.panel_session.specs.Entry.{PlantEntry}
+use Rattle.panel_session.specs.StandsInside.{IsTold, AllTold}
+use Rattle.panel_session.specs.Text.{Output, nothing_sent, with_control, with_frame, with_frames, with_polls, repeated, frames_of, polled_at, told_at, output_from}
+use Rattle.panel_session.proofs.OutputLemmas.{output_with, told_output, output_more}
+use Rattle.record_replay.specs.Answered.{message_frame, IsAnswered}
+use Rattle.record_replay.proofs.TurnEntries.{Asked}
+
+-- the messages that answers say, and their frames
+abbrev pub messages_of : List Answer → List Message
+messages_of [] = []
+messages_of (Say message ∷ others) = message ∷ messages_of others
+
+abbrev pub told_by : List Answer → List ℕ
+told_by answers = flat_map message_frame (messages_of answers)
+
+pub frames-bytes : (answers : List Answer) (output : Output) → (with_frames (frames_of answers) output).bytes ≡ output.bytes ++ told_by answers
+frames-bytes [] output = sym (append-nil output.bytes)
+frames-bytes (Say message ∷ others) output =
+    frames-bytes others (with_frame (message_frame message) output) ∙ append_assoc output.bytes (message_frame message) (told_by others)
+
+-- What may be sent again is the frame of a message.
+abbrev pub IsLast : Option (List ℕ) → Type 0
+IsLast None = Unit {0}
+IsLast (Some sent) = (message : Message) × (sent ≡ message_frame message)
+
+pub last-frames : (answers : List Answer) (output : Output) → IsLast output.last → IsLast (with_frames (frames_of answers) output).last
+last-frames [] output last = last
+last-frames (Say message ∷ others) output last = last-frames others (with_frame (message_frame message) output) (message, refl)
+
+-- An item is answered behind one output, and this is the next.
+pub record Answers (item : Item (List ℕ)) (before next : Output) : Type 0 where
+  pub bytes : List ℕ
+  pub is_answered : IsAnswered item bytes
+  pub bytes_are : next.bytes ≡ before.bytes ++ bytes
+  pub last : IsLast next.last
+
+-- A NAK is answered by what is sent again.
+answers-nak : (bytes : List ℕ) (last : Option (List ℕ)) (repeats : ℕ) → IsLast last
+    → Answers Nak (record { bytes = bytes; last = last; repeats = repeats }) (repeated (record { bytes = bytes; last = last; repeats = repeats }))
+answers-nak bytes None repeats is = record { bytes = []; is_answered = inl refl; bytes_are = sym (append-nil bytes); last = tt }
+answers-nak bytes (Some sent) repeats is =
+    let before : Output = record { bytes = bytes; last = Some sent; repeats = repeats } in
+    elim (nat_lt repeats 5) as (λ test. Answers Nak before (if test then record before { bytes = bytes ++ sent; repeats = repeats + 1 } else before)) [
+      | true ↦ record { bytes = sent; is_answered = inr is; bytes_are = refl; last = is }
+      | false ↦ record { bytes = []; is_answered = inl refl; bytes_are = sym (append-nil bytes); last = is }
+    ]
+
+module _ (entries : List PlantEntry) where
+  -- A good frame is answered by ACK, and by what the plant told where it was sent something.
+  good_output : (carried : List ℕ) (a : Asked) (n : ℕ) (output : Output) → GoodAsks carried a → IsTold n a entries
+      → (output_with n a entries output ≡ with_polls (n + 1) entries (with_control ack output))
+      ⊎ ((output_with n a entries output ≡ told_output n entries (told_at n entries) output) × IsSome (told_at n entries))
+  good_output carried a n output asks told = grind arith
+
+  -- An item is answered, and then come the polls behind it.
+  pub record AnswersFirst (item : Item (List ℕ)) (n : ℕ) (before after : Output) : Type 0 where
+    pub next : Output
+    pub answers : Answers item before next
+    pub after_is : after ≡ with_polls (n + 1) entries next
+
+  answers-told : (carried : List ℕ) (n : ℕ) (output after : Output) (told : Option (List Answer)) → IsLast output.last → IsSome told → after ≡ told_output n entries told output
+      → AnswersFirst (Good carried) n output after
+  answers-told carried n output after None last some is = absurd (false≢true some)
+  answers-told carried n output after (Some answers) last some is = record {
+    next = with_frames (frames_of answers) (with_control ack output);
+    answers = record {
+      bytes = ack ++ told_by answers;
+      is_answered = (messages_of answers, refl);
+      bytes_are = frames-bytes answers (with_control ack output) ∙ append_assoc output.bytes ack (told_by answers);
+      last = last-frames answers (with_control ack output) last;
+    };
+    after_is = is;
+  }
+
+  answers-good : (carried : List ℕ) (n : ℕ) (output after : Output) → IsLast output.last
+      → (after ≡ with_polls (n + 1) entries (with_control ack output)) ⊎ ((after ≡ told_output n entries (told_at n entries) output) × IsSome (told_at n entries))
+      → AnswersFirst (Good carried) n output after
+  answers-good carried n output after last = elim [
+    | (inl noted) ↦ record {
+      next = with_control ack output;
+      answers = record { bytes = ack; is_answered = ([], sym (append-nil ack)); bytes_are = refl; last = last };
+      after_is = noted;
+    }
+    | (inr told) ↦ answers-told carried n output after (told_at n entries) last told.1 told.0
+  ]
+
+  answers-first : (item : Item (List ℕ)) (a : Asked) (n : ℕ) (output : Output) → Asks item a → IsTold n a entries → IsLast output.last
+      → AnswersFirst item n output (output_with n a entries output)
+  answers-first (Good carried) a n output asks told last = answers-good carried n output (output_with n a entries output) last (good_output carried a n output asks told)
+  answers-first Bad a n output asks told last = record {
+    next = with_control nak output;
+    answers = record { bytes = nak; is_answered = refl; bytes_are = refl; last = last };
+    after_is = ap (λ (a : Asked). output_with n a entries output) asks;
+  }
+  answers-first Ack a n output asks told last = record {
+    next = output;
+    answers = record { bytes = []; is_answered = refl; bytes_are = sym (append-nil output.bytes); last = last };
+    after_is = ap (λ (a : Asked). output_with n a entries output) asks;
+  }
+  answers-first Nak a n output asks told last = record {
+    next = repeated output;
+    answers = answers-nak output.bytes output.last output.repeats last;
+    after_is = ap (λ (a : Asked). output_with n a entries output) asks;
+  }
+
+  -- what was told of items in front, and of those behind
+  told_parts : (front later : List Asked) (item n : ℕ) → n ≡ item + length front → AllTold item (front ++ later) entries → AllTold item front entries × AllTold n later entries
+  told_parts [] later item n is told = let P : ℕ → Type 0 = λ n. AllTold n later entries in let here : item ≡ n = omega arith in (tt, subst P here told)
+  told_parts (a ∷ front) later item n is told = let parts = told_parts front later (item + 1) n (omega arith) told.1 in ((told.0, parts.0), parts.1)
+
+  pub told_front : (front later : List Asked) → AllTold 0 (front ++ later) entries → AllTold 0 front entries
+  told_front front later told = (told_parts front later 0 (length front) (omega arith) told).0
+
+  abbrev pub output_of : List Asked → Output
+  output_of asked = output_from 0 asked entries nothing_sent
+
+  -- One item more is answered,
+  pub answers-next : (front others : List Asked) (item : Item (List ℕ)) (a : Asked) (n : ℕ) → n ≡ 0 + length front → Asks item a → AllTold 0 (front ++ a ∷ others) entries
+      → IsLast (output_of front).last → AnswersFirst item n (output_of front) (output_of (front ++ a ∷ []))
+  answers-next front others item a n is asks told last =
+      let parts = told_parts front (a ∷ others) 0 n is told in
+      let First : Output → Type 0 = λ after. AnswersFirst item n (output_of front) after in
+      subst First (sym (output_more front a 0 n entries nothing_sent is parts.0)) (answers-first item a n (output_of front) asks parts.1.0 last)
+
+  -- behind which what may be sent again is a message frame,
+  pub last-next : (item : Item (List ℕ)) (n : ℕ) (before after : Output) → AnswersFirst item n before after → IsLast after.last
+  last-next item n before after first =
+      let LastOf : Output → Type 0 = λ output. IsLast output.last in
+      subst LastOf (sym first.after_is) (last-frames (polled_at (n + 1) entries) first.next first.answers.last)
+
+  pub last-items : (asked front : List Asked) (its : List (Item (List ℕ))) → AllAsk its asked → AllTold 0 (front ++ asked) entries → IsLast (output_of front).last
+      → IsLast (output_of (front ++ asked)).last
+  last-items [] front [] ask told last = let LastOf : List Asked → Type 0 = λ asked. IsLast (output_of asked).last in subst LastOf (sym (append-nil front)) last
+  last-items [] front (item ∷ its) ask told last = absurd ask
+  last-items (a ∷ asked) front [] ask told last = absurd ask
+  last-items (a ∷ asked) front (item ∷ its) ask told last =
+      let LastOf : List Asked → Type 0 = λ asked. IsLast (output_of asked).last in
+      let ToldOf : List Asked → Type 0 = λ asked. AllTold 0 asked entries in
+      let same = append_assoc front (a ∷ []) asked in
+      let first = answers-next front asked item a (length front) (omega arith) ask.0 told last in
+      subst LastOf same (last-items asked (front ++ a ∷ []) its ask.1 (subst ToldOf (sym same) told) (last-next item (length front) (output_of front) (output_of (front ++ a ∷ [])) first))
