@@ -16,11 +16,13 @@ use crate::told::Told;
 use crate::turns::{answer, enter, queue, seize, take_turn};
 use crate::view::Start;
 use std::sync::Wait;
+use std::sync::atomic::AtomicU64;
 
 /// One call, at a seat's place.
 fn call_at<M: Machine, R: Wait>(
     rt: &R,
     top: &Top<M>,
+    sleepers: &AtomicU64,
     place: &mut Place<M>,
     start: &Told<Start<M>>,
     request: &M::Request,
@@ -45,14 +47,15 @@ fn call_at<M: Machine, R: Wait>(
     let Some(ticket) = queue(rt, top, place) else {
         return Err(CallFault::Full);
     };
-    take_turn(rt, top, place, start, ticket);
-    answer(top, place, start, request, out);
+    take_turn(rt, top, sleepers, place, start, ticket);
+    answer(top, sleepers, place, start, request, out);
     Ok(ticket)
 }
 
 /// One try, at a seat's place.
 fn try_at<M: Machine>(
     top: &Top<M>,
+    sleepers: &AtomicU64,
     place: &mut Place<M>,
     start: &Told<Start<M>>,
     request: &M::Request,
@@ -76,7 +79,7 @@ fn try_at<M: Machine>(
 {
     let ticket = seize(top, place)?;
     enter(top, place, start, ticket);
-    answer(top, place, start, request, out);
+    answer(top, sleepers, place, start, request, out);
     Ok(ticket)
 }
 
@@ -106,6 +109,7 @@ impl<M: Machine> HistoryLock<M> {
         call_at(
             rt,
             &self.table.shared,
+            &self.sleepers,
             &mut seat.place,
             &seat.start,
             request,
@@ -135,6 +139,7 @@ impl<M: Machine> HistoryLock<M> {
     {
         try_at(
             &self.table.shared,
+            &self.sleepers,
             &mut seat.place,
             &seat.start,
             request,

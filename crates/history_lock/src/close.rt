@@ -92,7 +92,11 @@ impl<M: Machine> HistoryLock<M> {
         ensures ticket_full { All (FullByTicket result.entries) seats.items }
         ensures serving_full { All (FullByServing result.entries) seats.items }
     {
-        let HistoryLock { table, seats: _ } = self;
+        let HistoryLock {
+            table,
+            seats: _,
+            sleepers: _,
+        } = self;
         let place = gather(&table.shared, seats);
         let past = Past {
             last: Told::of(&place),

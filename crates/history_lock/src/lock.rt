@@ -3,12 +3,15 @@
 use crate::machine::Machine;
 use crate::rule::LockTable;
 use std::marker::Model;
+use std::sync::atomic::AtomicU64;
 
 /// A machine that threads share. It works one request at a time, in one order, which each seat sees.
 #[derive(Drop)]
 pub struct HistoryLock<M: Machine> {
     pub(crate) table: LockTable<M>,
     pub(crate) seats: u32,
+    // How many callers sleep, or are about to.
+    pub(crate) sleepers: AtomicU64,
 }
 
 impl<M: Machine> Model for HistoryLock<M> {

@@ -16,6 +16,7 @@ use crate::told::Told;
 use crate::view::{Desk, Start};
 use atomic_table::Table;
 use std::alloc::{AllocError, Global};
+use std::sync::atomic::AtomicU64;
 
 /// A table with the machine, and the place of the maker of its seats.
 fn lay<M: Machine + Drop>(
@@ -79,6 +80,14 @@ impl<M: Machine + Drop> HistoryLock<M> {
         for number in 0..seats {
             all.push_reserved(give(&table.shared, &mut maker, &start, number));
         }
-        Ok((HistoryLock { table, seats }, all))
+        let sleepers = AtomicU64::new(0);
+        Ok((
+            HistoryLock {
+                table,
+                seats,
+                sleepers,
+            },
+            all,
+        ))
     }
 }

@@ -16,6 +16,7 @@ use crate::told::Told;
 use crate::view::Start;
 use crate::waiting::{wait, wake};
 use std::sync::Wait;
+use std::sync::atomic::AtomicU64;
 
 /// Takes a ticket, `None` where there are no more.
 pub fn queue<M: Machine, R: Wait>(rt: &R, top: &Top<M>, place: &mut Place<M>) -> Option<u64>
@@ -45,6 +46,7 @@ pub const LIMIT: u64 = 1 << 62;
 pub fn take_turn<M: Machine, R: Wait>(
     rt: &R,
     top: &Top<M>,
+    sleepers: &AtomicU64,
     place: &mut Place<M>,
     start: &Told<Start<M>>,
     ticket: u64,
@@ -62,7 +64,7 @@ pub fn take_turn<M: Machine, R: Wait>(
         if serving == ticket {
             return;
         }
-        wait(rt, top, serving, looks);
+        wait(rt, top, sleepers, serving, looks);
         looks = looks.saturating_add(1);
     }
     unreachable!()
@@ -132,6 +134,7 @@ pub fn work<M: Machine>(
 /// Works the request, ends the turn, and wakes those that wait for theirs.
 pub fn answer<M: Machine>(
     top: &Top<M>,
+    sleepers: &AtomicU64,
     place: &mut Place<M>,
     start: &Told<Start<M>>,
     request: &M::Request,
@@ -154,5 +157,5 @@ pub fn answer<M: Machine>(
 {
     work(top, place, start, request, out);
     end_turn(top, place, start, request);
-    wake(top);
+    wake(top, sleepers);
 }
