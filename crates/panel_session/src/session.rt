@@ -49,7 +49,7 @@ impl<'p> Session<'p> {
     ghost use Rattle.panel_session.specs.declared.stage.Stage.TheVariants.{Read};
     ghost use Rattle.panel_session.specs.MovesInside.{took, took_answers, ended_turn};
     ghost use Rattle.panel_session.specs.ReadingInside.{ReadsOn, HasReadOn};
-    ghost use Rattle.panel_session.specs.Session.{outgoing_of, outbox_of, StandsFor, TakesAnswers};
+    ghost use Rattle.panel_session.specs.Session.{outgoing_of, outbox_of, StandsFor, Awaits, TakesAnswers};
 
     /// A session of a panel of the plant, to which nothing was sent.
     pub fn start(alloc: Global, plant: &'p Plant, panel: PanelNo) -> Result<Session<'p>, AllocError>
@@ -77,8 +77,11 @@ impl<'p> Session<'p> {
 
     /// Makes it as a new one of the same panel.
     pub fn reset(&mut self)
-        ensures { (plant : PlantData) (panel : ℕ) (past : Past)
+        ensures stood { (plant : PlantData) (panel : ℕ) (past : Past)
             → StandsFor plant panel self.old past → StandsFor plant panel self.new nothing_yet }
+        ensures awaited { (plant : PlantData) (panel : ℕ) (past : Past) (request : Request)
+            → Awaits plant panel self.old past request
+            → StandsFor plant panel self.new nothing_yet }
     {
         self.framer.reset();
         self.stage = Stage::Read;
