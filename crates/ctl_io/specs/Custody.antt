@@ -1,5 +1,5 @@
 -- What files handed out and took back.
-use Rattle.std.specs.Prelude.{ℕ, ◌+◌, ◌-◌, List, [], ◌∷◌, ◌++◌, Option, None}
+use Rattle.std.specs.Prelude.{◌≡◌, ℕ, ◌+◌, ◌-◌, List, [], ◌∷◌, ◌++◌, Option, None}
 use Rattle.std.specs.Option.{option_map}
 use Rattle.ctl_io.specs.declared.files.Found.{Found}
 use Rattle.ctl_io.specs.declared.files.Found.TheVariants as found
@@ -26,9 +26,18 @@ pub record Custody : Type 0 where
   pub sources_back : Option (List SourceEnd)
   pub sinks_back : Option (List SinkEnd)
 
+-- so many sources and sinks are out, and what is given back isn't shown
+abbrev pub only_out : ℕ → ℕ → Custody
+only_out sources sinks = record {
+  sources_out = sources;
+  sinks_out = sinks;
+  sources_back = None;
+  sinks_back = None;
+}
+
 -- nothing was handed out, and what is given back won't be shown
 abbrev pub nothing_out : Custody
-nothing_out = record { sources_out = 0; sinks_out = 0; sources_back = None; sinks_back = None }
+nothing_out = only_out 0 0
 
 -- the custody after a source was asked for
 abbrev pub source_lent : {S : Type 0} → Found S → Custody → Custody
@@ -54,3 +63,12 @@ sink_returned ended custody = record custody {
   sinks_out = custody.sinks_out - 1;
   sinks_back = option_map (λ back. back ++ ended ∷ []) custody.sinks_back;
 }
+
+-- a source, or a sink, that shows so much was given back
+abbrev pub TakesSource : Option (List ℕ) → Option (List ℕ) → ℕ → Custody → Custody → Type 0
+TakesSource name left faults before now =
+    now ≡ source_returned (record { name = name; left = left; faults = faults }) before
+
+abbrev pub TakesSink : Option (List ℕ) → Option (List ℕ) → ℕ → Custody → Custody → Type 0
+TakesSink name written faults before now =
+    now ≡ sink_returned (record { name = name; written = written; faults = faults }) before

@@ -30,6 +30,10 @@ behind n left = option_map (drop n) left
 abbrev pub AreNext : ℕ → List ℕ → Option (List ℕ) → Type 0
 AreNext n bytes left = IfSome left (λ all. take n bytes ≡ take n all)
 
+-- Where a source shows what it has left, that is these bytes.
+abbrev pub AreLeft : List ℕ → Option (List ℕ) → Type 0
+AreLeft bytes left = IfSome left (λ all. bytes ≡ all)
+
 -- Where a source shows what it has left, that is nothing.
 abbrev pub IsAtEnd : Option (List ℕ) → Type 0
 IsAtEnd left = IfSome left (λ all. all ≡ [])

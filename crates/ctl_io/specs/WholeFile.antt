@@ -23,6 +23,16 @@ file_failed (Err file.Missing) = false
 file_failed (Err file.TooLong) = false
 file_failed (Err file.Failed) = true
 
+-- that reading a file answered that it is missing, that it is too long, or that memory ran out
+abbrev pub SaysMissing : {A : Type 0} → Result A FileFault → Type 0
+SaysMissing answer = answer ≡ Err file.Missing
+
+abbrev pub SaysTooLong : {A : Type 0} → Result A FileFault → Type 0
+SaysTooLong answer = answer ≡ Err file.TooLong
+
+abbrev pub SaysNoMemory : {A : Type 0} → Result A FileFault → Type 0
+SaysNoMemory answer = answer ≡ Err file.NoMemory
+
 -- what becomes of the openings of the file's name: one is gone, but where the file is missing, or where the files failed
 abbrev pub AfterFile : {A : Type 0} → Result A FileFault → (ℕ → Held) → (ℕ → Held) → Type 0
 AfterFile (Ok bytes) before now = CountsOn before now

@@ -4,7 +4,7 @@ ghost use Rattle.std.specs.Prelude.{◌≡◌, ◌<◌, ℕ, List};
 ghost use Rattle.ctl_io.specs.Faults.{counted, is_faulty};
 ghost use Rattle.ctl_io.specs.Sink.{IsEmpty};
 ghost use Rattle.ctl_io.specs.Held.{Held, HasLeft, MayBeMissing, Stays, OthersStay, AllStayBut, AfterFound, IsNamed};
-ghost use Rattle.ctl_io.specs.Custody.{Custody, source_lent, sink_lent, source_returned, sink_returned};
+ghost use Rattle.ctl_io.specs.Custody.{Custody, TakesSource, TakesSink, source_lent, sink_lent};
 ghost use Rattle.ctl_io.specs.Files.{IfFound, IfMade, source_failed, sink_failed};
 
 use crate::{Sink, Source};
@@ -62,11 +62,8 @@ pub trait Files {
     /// Takes back a source that these files handed out.
     fn close_source(&mut self, source: Self::S)
         requires { 0 < (custody self.old).sources_out }
-        ensures returned { custody self.new ≡ source_returned (record {
-          name = Self.S.name source;
-          left = Self.S.left source;
-          faults = Self.S.faults source;
-        }) (custody self.old) }
+        ensures returned { TakesSource (Self.S.name source) (Self.S.left source)
+            (Self.S.faults source) (custody self.old) (custody self.new) }
         ensures same { (name : List ℕ) → Stays (held self.old name) (held self.new name) }
         ensures count { faults self.new
             ≡ counted (is_faulty (Self.S.faults source)) (faults self.old) };
@@ -74,11 +71,8 @@ pub trait Files {
     /// Takes back a sink that these files handed out.
     fn close_sink(&mut self, sink: Self::K)
         requires { 0 < (custody self.old).sinks_out }
-        ensures returned { custody self.new ≡ sink_returned (record {
-          name = Self.K.name sink;
-          written = Self.K.written sink;
-          faults = Self.K.faults sink;
-        }) (custody self.old) }
+        ensures returned { TakesSink (Self.K.name sink) (Self.K.written sink)
+            (Self.K.faults sink) (custody self.old) (custody self.new) }
         ensures others { AllStayBut (Self.K.name sink) (held self.old) (held self.new) }
         ensures count { faults self.new
             ≡ counted (is_faulty (Self.K.faults sink)) (faults self.old) };

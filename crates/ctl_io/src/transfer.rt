@@ -1,10 +1,10 @@
 //! Sinks written and sources read as a whole.
 
-ghost use Rattle.std.specs.Prelude.{◌≡◌, ◌+◌, ◌<◌, ◌≤◌, not, length, IfOk, OnOk, OnErr, IsErrOf, IfSome};
+ghost use Rattle.std.specs.Prelude.{◌≡◌, ◌+◌, ◌<◌, ◌≤◌, not, length, IfOk, OnOk, OnErr, IsErrOf};
 ghost use Rattle.std.specs.Bool.{OnFalse, OnTrue};
 ghost use Rattle.ctl_io.specs.Faults.{counted};
 ghost use Rattle.ctl_io.specs.Sink.{appended, AppendsPart};
-ghost use Rattle.ctl_io.specs.Source.{got, read_failed, IsWithin, IsAtEnd, TakesAtMost, TakesJust};
+ghost use Rattle.ctl_io.specs.Source.{got, read_failed, AreLeft, IsWithin, IsAtEnd, TakesAtMost, TakesJust};
 ghost use Rattle.ctl_io.specs.SourceInside.{TakesPiece};
 ghost use Rattle.ctl_io.specs.WholeFile.{whole_failed};
 ghost use Rattle.ctl_io.specs.declared.transfer.WholeFault.TheVariants.{NoMemory};
@@ -59,7 +59,7 @@ pub fn read_whole<S: Source>(
     source: &mut S,
     limit: usize,
 ) -> Result<Vec<u8>, WholeFault>
-    ensures whole { IfOk result (λ whole. IfSome (S.left source.old) (λ all. whole.items ≡ all)) }
+    ensures whole { IfOk result (λ whole. AreLeft whole.items (S.left source.old)) }
     ensures fits { IfOk result (λ whole. length whole.items ≤ limit) }
     ensures end { OnOk result (IsAtEnd (S.left source.new)) }
     ensures too_long { IsErrOf result WholeFault.TooLong →

@@ -1,9 +1,9 @@
 //! Files read whole by their names.
 
-ghost use Rattle.std.specs.Prelude.{◌≡◌, ◌≤◌, length, Err, IfOk};
+ghost use Rattle.std.specs.Prelude.{◌≡◌, ◌≤◌, length, IfOk};
 ghost use Rattle.ctl_io.specs.Faults.{counted};
 ghost use Rattle.ctl_io.specs.Held.{IsHeld, IsLonger, MayBeHere, MayBeMissing, OthersStay};
-ghost use Rattle.ctl_io.specs.WholeFile.{file_failed, AfterFile, IsGivenBack};
+ghost use Rattle.ctl_io.specs.WholeFile.{file_failed, SaysMissing, SaysTooLong, SaysNoMemory, AfterFile, IsGivenBack};
 
 use crate::{Files, Found, WholeFault, read_whole};
 use std::alloc::Global;
@@ -29,10 +29,9 @@ pub fn read_file<F: Files>(
 ) -> Result<Vec<u8>, FileFault>
     ensures whole { IfOk result (λ whole. IsHeld (F.held files.old name.now 0) whole.items) }
     ensures within { IfOk result (λ whole. length whole.items ≤ limit) }
-    ensures missing { result ≡ Err FileFault.Missing → MayBeMissing (F.held files.old name.now 0) }
-    ensures too_long { result ≡ Err FileFault.TooLong
-        → IsLonger limit (F.held files.old name.now 0) }
-    ensures no_memory { result ≡ Err FileFault.NoMemory → MayBeHere (F.held files.old name.now 0) }
+    ensures missing { SaysMissing result → MayBeMissing (F.held files.old name.now 0) }
+    ensures too_long { SaysTooLong result → IsLonger limit (F.held files.old name.now 0) }
+    ensures no_memory { SaysNoMemory result → MayBeHere (F.held files.old name.now 0) }
     ensures next { AfterFile result (F.held files.old name.now) (F.held files.new name.now) }
     ensures others { OthersStay name.now (F.held files.old) (F.held files.new) }
     ensures given_back { IsGivenBack name.now (F.custody files.old) (F.custody files.new) }

@@ -22,7 +22,11 @@ impl Model for MemSink {
 
     ghost Value = { SinkState };
 
-    ghost view = { λ s. record { written = s.written.items; room = vec_capacity s.written; calls = s.calls } };
+    ghost view = { λ s. record {
+      written = s.written.items;
+      room = vec_capacity s.written;
+      calls = s.calls;
+    } };
 }
 
 impl MemSink {

@@ -1,6 +1,6 @@
 //! A source in memory.
 
-ghost use Rattle.std.specs.Prelude.{◌≡◌, Some, IfOk, length, take, min};
+ghost use Rattle.std.specs.Prelude.{◌≡◌, Ok, Some, length, take, min};
 ghost use Rattle.ctl_io.specs.Calls.{uncalled};
 ghost use Rattle.ctl_io.specs.Source.{AreNext, got};
 ghost use Rattle.ctl_io.specs.Memory.{read_answer, after_read};
@@ -33,8 +33,7 @@ impl Model for MemSource {
 impl MemSource {
     /// A source of these bytes. `failing` holds the numbers, from 0, of the reads that fail.
     pub fn new(_alloc: Global, bytes: Vec<u8>, failing: Vec<u64>) -> Result<MemSource, AllocError>
-        ensures { IfOk result (λ source.
-            source ≡ record { left = bytes.items; calls = uncalled failing.items }) }
+        ensures { result ≡ Ok (record { left = bytes.items; calls = uncalled failing.items }) }
     {
         Ok(MemSource {
             bytes,

@@ -21,7 +21,8 @@ impl<F: io::Write> FileSink<F> {
 
     /// A sink behind what the writer was given before.
     pub fn new(file: F) -> FileSink<F>
-        ensures { result.faults ≡ 0 }
+        ensures file { result.file ≡ file }
+        ensures faults { result.faults ≡ 0 }
     {
         FileSink {
             file,

@@ -21,7 +21,8 @@ impl<F: io::Read> FileSource<F> {
 
     /// A source that begins where the reader is.
     pub fn new(file: F) -> FileSource<F>
-        ensures { ⟦<FileSource<F> as Source>⟧.faults result ≡ 0 }
+        ensures file { result.file ≡ file }
+        ensures faults { ⟦<FileSource<F> as Source>⟧.faults result ≡ 0 }
     {
         FileSource {
             file,

@@ -44,8 +44,8 @@ impl<R: rt::Files> Files for StdFiles<R>
 where
     R::File: Send,
 {
+    ghost use Rattle.ctl_io.specs.Custody.{only_out};
     ghost use Rattle.ctl_io.specs.Held.{Unshown};
-    ghost use Rattle.std.specs.Prelude.{None};
 
     type S = FileSource<R::File>;
 
@@ -53,7 +53,7 @@ where
 
     ghost held = { λ _ _ _. Unshown };
 
-    ghost custody = { λ f. record { sources_out = f.sources_out; sinks_out = f.sinks_out; sources_back = None; sinks_back = None } };
+    ghost custody = { λ f. only_out f.sources_out f.sinks_out };
 
     ghost faults = { λ f. f.faults };
 
