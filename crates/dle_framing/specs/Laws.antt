@@ -1,18 +1,29 @@
 -- The laws of frames and items. The functions of `laws` promise them.
-use Rattle.std.specs.Prelude.{◌≡◌, ℕ, List, [], ◌++◌}
+use mathlib.Core.List.{IsPrefix}
+use Rattle.std.specs.Prelude.{◌≡◌, ℕ, ◌≤◌, List, [], ◌∷◌, ◌++◌, length, map, All}
 use Rattle.std.specs.List.{flat_map}
 use Rattle.dle_framing.specs.declared.item.Item.{Item}
-use Rattle.dle_framing.specs.Frame.{frame}
-use Rattle.dle_framing.specs.Items.{Reading, by_start, items, rest}
+use Rattle.dle_framing.specs.declared.item.Item.TheVariants.{Good}
+use Rattle.dle_framing.specs.Numbers.{most_frame}
+use Rattle.dle_framing.specs.Frame.{IsData, frame}
+use Rattle.dle_framing.specs.Items.{Reading, by_start, items, reading, rest}
 
 -- a way to read texts that reads each by its start, and what is behind that start in the same way
 abbrev pub ReadsByStart : (List ℕ → Reading) → Type 0
 ReadsByStart reads = (text : List ℕ) → reads text ≡ by_start reads text
 
+-- whatever reads each text by its start reads it as `reading` does
+abbrev pub OneReadsByStart : Type 0
+OneReadsByStart = (reads : List ℕ → Reading) → ReadsByStart reads → (text : List ℕ) → reads text ≡ reading text
+
 -- what a text says once more has come
 pub record ReadsOn (text more : List ℕ) : Type 0 where
   pub items_go_on : items (text ++ more) ≡ items text ++ items (rest text ++ more)
   pub rest_goes_on : rest (text ++ more) ≡ rest (rest text ++ more)
+
+-- the items of a text are a front of those of every text that it is a front of
+abbrev pub ItemsStay : Type 0
+ItemsStay = (text longer : List ℕ) → IsPrefix text longer → IsPrefix (items text) (items longer)
 
 -- a text is read as these items, and no rest
 pub record IsReadAs (text : List ℕ) (given : List (Item (List ℕ))) : Type 0 where
@@ -22,3 +33,15 @@ pub record IsReadAs (text : List ℕ) (given : List (Item (List ℕ))) : Type 0 
 -- frames in a row, each with its DATA
 abbrev pub frames : List (List ℕ) → List ℕ
 frames carried = flat_map frame carried
+
+-- a frame is read as one good item, its DATA
+abbrev pub FramesAreGood : Type 0
+FramesAreGood = (carried : List ℕ) → IsData carried → IsReadAs (frame carried) (Good carried ∷ [])
+
+-- frames in a row are read as their good items, in that order
+abbrev pub RowsAreGood : Type 0
+RowsAreGood = (carried : List (List ℕ)) → All IsData carried → IsReadAs (frames carried) (map Good carried)
+
+-- no frame is longer than the greatest length
+abbrev pub FramesAreShort : Type 0
+FramesAreShort = (carried : List ℕ) → IsData carried → length (frame carried) ≤ most_frame

@@ -1,35 +1,30 @@
 //! The laws of frames and items, each a function with nothing to do.
-ghost use mathlib.Core.List.{IsPrefix};
-ghost use Rattle.std.specs.Prelude.{◌≡◌, ℕ, ◌≤◌, List, [], ◌∷◌, length, map, replicate, All};
-ghost use Rattle.dle_framing.specs.declared.item.Item.TheVariants.{Good, Ack, Nak};
-ghost use Rattle.dle_framing.specs.Numbers.{dle, ack, nak, most_data, most_frame};
-ghost use Rattle.dle_framing.specs.Frame.{IsData, frame};
-ghost use Rattle.dle_framing.specs.Items.{Reading, items, reading};
-ghost use Rattle.dle_framing.specs.Laws.{ReadsByStart, ReadsOn, IsReadAs, frames};
+ghost use Rattle.std.specs.Prelude.{◌≡◌, ℕ, List, [], ◌∷◌, length, replicate};
+ghost use Rattle.dle_framing.specs.declared.item.Item.TheVariants.{Ack, Nak};
+ghost use Rattle.dle_framing.specs.Numbers.{dle, ack, nak, most_data};
+ghost use Rattle.dle_framing.specs.Frame.{frame};
+ghost use Rattle.dle_framing.specs.Items.{reading};
+ghost use Rattle.dle_framing.specs.Laws.{ReadsByStart, OneReadsByStart, ReadsOn, ItemsStay, IsReadAs, FramesAreGood, RowsAreGood, FramesAreShort};
 
 use crate::control::MAX_FRAME;
 
 /// The reading of a text goes by the text's start, and is the only one that does.
 pub fn reads_by_start()
     ensures reads { ReadsByStart reading }
-    ensures only { (reads : List ℕ → Reading) → ReadsByStart reads
-        → (text : List ℕ) → reads text ≡ reading text }
+    ensures only { OneReadsByStart }
 {}
 
 /// Where a text goes on, its items stay, and what comes is read behind its rest alone. So the items of a text are a front
 /// of those of every text that it is a front of, however the text was cut.
 pub fn reads_on()
     ensures goes_on { (text more : List ℕ) → ReadsOn text more }
-    ensures front { (text longer : List ℕ) → IsPrefix text longer
-        → IsPrefix (items text) (items longer) }
+    ensures front { ItemsStay }
 {}
 
 /// A frame is read as one good item, its DATA, and frames in a row as their good items in that order.
 pub fn reads_frame()
-    ensures one { (carried : List ℕ) → IsData carried
-        → IsReadAs (frame carried) (Good carried ∷ []) }
-    ensures in_a_row { (carried : List (List ℕ)) → All IsData carried
-        → IsReadAs (frames carried) (map Good carried) }
+    ensures one { FramesAreGood }
+    ensures in_a_row { RowsAreGood }
 {}
 
 /// The two answers that are no frames are read as themselves.
@@ -45,6 +40,6 @@ pub fn one_frame()
 
 /// No frame is longer than 516 bytes, and that of 255 DLE is so long.
 pub fn frame_room()
-    ensures within { (carried : List ℕ) → IsData carried → length (frame carried) ≤ most_frame }
+    ensures within { FramesAreShort }
     ensures attained { length (frame (replicate most_data dle)) ≡ MAX_FRAME }
 {}

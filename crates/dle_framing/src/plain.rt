@@ -2,7 +2,7 @@
 ghost use Rattle.std.specs.Prelude.{◌≡◌, [], ◌∷◌, map, MatchOption, IfOk};
 ghost use Rattle.dle_framing.specs.Items.{item_of, items, longest_run, rest};
 ghost use Rattle.dle_framing.specs.Owned.{owned};
-ghost use Rattle.dle_framing.specs.PlainInside.{StartsSo};
+ghost use Rattle.dle_framing.specs.PlainInside.{IsSplit, StartsSo};
 
 use crate::body::is_good_body;
 use crate::control::{ACK, DLE, ETX, NAK, STX};
@@ -108,7 +108,7 @@ fn item_with(mut body: Vec<u8>) -> Item<Vec<u8>>
 
 // The first byte of a text, and the text behind it.
 fn first_byte(text: &[u8]) -> Option<(u8, &[u8])>
-    ensures { MatchOption result (text.now ≡ []) (λ split. text.now ≡ split.0 ∷ split.1.now) }
+    ensures { MatchOption result (text.now ≡ []) (λ cut. IsSplit text.now cut.0 cut.1.now) }
 {
     match text {
         [] => None,

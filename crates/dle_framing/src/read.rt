@@ -1,7 +1,7 @@
 //! One frame that stands alone.
 ghost use Rattle.std.specs.Prelude.{◌≡◌, ℕ, ◌+◌, ◌≤◌, ◌↔◌, List, [], ◌∷◌, ◌++◌, length, take, IsTrue, MatchOption, vec_len, vec_capacity};
 ghost use Rattle.std.specs.Bool.{OnTrue, OnFalse};
-ghost use Rattle.dle_framing.specs.Frame.{IsData, enclosed, frame};
+ghost use Rattle.dle_framing.specs.Frame.{AppendsData, IsNoFrame, enclosed};
 
 use crate::body::is_good_body;
 use crate::control::{DLE, ETX, MAX_BODY, STX};
@@ -11,10 +11,8 @@ use crate::run::read_run;
 /// bytes are the one frame of some DATA, as `encode_frame` spells it. Else `out` keeps its bytes. It takes no memory.
 pub fn read_frame(bytes: &[u8], out: &mut Vec<u8>) -> bool
     requires { vec_len out.old + MAX_BODY ≤ vec_capacity out.old }
-    ensures found { OnTrue result ((carried : List ℕ) × IsData carried × (bytes.now ≡ frame carried)
-        × (out.new.items ≡ out.old.items ++ carried)) }
-    ensures none { OnFalse result ((carried : List ℕ) → IsData carried
-        → bytes.now ≡ frame carried → ⊥) }
+    ensures found { OnTrue result (AppendsData bytes.now out.old.items out.new.items) }
+    ensures none { OnFalse result (IsNoFrame bytes.now) }
     ensures same { OnFalse result (out.new.items ≡ out.old.items) }
     ensures room { vec_capacity out.new ≡ vec_capacity out.old }
 {
