@@ -1,6 +1,7 @@
 pub mod Places
 pub mod Step
 pub mod History
+pub mod Laws
 pub mod Rule
 pub mod Plays
 pub mod Seats

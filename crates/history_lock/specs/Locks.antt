@@ -14,6 +14,10 @@ pub record LockData (State : Type 0) : Type 0 where
 abbrev pub lock_data : {State : Type 0} → TableId → Start State → LockData State
 lock_data id start = record { id = id; first = start.machine.value; seats = start.seats }
 
+-- it was made with this machine, and has so many seats
+abbrev pub IsLockOf : {State : Type 0} → State → ℕ → LockData State → Type 0
+IsLockOf machine seats lock = (lock.first ≡ machine) × (lock.seats ≡ seats)
+
 -- Its table has two words and one slot, and it knows its number of seats.
 pub record IsLock {State : Type 0} (id : TableId) (start : Start State) (seats : ℕ) : Type 0 where
   pub words : id.words ≡ 2

@@ -57,6 +57,10 @@ IsAsked {State} {Request} desk request = (asked : Told Request) × (desk.asked �
 abbrev pub ended : {State Request Answer : Type 0} (step : State → Request → Stepped State Answer) → State → View State Request Answer → Request → View State Request Answer
 ended step first v request = record v { stage = Idle; seen = v.seen ++ entry_at step (run step first v.seen) (number_of v) request ∷ [] }
 
+-- it asked this, its turn is over, and the slot is back
+abbrev pub EndsTurn : {State Request Answer : Type 0} (step : State → Request → Stepped State Answer) → State → Request → Hand State Request Answer → Hand State Request Answer → Type 0
+EndsTurn step first request before after = after ≡ (ended step first before.0 request, [])
+
 module _ {State Request Answer : Type 0} (step : State → Request → Stepped State Answer) (Fits : State → Request → Type 0) (room : State → ℕ) where
   -- The seat has the machine, and has seen the whole history, in which it made no entry since it saw it last.
   pub record Enters (m : Hand State Request Answer) (first : State) (t : ℕ) (m' : Hand State Request Answer) : Type 0 where
@@ -80,7 +84,7 @@ module _ {State Request Answer : Type 0} (step : State → Request → Stepped S
   abbrev pub turn_ended : Step (Desk State Request) → Hand State Request Answer → ℕ → Hand State Request Answer → Type 0
   turn_ended at m found m' = (t : ℕ) (first : State) (desk : Desk State Request) (request : Request) →
       m.0.stage ≡ Holds t → m.0.first ≡ Some first → m.1 ≡ (0, desk) ∷ [] → IsAsked desk request →
-      m' ≡ (ended step first m.0 request, [])
+      EndsTurn step first request m m'
 
   -- The seat has the machine, which is the one that all that it saw leaves.
   pub record HasMachine (m : Hand State Request Answer) (first : State) : Type 0 where

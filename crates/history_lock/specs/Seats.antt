@@ -4,9 +4,12 @@ use Rattle.atomic_table.specs.Seated.{TableId}
 use Rattle.history_lock.specs.declared.view.Stage.TheVariants.{Idle, Waits}
 use Rattle.history_lock.specs.declared.entry.Entry.{Entry}
 use Rattle.history_lock.specs.declared.view.View.{View}
+use Rattle.history_lock.specs.declared.view.Start.{Start}
 use Rattle.history_lock.specs.declared.view.Desk.{Desk}
 use Rattle.history_lock.specs.declared.fault.TryFault.{TryFault}
 use Rattle.history_lock.specs.declared.fault.TryFault.TheVariants.{Full, Busy}
+use Rattle.history_lock.specs.Step.{Stepped}
+use Rattle.history_lock.specs.Rule.{maker}
 use Rattle.history_lock.specs.Plays.{Hand, number_of}
 use Rattle.atomic_table.specs.declared.shared.Seat.{Seat}
 
@@ -35,6 +38,11 @@ abbrev pub IsTurnedAway : {State Request Answer : Type 0} → Hand State Request
 IsTurnedAway before Full after = after ≡ (record before.0 { serving_full = true }, before.1)
 IsTurnedAway before (Busy serving ticket) after =
     (serving < ticket) × (after ≡ (record before.0 { serving_full = false; tried = before.0.tried ++ (serving, ticket) ∷ [] }, before.1))
+
+-- it is the maker of the seats of a new table
+abbrev pub IsMakerOf : {State Request Answer : Type 0} → (State → Request → Stepped State Answer) → (State → Request → Type 0) → (State → ℕ)
+    → TableId → Start State → Seat (Desk State Request) (View State Request Answer) → Type 0
+IsMakerOf step Fits room id start place = (place.table_id ≡ id) × (place.me ≡ (maker step Fits room start, []))
 
 -- What a seat shows: its lock; the machine that the lock was made with; the number under which it makes entries; the
 -- history that it has seen; of each of its refused tries, what it read of `serving` and found at `ticket`; and whether it
@@ -69,6 +77,10 @@ pub record IsResting {State Request Answer : Type 0} (first : State) (seat : Sea
   pub all_seen : seat.me.0.former ≡ []
   pub one_number : seat.me.0.numbers ≡ number_of seat.me.0 ∷ []
 
+-- it is the same seat, and in no call
+abbrev pub RestsAgain : {State Request Answer : Type 0} → State → Seat (Desk State Request) (View State Request Answer) → Seat (Desk State Request) (View State Request Answer) → Type 0
+RestsAgain first before after = IsSame before after × IsResting first after
+
 -- What a note shows: its lock, and the history that was seen.
 pub record NoteData (Request Answer : Type 0) : Type 0 where
   pub lock : TableId
@@ -83,3 +95,11 @@ pub record IsNote {State Request Answer : Type 0} (note : Seat (Desk State Reque
   pub empty : note.me.1 ≡ []
   pub idle : note.me.0.stage ≡ Idle
   pub no_number : note.me.0.numbers ≡ []
+
+-- it is a seat of this table, and in no call
+abbrev pub IsIdleOf : {State Request Answer : Type 0} → TableId → Seat (Desk State Request) (View State Request Answer) → Type 0
+IsIdleOf id seat = (seat.table_id ≡ id) × (seat.me.1 ≡ []) × (seat.me.0.stage ≡ Idle)
+
+-- it is a note of this table, and in no call
+abbrev pub IsNoteOf : {State Request Answer : Type 0} → TableId → Seat (Desk State Request) (View State Request Answer) → Type 0
+IsNoteOf id note = (note.table_id ≡ id) × (note.me.1 ≡ []) × (note.me.0.stage ≡ Idle) × (note.me.0.numbers ≡ [])

@@ -3,8 +3,8 @@
 ghost use Rattle.std.specs.Prelude.{◌≡◌, ◌≤◌, [], OnOk, OnErr, IfOk, IfErr};
 ghost use Rattle.history_lock.specs.History.{IsLegal};
 ghost use Rattle.history_lock.specs.Calls.{AddsOwn, FoundFull, IsNumbered, IsRefused, OnlyCalled, OnlyTried, SeesAnswers};
-ghost use Rattle.history_lock.specs.CallsInside.{IsMade};
-ghost use Rattle.history_lock.specs.Seats.{IsAt, IsSame, IsResting, seat_data};
+ghost use Rattle.history_lock.specs.CallsInside.{FoundFullAt, IsMadeAt, IsRefusedAt, OnlyCalledAt, OnlyTriedAt};
+ghost use Rattle.history_lock.specs.Seats.{IsAt, IsResting, RestsAgain};
 
 use crate::fault::{CallFault, TryFault};
 use crate::lock::HistoryLock;
@@ -33,14 +33,11 @@ fn call_at<M: Machine, R: Wait>(
     requires fits { M.Fits start.now.value.machine.value request.now }
     requires empty { out.old.items ≡ [] }
     requires places { M.room start.now.value.machine.value ≤ out.old.places }
-    ensures rests { IsSame place.old place.new × IsResting start.now.value.machine.value place.new }
-    ensures made { IfOk result (λ n. IsMade M.step M.Fits
-        (seat_data start.now.value.machine.value place.old) n request.now out.new.items
-        (seat_data start.now.value.machine.value place.new)) }
-    ensures rest { OnOk result (OnlyCalled (seat_data start.now.value.machine.value place.old)
-        (seat_data start.now.value.machine.value place.new)) }
-    ensures full { OnErr result (FoundFull (seat_data start.now.value.machine.value place.old)
-        (seat_data start.now.value.machine.value place.new)) }
+    ensures rests { RestsAgain start.now.value.machine.value place.old place.new }
+    ensures made { IfOk result (λ n. IsMadeAt M.step M.Fits start.now.value.machine.value place.old
+        n request.now out.new.items place.new) }
+    ensures rest { OnOk result (OnlyCalledAt start.now.value.machine.value place.old place.new) }
+    ensures full { OnErr result (FoundFullAt start.now.value.machine.value place.old place.new) }
     ensures kept { OnErr result (out.new ≡ out.old) }
     ensures places { out.new.places ≡ out.old.places }
 {
@@ -66,14 +63,12 @@ fn try_at<M: Machine>(
     requires fits { M.Fits start.now.value.machine.value request.now }
     requires empty { out.old.items ≡ [] }
     requires places { M.room start.now.value.machine.value ≤ out.old.places }
-    ensures rests { IsSame place.old place.new × IsResting start.now.value.machine.value place.new }
-    ensures made { IfOk result (λ n. IsMade M.step M.Fits
-        (seat_data start.now.value.machine.value place.old) n request.now out.new.items
-        (seat_data start.now.value.machine.value place.new)) }
-    ensures rest { OnOk result (OnlyTried (seat_data start.now.value.machine.value place.old)
-        (seat_data start.now.value.machine.value place.new)) }
-    ensures refused { IfErr result (λ fault. IsRefused (seat_data start.now.value.machine.value
-        place.old) fault (seat_data start.now.value.machine.value place.new)) }
+    ensures rests { RestsAgain start.now.value.machine.value place.old place.new }
+    ensures made { IfOk result (λ n. IsMadeAt M.step M.Fits start.now.value.machine.value place.old
+        n request.now out.new.items place.new) }
+    ensures rest { OnOk result (OnlyTriedAt start.now.value.machine.value place.old place.new) }
+    ensures refused { IfErr result (λ fault.
+        IsRefusedAt start.now.value.machine.value place.old fault place.new) }
     ensures kept { OnErr result (out.new ≡ out.old) }
     ensures places { out.new.places ≡ out.old.places }
 {

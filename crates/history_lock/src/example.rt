@@ -16,7 +16,9 @@ impl Machine for Counter {
 
     type Answer = u64;
 
-    ghost step = { λ counter by. let count = (counter.count + by) % 2 ^ 64 in record { state = record { count = count }; answers = count ∷ [] } };
+    ghost step = { λ counter by.
+        let count = (counter.count + by) % 2 ^ 64 in
+        record { state = record { count = count }; answers = count ∷ [] } };
 
     ghost Fits = { λ counter by. Unit {0} };
 

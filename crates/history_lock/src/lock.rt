@@ -21,7 +21,8 @@ impl<M: Machine> Model for HistoryLock<M> {
 
     ghost view = { λ lock. lock_data lock.table.shared.table_id lock.table.shared.key };
 
-    ghost invariant = { λ lock. IsLock lock.table.shared.table_id lock.table.shared.key lock.seats };
+    ghost invariant = { λ lock.
+        IsLock lock.table.shared.table_id lock.table.shared.key lock.seats };
 }
 
 impl<M: Machine> HistoryLock<M> {

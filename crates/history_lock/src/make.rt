@@ -1,11 +1,10 @@
 //! A new lock with its seats.
 
-ghost use Rattle.std.specs.Prelude.{◌≡◌, ◌<◌, ◌≤◌, [], length, IfOk, Some};
+ghost use Rattle.std.specs.Prelude.{◌≡◌, ◌<◌, ◌≤◌, length, IfOk, Some};
 ghost use Rattle.history_lock.specs.declared.view.Stage.TheVariants.{Idle};
 ghost use Rattle.history_lock.specs.Plays.{fresh, gave};
-ghost use Rattle.history_lock.specs.Rule.{maker};
-ghost use Rattle.history_lock.specs.Seats.{IsAt, IsSame};
-ghost use Rattle.history_lock.specs.Locks.{AreNew, new_seat};
+ghost use Rattle.history_lock.specs.Seats.{IsAt, IsMakerOf, IsSame};
+ghost use Rattle.history_lock.specs.Locks.{AreNew, IsLockOf, new_seat};
 
 use crate::lock::HistoryLock;
 use crate::machine::Machine;
@@ -28,8 +27,8 @@ fn lay<M: Machine + Drop>(
     ensures table { IfOk result (λ made. (made.0.shared.table_id.words ≡ 2)
         × (made.0.shared.table_id.slots ≡ 1)) }
     ensures start { IfOk result (λ made. made.0.shared.key ≡ start.now) }
-    ensures maker { IfOk result (λ made. (made.1.table_id ≡ made.0.shared.table_id)
-        × (made.1.me ≡ (maker M.step M.Fits M.room made.0.shared.key, []))) }
+    ensures maker { IfOk result (λ made. IsMakerOf M.step M.Fits M.room
+        made.0.shared.table_id made.0.shared.key made.1) }
 {
     let mut slots = Vec::with_capacity(alloc, 1)?;
     slots.push_reserved(Desk {
@@ -67,7 +66,7 @@ impl<M: Machine + Drop> HistoryLock<M> {
         seats: u32,
     ) -> Result<(HistoryLock<M>, Vec<Seat<M>>), AllocError>
         requires seats { (0 < seats) × (seats ≤ 4096) }
-        ensures lock { IfOk result (λ made. (made.0.first ≡ machine) × (made.0.seats ≡ seats)) }
+        ensures lock { IfOk result (λ made. IsLockOf machine seats made.0) }
         ensures count { IfOk result (λ made. length made.1.items ≡ seats) }
         ensures each { IfOk result (λ made. AreNew made.0.id machine seats made.1.items) }
     {

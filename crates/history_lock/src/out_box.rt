@@ -18,7 +18,10 @@ impl<A> Model for OutBox<A> {
 
     ghost Value = { Placed A };
 
-    ghost view = { λ out. record { items = out.answers.items; places = vec_capacity out.answers } };
+    ghost view = { λ out. record {
+      items = out.answers.items;
+      places = vec_capacity out.answers;
+    } };
 }
 
 impl<A> OutBox<A> {

@@ -4,8 +4,8 @@ ghost use Rattle.std.specs.Prelude.{◌≡◌, ℕ, ◌+◌, ◌^◌, ◌<◌, [
 ghost use mathlib.Core.Option.{none};
 ghost use Rattle.atomic_table.specs.Table.{step};
 ghost use Rattle.history_lock.specs.declared.view.Stage.TheVariants.{Idle, Waits, Holds};
-ghost use Rattle.history_lock.specs.Plays.{IsWorked, ticket_read, ticket_taken, serving_read, ticket_tried, turn_awaited, ended, noted, with_note, with_seat, Tells};
-ghost use Rattle.history_lock.specs.Seats.{IsAt, IsSame};
+ghost use Rattle.history_lock.specs.Plays.{IsWorked, ticket_read, ticket_taken, serving_read, ticket_tried, turn_awaited, EndsTurn, noted, with_note, with_seat, Tells};
+ghost use Rattle.history_lock.specs.Seats.{IsAt, IsSame, IsIdleOf, IsNoteOf};
 
 use crate::machine::Machine;
 use crate::plays::{
@@ -78,11 +78,8 @@ pub fn end_turn<M: Machine>(
     requires worked { IsWorked M.step M.Fits M.room place.old.me start.now.value.machine.value
         request.now }
     ensures same { IsSame place.old place.new }
-    ensures ended { place.new.me ≡ (
-      ended M.step start.now.value.machine.value place.old.me.0
-          request.now,
-      [],
-    ) }
+    ensures ended { EndsTurn M.step start.now.value.machine.value request.now
+        place.old.me place.new.me }
 {
     let (_start, _request) = (start, request);
     top.fetch_add::<EndTurn<M>>(place, 0, 1);
@@ -109,8 +106,7 @@ pub fn new_note<M: Machine>(top: &Top<M>, place: &mut Place<M>) -> Place<M>
 pub fn take_note<M: Machine>(top: &Top<M>, place: &mut Place<M>, note: Place<M>)
     requires at { IsAt top.now.table_id place.old }
     requires idle { place.old.me.0.stage ≡ Idle }
-    requires note { (note.table_id ≡ top.now.table_id) × (note.me.1 ≡ []) × (note.me.0.stage ≡ Idle)
-        × (note.me.0.numbers ≡ []) }
+    requires note { IsNoteOf top.now.table_id note }
     ensures same { IsSame place.old place.new }
     ensures both { place.new.me ≡ (with_note place.old.me.0 note.me.0, place.old.me.1) }
 {
@@ -120,8 +116,7 @@ pub fn take_note<M: Machine>(top: &Top<M>, place: &mut Place<M>, note: Place<M>)
 pub fn take_seat<M: Machine>(top: &Top<M>, place: &mut Place<M>, other: Place<M>)
     requires at { IsAt top.now.table_id place.old }
     requires idle { place.old.me.0.stage ≡ Idle }
-    requires other { (other.table_id ≡ top.now.table_id) × (other.me.1 ≡ [])
-        × (other.me.0.stage ≡ Idle) }
+    requires other { IsIdleOf top.now.table_id other }
     ensures same { IsSame place.old place.new }
     ensures both { place.new.me ≡ (with_seat place.old.me.0 other.me.0, place.old.me.1) }
 {

@@ -24,7 +24,10 @@ impl Machine for Repeater {
 
     type Answer = u64;
 
-    ghost step = { λ repeater times. record { state = record { asked = (repeater.asked + 1) % 2 ^ 64 }; answers = replicate times repeater.asked } };
+    ghost step = { λ repeater times. record {
+      state = record { asked = (repeater.asked + 1) % 2 ^ 64 };
+      answers = replicate times repeater.asked;
+    } };
 
     ghost Fits = { λ repeater times. times ≤ 3 };
 
@@ -65,7 +68,10 @@ impl Machine for Counter {
 
     type Answer = u64;
 
-    ghost step = { λ counter _. record { state = record counter { count = (counter.count + 1) % 2 ^ 64 }; answers = counter.count ∷ [] } };
+    ghost step = { λ counter _. record {
+      state = record counter { count = (counter.count + 1) % 2 ^ 64 };
+      answers = counter.count ∷ [];
+    } };
 
     ghost Fits = { λ counter _. Unit {0} };
 

@@ -3,7 +3,7 @@
 ghost use Rattle.std.specs.Prelude.{◌≡◌, ◌≤◌, [], length, ◌<◌, ◌^◌, Some, None, IfSome, IfNone, IfOk, IfErr};
 ghost use Rattle.history_lock.specs.declared.view.Stage.TheVariants.{Idle, Waits};
 ghost use Rattle.history_lock.specs.History.{run};
-ghost use Rattle.history_lock.specs.Plays.{Enters, HasMachine, IsWorked, ended};
+ghost use Rattle.history_lock.specs.Plays.{EndsTurn, Enters, HasMachine, IsWorked};
 ghost use Rattle.history_lock.specs.Seats.{IsAt, IsSame, IsQueued, IsFull, IsSeized, IsTurnedAway};
 
 use crate::desk;
@@ -146,11 +146,8 @@ pub fn answer<M: Machine>(
     requires empty { out.old.items ≡ [] }
     requires places { M.room start.now.value.machine.value ≤ out.old.places }
     ensures same { IsSame place.old place.new }
-    ensures ended { place.new.me ≡ (
-      ended M.step start.now.value.machine.value place.old.me.0
-          request.now,
-      [],
-    ) }
+    ensures ended { EndsTurn M.step start.now.value.machine.value request.now
+        place.old.me place.new.me }
     ensures answers { out.new.items ≡ (M.step (run M.step start.now.value.machine.value
         place.old.me.0.seen) request.now).answers }
     ensures places { out.new.places ≡ out.old.places }

@@ -2,6 +2,7 @@
 
 ghost use Rattle.std.specs.Prelude.{◌≡◌, IfOk};
 ghost use Rattle.std.specs.Thread.{IsSync};
+ghost use Rattle.history_lock.specs.Closing.{IsOf};
 
 use super::{Counter, calls, closed, counted};
 use crate::{Closed, HistoryLock, OutBox, Seat, TryFault};
@@ -136,10 +137,10 @@ fn all_try<R: Threads + Wait + Sync>(
 )
     requires first { (first.0.lock ≡ lock.now.id) × (first.1.lock ≡ lock.now.id) }
     requires second { (second.0.lock ≡ lock.now.id) × (second.1.lock ≡ lock.now.id) }
-    ensures first { (result.0.0.0.lock ≡ first.0.lock) × (result.0.0.0.number ≡ first.0.number)
-        × (result.0.1.0.lock ≡ first.1.lock) × (result.0.1.0.number ≡ first.1.number) }
-    ensures second { (result.1.0.0.lock ≡ second.0.lock) × (result.1.0.0.number ≡ second.0.number)
-        × (result.1.1.0.lock ≡ second.1.lock) × (result.1.1.0.number ≡ second.1.number) }
+    ensures first { IsOf first.0.lock result.0.0.0 × (result.0.0.0.number ≡ first.0.number)
+        × IsOf first.1.lock result.0.1.0 × (result.0.1.0.number ≡ first.1.number) }
+    ensures second { IsOf second.0.lock result.1.0.0 × (result.1.0.0.number ≡ second.0.number)
+        × IsOf second.1.lock result.1.1.0 × (result.1.1.0.number ≡ second.1.number) }
 {
     let (zero, one) = first;
     let (two, three) = second;
@@ -170,9 +171,9 @@ fn counted_by_four(
     AllocError,
 >
     ensures seats { IfOk result (λ made. made.0.seats ≡ 4) }
-    ensures first { IfOk result (λ made. (made.1.0.lock ≡ made.0.id) × (made.1.1.lock ≡ made.0.id)
+    ensures first { IfOk result (λ made. IsOf made.0.id made.1.0 × IsOf made.0.id made.1.1
         × (made.1.0.number ≡ 0) × (made.1.1.number ≡ 1)) }
-    ensures second { IfOk result (λ made. (made.2.0.lock ≡ made.0.id) × (made.2.1.lock ≡ made.0.id)
+    ensures second { IfOk result (λ made. IsOf made.0.id made.2.0 × IsOf made.0.id made.2.1
         × (made.2.0.number ≡ 2) × (made.2.1.number ≡ 3)) }
 {
     let (lock, mut seats) = HistoryLock::new(alloc, Counter { count: 0, pause: 0 }, 4)?;
@@ -199,10 +200,10 @@ fn closed_by_four(
     second: (Seat<Counter>, Seat<Counter>),
 ) -> Result<Closed<Counter>, AllocError>
     requires seats { lock.seats ≡ 4 }
-    requires locks { (first.0.lock ≡ lock.id) × (first.1.lock ≡ lock.id) × (second.0.lock ≡ lock.id)
-        × (second.1.lock ≡ lock.id) }
-    requires numbers { (first.0.number ≡ 0) × (first.1.number ≡ 1) × (second.0.number ≡ 2)
-        × (second.1.number ≡ 3) }
+    requires locks { IsOf lock.id first.0 × IsOf lock.id first.1
+        × IsOf lock.id second.0 × IsOf lock.id second.1 }
+    requires numbers { (first.0.number ≡ 0) × (first.1.number ≡ 1)
+        × (second.0.number ≡ 2) × (second.1.number ≡ 3) }
 {
     let (zero, one) = first;
     let (two, three) = second;
