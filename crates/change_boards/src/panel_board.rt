@@ -27,7 +27,11 @@ impl Model for PanelBoard {
 
     ghost coded = { code };
 
-    ghost view = { λ board. record { source = board.source; protect = board.protect; left = board.left } };
+    ghost view = { λ board. record {
+      source = board.source;
+      protect = board.protect;
+      left = board.left;
+    } };
 }
 
 impl PanelBoard {

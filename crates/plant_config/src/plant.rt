@@ -23,9 +23,15 @@ impl Model for Plant {
 
     ghost Value = { PlantData };
 
-    ghost view = { λ plant. record { levels = plant.levels.items; panels = plant.panels.items } };
+    ghost view = { λ plant. record {
+      levels = plant.levels.items;
+      panels = plant.panels.items;
+    } };
 
-    ghost invariant = { λ plant. IsPlant (record { levels = plant.levels.items; panels = plant.panels.items }) };
+    ghost invariant = { λ plant. IsPlant (record {
+      levels = plant.levels.items;
+      panels = plant.panels.items;
+    }) };
 }
 
 impl Plant {

@@ -1,6 +1,6 @@
 -- The one text of a packet of the TSL UMD Protocol V5.0, from its screen and its displays.
 -- Fields have the protocol's names. Each field of 16 bits has its low byte first.
-use Rattle.std.specs.Prelude.{◌≡◌, ℕ, ◌+◌, ◌*◌, ◌^◌, ◌<◌, ◌≤◌, List, ◌∷◌, ◌++◌, length}
+use Rattle.std.specs.Prelude.{◌≡◌, ℕ, ◌+◌, ◌*◌, ◌^◌, ◌<◌, ◌≤◌, List, [], ◌∷◌, ◌++◌, length}
 use Rattle.std.specs.List.{flat_map, AllByRecursion}
 use Rattle.std.specs.Int.{w16, to_le_bytes}
 use Rattle.tsl_umd5.specs.declared.lamp.Lamp.{Lamp}
@@ -109,6 +109,11 @@ pub record IsTextOf (bytes : List ℕ) (p : Contents) : Type 0 where
 -- the bytes are a packet
 abbrev pub IsPacketText : List ℕ → Type 0
 IsPacketText bytes = (p : Contents) × IsTextOf bytes p
+
+-- Whichever screen and displays a packet was of, this display stands behind them.
+abbrev pub AddsDisplay : Display → List ℕ → List ℕ → Type 0
+AddsDisplay display before after =
+    (screen : ℕ) (ds : List Display) → before ≡ packet_text screen ds → after ≡ packet_text screen (ds ++ display ∷ [])
 
 -- no two packets have one text
 abbrev pub OneText : Type 0

@@ -1,9 +1,9 @@
 //! Writing a packet at the end of a buffer, display by display.
 
-ghost use Rattle.std.specs.Prelude.{◌≡◌, ℕ, ◌+◌, ◌-◌, ◌<◌, ◌≤◌, ◌^◌, List, [], ◌∷◌, ◌++◌, length, take, drop, vec_len, vec_capacity};
+ghost use Rattle.std.specs.Prelude.{◌≡◌, ◌+◌, ◌-◌, ◌<◌, ◌≤◌, ◌^◌, [], ◌++◌, length, take, drop, vec_len, vec_capacity};
 ghost use Rattle.std.specs.List.{AllByRecursion};
 ghost use Rattle.tsl_umd5.specs.Layout.{max_brightness, max_packet, packet_head};
-ghost use Rattle.tsl_umd5.specs.Packet.{Display, view, word, display_text, message_length, packet_text, IsPrintable, IsPacketText};
+ghost use Rattle.tsl_umd5.specs.Packet.{view, word, display_text, message_length, packet_text, IsPrintable, IsPacketText, AddsDisplay};
 
 use crate::layout::{COUNT_BYTES, FLAGS, PACKET_HEAD, VERSION};
 use crate::shown::Shown;
@@ -37,9 +37,8 @@ pub fn add_display(start: usize, shown: &Shown<'_>, out: &mut Vec<u8>)
     requires room { vec_len out.old + message_length (view shown.now) ≤ vec_capacity out.old }
 
     // Whichever screen and displays the packet was of, this display stands behind them.
-    ensures added { (screen : ℕ) (ds : List Display)
-        → drop start out.old.items ≡ packet_text screen ds
-        → drop start out.new.items ≡ packet_text screen (ds ++ view shown.now ∷ []) }
+    ensures added { AddsDisplay (view shown.now)
+        (drop start out.old.items) (drop start out.new.items) }
     ensures before { take start out.new.items ≡ take start out.old.items }
 
     // The next display can follow.
