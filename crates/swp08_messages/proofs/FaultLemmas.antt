@@ -1,5 +1,5 @@
 -- What the bytes behind a command are refused with, by the messages that other bytes spell.
-use Rattle.std.proofs.Common.{◌≡◌, ◌≢◌, ℕ, suc, ◌+◌, ◌<◌, ◌≤◌, cond, nat_eq, nat_lt, true, false, List, [], ◌∷◌, ◌++◌, length, get_or, take, take_all, drop, map, ◌-◌, eqb-true, Some, None, refl, sym, ap, ◌∙◌, subst, arith, MatchOption}
+use Rattle.std.proofs.Common.{◌≡◌, ◌≢◌, ℕ, suc, ◌+◌, ◌<◌, ◌≤◌, cond, nat_eq, nat_lt, true, false, List, [], ◌∷◌, ◌++◌, length, get_or, take, take_all, drop, map, ◌-◌, eqb-true, Some, None, refl, sym, ap, ◌∙◌, subst, arith}
 use Rattle.std.proofs.lemmas.Bool.Decides.{nat_tests}
 use Rattle.swp08_messages.specs.declared.fault.ReadFault.{ReadFault}
 use Rattle.swp08_messages.specs.declared.fault.ReadFault.TheVariants.{UnknownCommand, WrongLength, BadField}
@@ -11,7 +11,8 @@ use Rattle.swp08_messages.specs.Refused.{IsRefused}
 use Rattle.swp08_messages.specs.ReadingInside.{limit_of, message_of, first_bad, fault_of}
 use Rattle.swp08_messages.proofs.FieldLemmas.{limit_of-positive}
 use Rattle.swp08_messages.proofs.SpelledLemmas.{length-SpellFields, spelled_below}
-use Rattle.swp08_messages.proofs.ReadingLemmas.{limits_of, Below, message_of-reads, message_of-none, limits_of-command, length-limits, length-text}
+use Rattle.swp08_messages.proofs.LayoutLemmas.{Below}
+use Rattle.swp08_messages.proofs.ReadingLemmas.{limits_of, message_of-reads, message_of-none, limits_of-command, length-limits, length-text}
 
 first_bad-none : (place : ℕ) (fields : List Field) (bytes : List ℕ) → length bytes ≡ length fields → first_bad place fields bytes ≡ None → Below bytes (map limit_of fields)
 first_bad-none place [] [] same e = tt

@@ -1,6 +1,10 @@
 pub mod FieldLemmas
 pub mod SpelledLemmas
+pub mod LayoutLemmas
+pub mod NamesLemmas
 pub mod ReadingLemmas
+pub mod SpellsLemmas
+pub mod DumpLemmas
 pub mod RefusedLemmas
 pub mod FaultLemmas
 pub mod Examples

@@ -1,118 +1,20 @@
 -- A message by the bytes as they come: which DATA spells it, and where it has the limits of every message of its command.
-use Rattle.std.proofs.Common.{◌≡◌, ◌≢◌, ℕ, suc, ◌+◌, ◌*◌, ◌/◌, ◌%◌, ◌<◌, cond, nat_eq, true, false, List, [], ◌∷◌, length, map, Option, Some, None, refl, sym, ap, ◌∙◌, subst, arith, eqb-true, MatchOption}
-use Rattle.std.proofs.lemmas.Bool.Decides.{nat_tests}
-use Rattle.std.specs.List.{AllByRecursion}
-use Rattle.swp08_messages.specs.declared.point.Point.{Point}
+use Rattle.std.proofs.Common.{◌≡◌, ◌≢◌, ℕ, suc, ◌+◌, cond, nat_eq, true, false, List, [], ◌∷◌, length, map, Option, Some, None, refl, sym, ap, ◌∙◌, subst, arith, eqb-true, MatchOption}
 use Rattle.swp08_messages.specs.declared.field.Field.{Field}
 use Rattle.swp08_messages.specs.declared.message.Message.{Message}
-use Rattle.swp08_messages.specs.declared.message.Message.TheVariants.{Interrogate, Connect, Tally, Connected}
-use Rattle.swp08_messages.specs.Field.{number_of, IsSource, HasRoom, byte_of}
-use Rattle.swp08_messages.specs.Row.{row, destination, crosspoint}
+use Rattle.swp08_messages.specs.declared.message.Message.TheVariants.{Interrogate, Connect, Tally, Connected, DumpAsk, SourceNamesAsk, SourceNameAsk, DestNamesAsk, DestNameAsk}
+use Rattle.swp08_messages.specs.Field.{byte_of}
+use Rattle.swp08_messages.specs.Row.{row}
 use Rattle.swp08_messages.specs.Text.{text, InRange}
 use Rattle.swp08_messages.specs.Spelled.{SpellFields, Spells}
-use Rattle.swp08_messages.specs.ReadingInside.{limit_of, source_of, point_in, source_in, message_of}
-use Rattle.swp08_messages.proofs.FieldLemmas.{number_of-below}
+use Rattle.swp08_messages.specs.ReadingInside.{limit_of, point_in, source_in, matrix_in, level_in, size_in, wide_in, crosspoint_message, dump_message, names_message, first_of, message_of}
+use Rattle.swp08_messages.proofs.LayoutLemmas.{Below, SpellThem, destination-in, crosspoint-in, point_in-again, crosspoint-again}
+use Rattle.swp08_messages.proofs.NamesLemmas.{one_level-in, one_level-again, source_names-in, source_names-again, source_name-in, source_name-again, dest_names-in, dest_names-again, dest_name-in, dest_name-again}
 use Rattle.swp08_messages.proofs.SpelledLemmas.{Spells-text}
 
 -- a message's limits, one for each byte behind its command
 abbrev pub limits_of : Message → List ℕ
 limits_of message = map limit_of (row message).fields
-
--- bytes are as many as limits, each below its own
-abbrev pub Below : List ℕ → List ℕ → Type 0
-Below [] [] = Unit {0}
-Below (byte ∷ bytes) (limit ∷ limits) = (byte < limit) × Below bytes limits
-Below [] (limit ∷ limits) = ⊥
-Below (byte ∷ bytes) [] = ⊥
-
--- Below their limits, the bytes behind a command spell what they give.
-
-record SpellThem (bytes : List ℕ) (fields : List Field) : Type 0 where
-  room : AllByRecursion HasRoom fields
-  spelled : SpellFields bytes fields
-
-destination-in : (bytes : List ℕ) → Below bytes (256 ∷ 256 ∷ 128 ∷ []) → SpellThem bytes (destination (point_in bytes))
-destination-in [] below = absurd below
-destination-in (place ∷ []) below = absurd below.1
-destination-in (place ∷ high ∷ []) below = absurd below.1.1
-destination-in (place ∷ high ∷ low ∷ more ∷ others) below = absurd below.1.1.1
-destination-in (place ∷ high ∷ low ∷ []) below = record {
-  room = ((omega (arith, below.0), omega arith), (omega (arith, below.1.1.0), (omega (arith, below.1.1.0), tt)));
-  spelled = (omega arith, (omega (arith, below.1.1.0), (omega (arith, below.1.1.0), tt)));
-}
-
--- a source by its number
-IsSource-source_of : (high low : ℕ) → low < 128 → IsSource (source_of high low)
-IsSource-source_of high low h =
-    elim (nat_eq (high % 8 * 128 + low) 1023) as (λ b. nat_eq (high % 8 * 128 + low) 1023 ≡ b → IsSource (cond b None (Some (high % 8 * 128 + low)))) [
-      | true ↦ λ e. tt
-      | false ↦ λ e. grind (arith, nat_tests)
-    ] refl
-
-number_of-source_of : (high low : ℕ) → number_of (source_of high low) ≡ high % 8 * 128 + low
-number_of-source_of high low =
-    elim (nat_eq (high % 8 * 128 + low) 1023) as (λ b. nat_eq (high % 8 * 128 + low) 1023 ≡ b → number_of (cond b None (Some (high % 8 * 128 + low))) ≡ high % 8 * 128 + low) [
-      | true ↦ λ e. sym (eqb-true _ _ e)
-      | false ↦ λ e. refl
-    ] refl
-
-crosspoint-in : (bytes : List ℕ) → Below bytes (256 ∷ 256 ∷ 128 ∷ 128 ∷ []) → SpellThem bytes (crosspoint (point_in bytes) (source_in bytes))
-crosspoint-in [] below = absurd below
-crosspoint-in (place ∷ []) below = absurd below.1
-crosspoint-in (place ∷ high ∷ []) below = absurd below.1.1
-crosspoint-in (place ∷ high ∷ low ∷ []) below = absurd below.1.1.1
-crosspoint-in (place ∷ high ∷ low ∷ source ∷ more ∷ others) below = absurd below.1.1.1.1
-crosspoint-in (place ∷ high ∷ low ∷ source ∷ []) below =
-    let source_in_range : IsSource (source_of high source) = IsSource-source_of high source below.1.1.1.0 in
-    let dest_in_range : high / 16 % 8 * 128 + low < 1024 = omega (arith, below.1.1.0) in
-    let number = number_of-source_of high source in
-    record {
-      room = ((omega (arith, below.0), omega arith), ((dest_in_range, source_in_range), (dest_in_range, (source_in_range, tt))));
-      spelled = (omega arith, (omega (arith, number, below.1.1.0, below.1.1.1.0), (omega (arith, below.1.1.0), (omega (arith, number, below.1.1.1.0), tt))));
-    }
-
--- The bytes that a field is spelled with give it back.
-
-point_in-again : (at : Point) (bytes : List ℕ) → AllByRecursion HasRoom (destination at) → SpellFields bytes (destination at) → point_in bytes ≡ at
-point_in-again at [] room spell = absurd spell
-point_in-again at (place ∷ []) room spell = absurd spell.1
-point_in-again at (place ∷ high ∷ []) room spell = absurd spell.1.1
-point_in-again at (place ∷ high ∷ low ∷ more ∷ others) room spell = absurd spell.1.1.1
-point_in-again at (place ∷ high ∷ low ∷ []) room spell =
-    let matrix : place / 16 ≡ at.matrix = omega (arith, spell.0, room.0.1) in
-    let level : place % 16 ≡ at.level = omega (arith, spell.0, room.0.1) in
-    let dest : high / 16 % 8 * 128 + low ≡ at.dest = omega (arith, spell.1.0, spell.1.1.0, room.1.0) in
-    rw (matrix, level, dest) refl
-
-source_of-again : (source : Option ℕ) (high low : ℕ) → IsSource source → high % 8 ≡ number_of source / 128 → low ≡ number_of source % 128 → source_of high low ≡ source
-source_of-again None high low room h l =
-    let number : high % 8 * 128 + low ≡ 1023 = omega arith in
-    rw number refl
-source_of-again (Some source) high low room h l =
-    let number : high % 8 * 128 + low ≡ source = omega arith in
-    let other : nat_eq source 1023 ≡ false = grind (arith, nat_tests) in
-    rw (number, other) refl
-
-record IsIn (bytes : List ℕ) (at : Point) (source : Option ℕ) : Type 0 where
-  point : point_in bytes ≡ at
-  source_is : source_in bytes ≡ source
-
-crosspoint-again : (at : Point) (source : Option ℕ) (bytes : List ℕ) → AllByRecursion HasRoom (crosspoint at source) → SpellFields bytes (crosspoint at source) → IsIn bytes at source
-crosspoint-again at source [] room spell = absurd spell
-crosspoint-again at source (place ∷ []) room spell = absurd spell.1
-crosspoint-again at source (place ∷ high ∷ []) room spell = absurd spell.1.1
-crosspoint-again at source (place ∷ high ∷ low ∷ []) room spell = absurd spell.1.1.1
-crosspoint-again at source (place ∷ high ∷ low ∷ low_source ∷ more ∷ others) room spell = absurd spell.1.1.1.1
-crosspoint-again at source (place ∷ high ∷ low ∷ low_source ∷ []) room spell =
-    let number : number_of source < 1024 = number_of-below source room.1.0.1 in
-    let high_source : high % 8 ≡ number_of source / 128 = omega (arith, spell.1.0, room.1.0.0) in
-    let matrix : place / 16 ≡ at.matrix = omega (arith, spell.0, room.0.1) in
-    let level : place % 16 ≡ at.level = omega (arith, spell.0, room.0.1) in
-    let dest : high / 16 % 8 * 128 + low ≡ at.dest = omega (arith, number, spell.1.0, spell.1.1.0, room.1.0.0) in
-    record {
-      point = rw (matrix, level, dest) refl;
-      source_is = source_of-again source high low_source room.1.0.1 high_source spell.1.1.1.0;
-    }
 
 -- For each message, one line in each of the lemmas below.
 
@@ -122,6 +24,11 @@ limits_of-message_of (Interrogate at) bytes = refl
 limits_of-message_of (Connect at source) bytes = refl
 limits_of-message_of (Tally at source) bytes = refl
 limits_of-message_of (Connected at source) bytes = refl
+limits_of-message_of (DumpAsk matrix level) bytes = refl
+limits_of-message_of (SourceNamesAsk matrix level size) bytes = refl
+limits_of-message_of (SourceNameAsk matrix level size number) bytes = refl
+limits_of-message_of (DestNamesAsk matrix size) bytes = refl
+limits_of-message_of (DestNameAsk matrix size number) bytes = refl
 
 -- a message's bytes give it back
 message_of-again : (message : Message) (bytes : List ℕ) → InRange message → SpellFields bytes (row message).fields → message_of (row message).command bytes ≡ Some message
@@ -129,6 +36,14 @@ message_of-again (Interrogate at) bytes room spell = ap (λ p. Some (Interrogate
 message_of-again (Connect at source) bytes room spell = let e = crosspoint-again at source bytes room spell in rw (e.point, e.source_is) refl
 message_of-again (Tally at source) bytes room spell = let e = crosspoint-again at source bytes room spell in rw (e.point, e.source_is) refl
 message_of-again (Connected at source) bytes room spell = let e = crosspoint-again at source bytes room spell in rw (e.point, e.source_is) refl
+message_of-again (DumpAsk matrix level) bytes room spell = let e = one_level-again matrix level bytes room spell in rw (e.matrix_is, e.level_is) refl
+message_of-again (SourceNamesAsk matrix level size) bytes room spell =
+    let e = source_names-again matrix level size bytes room spell in rw (e.0.matrix_is, e.0.level_is, e.1) refl
+message_of-again (SourceNameAsk matrix level size number) bytes room spell =
+    let e = source_name-again matrix level size number bytes room spell in rw (e.0.matrix_is, e.0.level_is, e.1.size_is, e.1.number_is) refl
+message_of-again (DestNamesAsk matrix size) bytes room spell = let e = dest_names-again matrix size bytes room spell in rw (e.0, e.1) refl
+message_of-again (DestNameAsk matrix size number) bytes room spell =
+    let e = dest_name-again matrix size number bytes room spell in rw (e.matrix_is, e.size_is, e.number_is) refl
 
 -- what a message that was read by its command is
 pub record IsRead (command : ℕ) (bytes : List ℕ) (message : Message) : Type 0 where
@@ -152,14 +67,41 @@ reads_at command number bytes message here there is_here is_there =
       | false ↦ λ e is. is_there is
     ] refl
 
--- What is read of a command is a message of it, which DATA below the limits spells.
-pub message_of-reads : (command : ℕ) (bytes : List ℕ) (message : Message) → message_of command bytes ≡ Some message → IsRead command bytes message
-message_of-reads command bytes message =
+-- The messages of each family in turn.
+
+crosspoint_message-reads : (command : ℕ) (bytes : List ℕ) (message : Message) → crosspoint_message command bytes ≡ Some message → IsRead command bytes message
+crosspoint_message-reads command bytes message =
     reads_at command 1 bytes message _ _ (reads command bytes (Interrogate (point_in bytes)) (destination-in bytes)) (
     reads_at command 2 bytes message _ _ (reads command bytes (Connect (point_in bytes) (source_in bytes)) (crosspoint-in bytes)) (
     reads_at command 3 bytes message _ _ (reads command bytes (Tally (point_in bytes) (source_in bytes)) (crosspoint-in bytes)) (
     reads_at command 4 bytes message _ _ (reads command bytes (Connected (point_in bytes) (source_in bytes)) (crosspoint-in bytes)) (
     λ none. absurd cc))))
+
+dump_message-reads : (command : ℕ) (bytes : List ℕ) (message : Message) → dump_message command bytes ≡ Some message → IsRead command bytes message
+dump_message-reads command bytes message =
+    reads_at command 21 bytes message _ _ (reads command bytes (DumpAsk (matrix_in bytes) (level_in bytes)) (one_level-in bytes)) (
+    λ none. absurd cc)
+
+names_message-reads : (command : ℕ) (bytes : List ℕ) (message : Message) → names_message command bytes ≡ Some message → IsRead command bytes message
+names_message-reads command bytes message =
+    reads_at command 100 bytes message _ _ (reads command bytes (SourceNamesAsk (matrix_in bytes) (level_in bytes) (size_in bytes)) (source_names-in bytes)) (
+    reads_at command 101 bytes message _ _ (reads command bytes (SourceNameAsk (matrix_in bytes) (level_in bytes) (size_in bytes) (wide_in bytes)) (source_name-in bytes)) (
+    reads_at command 102 bytes message _ _ (reads command bytes (DestNamesAsk (matrix_in bytes) (size_in bytes)) (dest_names-in bytes)) (
+    reads_at command 103 bytes message _ _ (reads command bytes (DestNameAsk (matrix_in bytes) (size_in bytes) (wide_in bytes)) (dest_name-in bytes)) (
+    λ none. absurd cc))))
+
+-- by the first of two families that has the command
+first_of-reads : (command : ℕ) (bytes : List ℕ) (message : Message) (first others : Option Message)
+    → (first ≡ Some message → IsRead command bytes message) → (others ≡ Some message → IsRead command bytes message)
+    → first_of first others ≡ Some message → IsRead command bytes message
+first_of-reads command bytes message None others by_first by_others e = by_others e
+first_of-reads command bytes message (Some m) others by_first by_others e = by_first e
+
+-- What is read of a command is a message of it, which DATA below the limits spells.
+pub message_of-reads : (command : ℕ) (bytes : List ℕ) (message : Message) → message_of command bytes ≡ Some message → IsRead command bytes message
+message_of-reads command bytes message =
+    first_of-reads command bytes message _ _ (crosspoint_message-reads command bytes message) (
+    first_of-reads command bytes message _ _ (dump_message-reads command bytes message) (names_message-reads command bytes message))
 
 -- Of which nothing is read is the command of no message.
 pub message_of-none : (command : ℕ) (bytes : List ℕ) → message_of command bytes ≡ None → (message : Message) → (row message).command ≢ command

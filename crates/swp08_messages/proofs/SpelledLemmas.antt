@@ -4,7 +4,7 @@ use Rattle.std.specs.List.{AllByRecursion}
 use Rattle.std.proofs.lemmas.List.Elements.{All-from_recursion}
 use Rattle.swp08_messages.specs.declared.field.Field.{Field}
 use Rattle.swp08_messages.specs.declared.message.Message.{Message}
-use Rattle.swp08_messages.specs.declared.message.Message.TheVariants.{Interrogate, Connect, Tally, Connected}
+use Rattle.swp08_messages.specs.declared.message.Message.TheVariants.{Interrogate, Connect, Tally, Connected, DumpAsk, SourceNamesAsk, SourceNameAsk, DestNamesAsk, DestNameAsk}
 use Rattle.swp08_messages.specs.Field.{byte_of, HasRoom}
 use Rattle.swp08_messages.specs.Row.{row}
 use Rattle.swp08_messages.specs.Text.{text, InRange}
@@ -55,6 +55,11 @@ command_below (Interrogate at) = omega arith
 command_below (Connect at source) = omega arith
 command_below (Tally at source) = omega arith
 command_below (Connected at source) = omega arith
+command_below (DumpAsk matrix level) = omega arith
+command_below (SourceNamesAsk matrix level size) = omega arith
+command_below (SourceNameAsk matrix level size number) = omega arith
+command_below (DestNamesAsk matrix size) = omega arith
+command_below (DestNameAsk matrix size number) = omega arith
 
 -- Each number of a text is a byte.
 pub All-text : (message : Message) → InRange message → All (λ byte. byte < 256) (text message)

@@ -1,10 +1,11 @@
 //! The messages of crosspoints, commands 1 to 4 of SW-P-08: the fields that they are written with, and how their bytes
 //! are read.
 
-ghost use Rattle.std.specs.Prelude.{◌≡◌, slice_index};
+ghost use Rattle.std.specs.Prelude.{◌≡◌};
 ghost use Rattle.swp08_messages.specs.Row.{destination, crosspoint};
-ghost use Rattle.swp08_messages.specs.ReadingInside.{message_of, point_in, source_in};
+ghost use Rattle.swp08_messages.specs.ReadingInside.{crosspoint_message, point_in, source_in};
 
+use crate::behind::{byte_at, level_in, matrix_in};
 use crate::field::{Field, PART};
 use crate::message::Message;
 use crate::point::{PARKED, Point};
@@ -42,9 +43,9 @@ pub(crate) fn crosspoint(at: Point, source: Option<u16>) -> Fields
 }
 
 /// The message of a command by the bytes behind it as they come, a missing one taken as 0: they are then held to its row.
-/// `None` where no message has the command.
+/// `None` where none of these messages has the command.
 pub(crate) fn read(command: u8, behind: &[u8]) -> Option<Message>
-    ensures { result ≡ message_of command behind.now }
+    ensures { result ≡ crosspoint_message command behind.now }
 {
     let at = point_in(behind);
     let source = source_in(behind);
@@ -57,22 +58,15 @@ pub(crate) fn read(command: u8, behind: &[u8]) -> Option<Message>
     }
 }
 
-fn byte_at(bytes: &[u8], place: usize) -> u8
-    ensures { result ≡ slice_index bytes.now place }
-{
-    bytes.get(place).copied().unwrap_or(0)
-}
-
 // The destination by its matrix and level, bits 4 to 6 of the multiplier, and its low part.
 fn point_in(behind: &[u8]) -> Point
     ensures { result ≡ point_in behind.now }
 {
-    let place = byte_at(behind, 0);
     let high = byte_at(behind, 1) / 16 % 8;
     let low = byte_at(behind, 2);
     Point {
-        matrix: place / 16,
-        level: place % 16,
+        matrix: matrix_in(behind),
+        level: level_in(behind),
         dest: u16::from(high) * PART + u16::from(low),
     }
 }

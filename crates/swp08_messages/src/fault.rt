@@ -13,7 +13,8 @@ pub enum ReadFault {
     #[error("{0} bytes of DATA, where {1} are wanted")]
     WrongLength(usize, usize),
     /// The byte at this place, counted from the command at 0, is no value of its field: the low part of a destination
-    /// or a source is above 127. A matrix with its level, and a multiplier, have no bad value.
+    /// or a source is above 127, or the size of a name is above 2. A matrix with its level, a multiplier and the number of
+    /// a name have no bad value.
     #[error("byte {1} at place {0} is no value of its field")]
     BadField(usize, u8),
 }

@@ -1,17 +1,22 @@
-//! Messages of the SW-P-08 General Remote Control Protocol: what the DATA bytes of a frame say, both ways. Each message
-//! has one canonical DATA, and what is read is what it spells. The crate knows nothing of frames and of plants.
+//! Messages of the SW-P-08 General Remote Control Protocol and of this project's profile: what the DATA bytes of a frame
+//! say, both ways. Each message has one canonical DATA, and what is read is what it spells. The crate knows nothing of
+//! frames and of plants.
 #![tactic(auto)]
 
+mod behind;
 mod crosspoints;
+mod dump;
 mod fault;
 mod field;
 mod laws;
 mod message;
+mod names;
 mod point;
 mod row;
 
+pub use dump::write_dump;
 pub use fault::ReadFault;
-pub use laws::{one_message, one_reading, text_bytes};
+pub use laws::{one_message, one_page, one_reading, text_bytes};
 pub use message::{Message, MessageKind};
 pub use point::{PARKED, Point};
 

@@ -7,24 +7,72 @@ ghost use Rattle.swp08_messages.specs.Row.{row};
 ghost use Rattle.swp08_messages.specs.Text.{text, InRange, kind_of};
 ghost use Rattle.swp08_messages.specs.Spelled.{Spells};
 ghost use Rattle.swp08_messages.specs.Refused.{IsRefused};
+ghost use Rattle.swp08_messages.specs.Laws.{ReadsSpelled, ReadsRefused};
+ghost use Rattle.swp08_messages.specs.ReadingInside.{message_of};
 
 use crate::crosspoints::{self, CONNECT, CONNECTED, INTERROGATE, TALLY, crosspoint, destination};
+use crate::dump::{self, DUMP_ASK, one_level};
 use crate::fault::ReadFault;
+use crate::names::{
+    self, DEST_NAME_ASK, DEST_NAMES_ASK, SOURCE_NAME_ASK, SOURCE_NAMES_ASK, dest_name, dest_names,
+    source_name, source_names,
+};
 use crate::point::Point;
-use crate::row::Row;
+use crate::row::{Fields, Row};
 
-/// A message of fixed length, with the number and the layout that the SW-P-08 General Remote Control Protocol gives it.
-/// A source is 0 to 1022, and `None` is a parked one, by this project's profile.
+/// A message of fixed length. Interrogate, connect, tally and connected have the number and the layout that the SW-P-08
+/// General Remote Control Protocol gives them, all others those of this project's profile. A matrix and a level are 0 to
+/// 15. A source is 0 to 1022, and `None` is a parked one, by this project's profile.
 #[derive(Clone, Copy, Debug, PartialEq, Eq)]
 pub enum Message {
     /// Asks for the source at a destination.
-    Interrogate { at: Point },
+    Interrogate {
+        at: Point,
+    },
     /// Asks that a destination carry a source, or be parked.
-    Connect { at: Point, source: Option<u16> },
+    Connect {
+        at: Point,
+        source: Option<u16>,
+    },
     /// Tells the source at a destination.
-    Tally { at: Point, source: Option<u16> },
+    Tally {
+        at: Point,
+        source: Option<u16>,
+    },
     /// Tells that a destination was given a source, or was parked.
-    Connected { at: Point, source: Option<u16> },
+    Connected {
+        at: Point,
+        source: Option<u16>,
+    },
+    /// Asks for the sources at all destinations of a level.
+    DumpAsk {
+        matrix: u8,
+        level: u8,
+    },
+    /// Asks for the names of all sources of a level. The size, 0 to 2, says how long a name may be.
+    SourceNamesAsk {
+        matrix: u8,
+        level: u8,
+        size: u8,
+    },
+    /// Asks for the name of a source of a level, 0 to 65535, whether the level has it or not.
+    SourceNameAsk {
+        matrix: u8,
+        level: u8,
+        size: u8,
+        number: u16,
+    },
+    /// Asks for the names of all destinations of a matrix.
+    DestNamesAsk {
+        matrix: u8,
+        size: u8,
+    },
+    /// Asks for the name of a destination of a matrix, 0 to 65535, whether the matrix has it or not.
+    DestNameAsk {
+        matrix: u8,
+        size: u8,
+        number: u16,
+    },
 }
 
 /// What a message is for.
@@ -34,36 +82,28 @@ pub enum MessageKind {
     Plant,
     /// It tells something of the plant, and isn't answered.
     Report,
+    /// It asks for names, which never change.
+    Names,
 }
 
 impl Message {
     /// The most bytes of a message's DATA.
     pub const MAX_LEN: usize = 8;
 
-    // The row of the message.
-    fn row(&self) -> Row
-        ensures command { result.command ≡ (row self.now).command }
-        ensures kind { result.kind ≡ (row self.now).kind }
-        ensures fields { result.fields.items ≡ (row self.now).fields }
+    // The command of the message.
+    fn command(&self) -> u8
+        ensures { result ≡ (row self.now).command }
     {
-        let (command, kind, fields) = match *self {
-            Message::Interrogate { at } => (INTERROGATE, MessageKind::Plant, destination(at)),
-            Message::Connect { at, source } => (
-                CONNECT,
-                MessageKind::Plant,
-                crosspoint(at, source),
-            ),
-            Message::Tally { at, source } => (TALLY, MessageKind::Report, crosspoint(at, source)),
-            Message::Connected { at, source } => (
-                CONNECTED,
-                MessageKind::Report,
-                crosspoint(at, source),
-            ),
-        };
-        Row {
-            command,
-            kind,
-            fields,
+        match self {
+            Message::Interrogate { .. } => INTERROGATE,
+            Message::Connect { .. } => CONNECT,
+            Message::Tally { .. } => TALLY,
+            Message::Connected { .. } => CONNECTED,
+            Message::DumpAsk { .. } => DUMP_ASK,
+            Message::SourceNamesAsk { .. } => SOURCE_NAMES_ASK,
+            Message::SourceNameAsk { .. } => SOURCE_NAME_ASK,
+            Message::DestNamesAsk { .. } => DEST_NAMES_ASK,
+            Message::DestNameAsk { .. } => DEST_NAME_ASK,
         }
     }
 
@@ -71,7 +111,54 @@ impl Message {
     pub fn kind(&self) -> MessageKind
         ensures { result ≡ kind_of self.now }
     {
-        self.row().kind
+        match self {
+            Message::Interrogate { .. } | Message::Connect { .. } => MessageKind::Plant,
+            Message::DumpAsk { .. } => MessageKind::Plant,
+            Message::Tally { .. } | Message::Connected { .. } => MessageKind::Report,
+            Message::SourceNamesAsk { .. } | Message::SourceNameAsk { .. } => MessageKind::Names,
+            Message::DestNamesAsk { .. } | Message::DestNameAsk { .. } => MessageKind::Names,
+        }
+    }
+
+    // What the bytes behind the command say, in order.
+    fn fields(&self) -> Fields
+        ensures { result.items ≡ (row self.now).fields }
+    {
+        match *self {
+            Message::Interrogate { at } => destination(at),
+            Message::Connect { at, source } => crosspoint(at, source),
+            Message::Tally { at, source } => crosspoint(at, source),
+            Message::Connected { at, source } => crosspoint(at, source),
+            Message::DumpAsk { matrix, level } => one_level(matrix, level),
+            Message::SourceNamesAsk {
+                matrix,
+                level,
+                size,
+            } => source_names(matrix, level, size),
+            Message::SourceNameAsk {
+                matrix,
+                level,
+                size,
+                number,
+            } => source_name(matrix, level, size, number),
+            Message::DestNamesAsk { matrix, size } => dest_names(matrix, size),
+            Message::DestNameAsk {
+                matrix,
+                size,
+                number,
+            } => dest_name(matrix, size, number),
+        }
+    }
+
+    // The row of the message.
+    fn row(&self) -> Row
+        ensures command { result.command ≡ (row self.now).command }
+        ensures fields { result.fields.items ≡ (row self.now).fields }
+    {
+        Row {
+            command: self.command(),
+            fields: self.fields(),
+        }
     }
 
     /// Whether each number of the message has room in its bytes.
@@ -82,18 +169,19 @@ impl Message {
     }
 
     /// The message that DATA spells, or the first fault. Bits 3 and 7 of the multiplier are not looked at, nor are bits 0
-    /// to 2 of an interrogate's, which has no second number: this is the project's profile.
+    /// to 2 of an interrogate's, which has no second number, nor the bits of a level where names of destinations are asked
+    /// for: this is the project's profile.
     pub fn read(bytes: &[u8]) -> Result<Message, ReadFault>
         ensures read { MatchResult result
             (λ message. Spells bytes.now message)
             (λ fault. IsRefused bytes.now fault) }
-        ensures only_ok { (message : Message) → Spells bytes.now message → result ≡ Ok message }
-        ensures only_err { (fault : ReadFault) → IsRefused bytes.now fault → result ≡ Err fault }
+        ensures only_ok { ReadsSpelled bytes.now result }
+        ensures only_err { ReadsRefused bytes.now result }
     {
         let [command, behind @ ..] = bytes else {
             return Err(ReadFault::WrongLength(0, 1));
         };
-        let Some(message) = crosspoints::read(*command, behind) else {
+        let Some(message) = read_behind(*command, behind) else {
             return Err(ReadFault::UnknownCommand(*command));
         };
         match message.row().fault(behind) {
@@ -132,4 +220,14 @@ impl Message {
     {
         self.row().write(out);
     }
+}
+
+// The message of a command by the bytes behind it as they come, a missing one taken as 0: they are then held to its row.
+// `None` where no message has the command.
+fn read_behind(command: u8, behind: &[u8]) -> Option<Message>
+    ensures { result ≡ message_of command behind.now }
+{
+    crosspoints::read(command, behind)
+        .or_else(|| dump::read(command, behind))
+        .or_else(|| names::read(command, behind))
 }

@@ -8,17 +8,15 @@ ghost use Rattle.swp08_messages.specs.ReadingInside.{fault_of};
 
 use crate::fault::ReadFault;
 use crate::field::Field;
-use crate::message::MessageKind;
 use arrayvec::ArrayVec;
 
 /// The fields behind a command, in order: one fewer than the most bytes of a message's DATA.
 pub(crate) type Fields = ArrayVec<Field, 7>;
 
-/// A message as it is written: its command, what it is for, and what each byte behind the command says.
+/// A message as it is written: its command, and what each byte behind the command says.
 #[derive(Drop)]
 pub(crate) struct Row {
     pub(crate) command: u8,
-    pub(crate) kind: MessageKind,
     pub(crate) fields: Fields,
 }
 

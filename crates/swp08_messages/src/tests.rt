@@ -27,9 +27,42 @@ fn connected(at: Point, source: Option<u16>) -> Message {
     Message::Connected { at, source }
 }
 
+fn dump_ask(matrix: u8, level: u8) -> Message {
+    Message::DumpAsk { matrix, level }
+}
+
+fn source_names_ask(matrix: u8, level: u8, size: u8) -> Message {
+    Message::SourceNamesAsk {
+        matrix,
+        level,
+        size,
+    }
+}
+
+fn source_name_ask(matrix: u8, level: u8, size: u8, number: u16) -> Message {
+    Message::SourceNameAsk {
+        matrix,
+        level,
+        size,
+        number,
+    }
+}
+
+fn dest_names_ask(matrix: u8, size: u8) -> Message {
+    Message::DestNamesAsk { matrix, size }
+}
+
+fn dest_name_ask(matrix: u8, size: u8, number: u16) -> Message {
+    Message::DestNameAsk {
+        matrix,
+        size,
+        number,
+    }
+}
+
 #[test]
 fn writes_and_reads_back(rt: HostRuntime) -> Result<(), Fail> {
-    use MessageKind::{Plant, Report};
+    use MessageKind::{Names, Plant, Report};
     let five = point(0, 0, 5);
     let last = point(15, 15, 1023);
     let rows = [
@@ -45,6 +78,12 @@ fn writes_and_reads_back(rt: HostRuntime) -> Result<(), Fail> {
         (interrogate(last), Plant, &[1, 255, 0x70, 127]),
         (connect(last, Some(1022)), Plant, &[2, 255, 0x77, 127, 126]),
         (tally(point(0, 0, 0), Some(0)), Report, &[3, 0, 0, 0, 0]),
+        (dump_ask(0, 1), Plant, &[21, 1]),
+        (dump_ask(15, 14), Plant, &[21, 0xFE]),
+        (source_names_ask(1, 2, 0), Names, &[100, 0x12, 0]),
+        (source_name_ask(0, 0, 1, 300), Names, &[101, 0, 1, 1, 44]),
+        (dest_names_ask(15, 2), Names, &[102, 0xF0, 2]),
+        (dest_name_ask(3, 0, 65535), Names, &[103, 0x30, 0, 255, 255]),
     ];
     for (message, kind, data) in rows {
         assert!(rt; message.in_range());
@@ -71,6 +110,9 @@ fn reads(rt: HostRuntime) {
         (&[2, 0, 0x88, 5, 3], Ok(connect(five, Some(3)))),
         (&[1, 0, 0x17, 5], Ok(interrogate(point(0, 0, 133)))),
         (&[3, 0, 0xFF, 127, 127], Ok(tally(point(0, 0, 1023), None))),
+        // The level of destinations that are asked for by their matrix is not looked at.
+        (&[102, 0x2F, 1], Ok(dest_names_ask(2, 1))),
+        (&[103, 0x29, 1, 0, 7], Ok(dest_name_ask(2, 1, 7))),
         // The command is looked at first, then the length, then the bytes in order.
         (&[], Err(WrongLength(0, 1))),
         (&[0], Err(UnknownCommand(0))),
@@ -86,6 +128,18 @@ fn reads(rt: HostRuntime) {
         (&[2, 0, 0, 0x85, 3], Err(BadField(3, 133))),
         (&[3, 0, 0, 127, 128], Err(BadField(4, 128))),
         (&[4, 0, 0, 255, 128], Err(BadField(3, 255))),
+        (&[23, 0], Err(UnknownCommand(23))),
+        (&[106, 0, 0], Err(UnknownCommand(106))),
+        (&[21], Err(WrongLength(1, 2))),
+        (&[21, 0, 0], Err(WrongLength(3, 2))),
+        (&[100, 0], Err(WrongLength(2, 3))),
+        (&[101, 0, 0], Err(WrongLength(3, 5))),
+        (&[102, 0, 0, 0], Err(WrongLength(4, 3))),
+        (&[103, 0, 0, 0], Err(WrongLength(4, 5))),
+        (&[100, 0, 3], Err(BadField(2, 3))),
+        (&[101, 0, 3, 0, 0], Err(BadField(2, 3))),
+        (&[102, 0, 255], Err(BadField(2, 255))),
+        (&[103, 0, 4, 0, 0], Err(BadField(2, 4))),
     ];
     for (data, wanted) in rows {
         assert_eq!(rt; Message::read(data), wanted, "of {data:?}");
@@ -104,6 +158,8 @@ fn reads_texts_alone(rt: HostRuntime) {
         &[1, 0, 8, 5],
         &[2, 0, 8, 5, 3],
         &[2, 0, 0x80, 5, 3],
+        &[102, 1, 0],
+        &[103, 0x1F, 0, 0, 0],
     ];
     for data in rows {
         assert_eq!(rt; Message::read_text(data), None, "of {data:?}");
@@ -140,8 +196,39 @@ fn knows_ranges(rt: HostRuntime) {
         (interrogate(point(16, 0, 0)), false),
         (interrogate(point(0, 16, 0)), false),
         (interrogate(point(0, 0, 1024)), false),
+        (dump_ask(15, 15), true),
+        (dump_ask(0, 16), false),
+        (source_names_ask(15, 15, 2), true),
+        (source_names_ask(0, 0, 3), false),
+        (dest_name_ask(15, 0, 65535), true),
+        (dest_name_ask(16, 0, 0), false),
     ];
     for (message, wanted) in rows {
         assert_eq!(rt; message.in_range(), wanted, "of {message:?}");
     }
+}
+
+#[test]
+fn writes_pages_of_dumps(rt: HostRuntime) -> Result<(), Fail> {
+    let mut out = Vec::with_capacity(rt.alloc(), 300)?;
+    write_dump(0, 1, 0, &[None, None, None, None], &mut out);
+    assert_eq!(rt;
+        out.as_slice(),
+        [23, 1, 4, 0, 0, 3, 255, 3, 255, 3, 255, 3, 255].as_slice()
+    );
+
+    // The last destination of the last matrix and level, behind what was written before.
+    out.clear();
+    out.push_reserved(9);
+    write_dump(15, 15, 1022, &[Some(0), Some(1022)], &mut out);
+    assert_eq!(rt;
+        out.as_slice(),
+        [9, 23, 255, 2, 3, 254, 0, 0, 3, 254].as_slice()
+    );
+
+    out.clear();
+    write_dump(0, 0, 64, &[Some(300); 64], &mut out);
+    assert_eq!(rt; out.len(), 133);
+    assert_eq!(rt; &out[..7], [23, 0, 64, 0, 64, 1, 44].as_slice());
+    Ok(())
 }

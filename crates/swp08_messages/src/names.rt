@@ -1,0 +1,100 @@
+//! The messages that ask for names, commands 100 to 103 of this project's profile: the fields that they are written with,
+//! and how their bytes are read.
+
+ghost use Rattle.std.specs.Prelude.{◌≡◌};
+ghost use Rattle.swp08_messages.specs.Row.{source_names, source_name, dest_names, dest_name};
+ghost use Rattle.swp08_messages.specs.ReadingInside.{names_message, wide_in};
+
+use crate::behind::{byte_at, level_in, matrix_in};
+use crate::field::{Field, WHOLE_PART};
+use crate::message::Message;
+use crate::row::Fields;
+
+pub(crate) const SOURCE_NAMES_ASK: u8 = 100;
+
+pub(crate) const SOURCE_NAME_ASK: u8 = 101;
+
+pub(crate) const DEST_NAMES_ASK: u8 = 102;
+
+pub(crate) const DEST_NAME_ASK: u8 = 103;
+
+/// The fields of all sources of a level.
+pub(crate) fn source_names(matrix: u8, level: u8, size: u8) -> Fields
+    ensures { result.items ≡ source_names matrix level size }
+{
+    let mut fields = Fields::new();
+    fields.push(Field::MatrixLevel(matrix, level));
+    fields.push(Field::NameSize(size));
+    fields
+}
+
+/// The fields of a source of a level.
+pub(crate) fn source_name(matrix: u8, level: u8, size: u8, number: u16) -> Fields
+    ensures { result.items ≡ source_name matrix level size number }
+{
+    let mut fields = Fields::new();
+    fields.push(Field::MatrixLevel(matrix, level));
+    fields.push(Field::NameSize(size));
+    fields.push(Field::NumberHigh(number));
+    fields.push(Field::NumberLow(number));
+    fields
+}
+
+/// The fields of all destinations of a matrix.
+pub(crate) fn dest_names(matrix: u8, size: u8) -> Fields
+    ensures { result.items ≡ dest_names matrix size }
+{
+    let mut fields = Fields::new();
+    fields.push(Field::Matrix(matrix));
+    fields.push(Field::NameSize(size));
+    fields
+}
+
+/// The fields of a destination of a matrix.
+pub(crate) fn dest_name(matrix: u8, size: u8, number: u16) -> Fields
+    ensures { result.items ≡ dest_name matrix size number }
+{
+    let mut fields = Fields::new();
+    fields.push(Field::Matrix(matrix));
+    fields.push(Field::NameSize(size));
+    fields.push(Field::NumberHigh(number));
+    fields.push(Field::NumberLow(number));
+    fields
+}
+
+/// The message of a command by the bytes behind it as they come, `None` where none of these messages has the command.
+pub(crate) fn read(command: u8, behind: &[u8]) -> Option<Message>
+    ensures { result ≡ names_message command behind.now }
+{
+    let matrix = matrix_in(behind);
+    let level = level_in(behind);
+    let size = byte_at(behind, 1);
+    let number = wide_in(behind);
+    match command {
+        SOURCE_NAMES_ASK => Some(Message::SourceNamesAsk {
+            matrix,
+            level,
+            size,
+        }),
+        SOURCE_NAME_ASK => Some(Message::SourceNameAsk {
+            matrix,
+            level,
+            size,
+            number,
+        }),
+        DEST_NAMES_ASK => Some(Message::DestNamesAsk { matrix, size }),
+        DEST_NAME_ASK => Some(Message::DestNameAsk {
+            matrix,
+            size,
+            number,
+        }),
+        _ => None,
+    }
+}
+
+// The number in two whole bytes.
+fn wide_in(behind: &[u8]) -> u16
+    ensures { result ≡ wide_in behind.now }
+{
+    u16::from(byte_at(behind, 2)) * WHOLE_PART + u16::from(byte_at(behind, 3))
+}
