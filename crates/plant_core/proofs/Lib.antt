@@ -4,5 +4,6 @@ pub mod Validity
 pub mod Changes
 pub mod Steps
 pub mod AnswerLemmas
+pub mod DumpLemmas
 pub mod NoticeLemmas
 pub mod PollLemmas

@@ -7,7 +7,7 @@ use Rattle.std.specs.Ordering.{nat_cmp}
 use Rattle.std.specs.FinSet.{contains, contains-empty}
 use Rattle.swp08_messages.specs.declared.point.Point.{Point}
 use Rattle.swp08_messages.specs.declared.message.Message.{Message}
-use Rattle.swp08_messages.specs.declared.message.Message.TheVariants.{Interrogate, Connect, Tally, Connected}
+use Rattle.swp08_messages.specs.declared.message.Message.TheVariants.{Interrogate, Connect}
 use Rattle.plant_config.specs.declared.records.Point as places
 use Rattle.plant_config.specs.declared.records.Change.{Change}
 use Rattle.plant_config.specs.Plant.{PlantData, IsPlant, dest_numbers, destinations_of}
@@ -100,8 +100,7 @@ connect-quiet state panel item at source valid not = of_change (change_of state.
 pub message-quiet : (state : State) (panel item : ℕ) (message : Message) → ((at : Point) (source : Option ℕ) → message ≡ Connect at source → ⊥) → (step state (Told panel item message)).state ≡ state
 message-quiet state panel item (Interrogate at) other = refl
 message-quiet state panel item (Connect at source) other = absurd (other at source refl)
-message-quiet state panel item (Tally at source) other = refl
-message-quiet state panel item (Connected at source) other = refl
+message-quiet state panel item message other = refl
 
 -- a panel that has a notice is in the plant
 within_has : (boards : List Board) (panel dest : ℕ) (sort : Sort) → has boards panel dest sort ≡ true → panel < length boards
@@ -197,8 +196,7 @@ keeps_notice state panel dest (Told p item (Connect at source)) of h = of_change
     of_change None = h
     of_change (Some change) =
         elim (is_idle state.crosspoints change) as (λ b. has (cond b state.boards (noticed state.boards p change.dest)) panel dest Source ≡ true) [ true ↦ h | false ↦ noticed_keeps state.boards p change.dest panel dest h ]
-keeps_notice state panel dest (Told p item (Tally at source)) of h = h
-keeps_notice state panel dest (Told p item (Connected at source)) of h = h
+keeps_notice state panel dest (Told p item message) of h = h
 keeps_notice state panel dest (Poll p item turn) of h =
     let other : panel ≢ p = λ same. of.0 item turn (ap (λ n. Poll n item turn) (sym same)) in
     ap (λ b. has_notice b dest Source) (board_other state.boards p panel (taken (board_of state.boards p)) other) ∙ h

@@ -3,7 +3,7 @@ use Rattle.std.proofs.Common.{◌≡◌, ℕ, ◌<◌, ◌≤◌, true, false, c
 use Rattle.std.proofs.lemmas.Bool.{cases_eq, cases_lt, both_ways}
 use Rattle.std.proofs.lemmas.List.{get_or_past}
 use Rattle.swp08_messages.specs.declared.message.Message.{Message}
-use Rattle.swp08_messages.specs.declared.message.Message.TheVariants.{Interrogate, Connect, Tally, Connected}
+use Rattle.swp08_messages.specs.declared.message.Message.TheVariants.{Interrogate, Connect}
 use Rattle.plant_config.specs.declared.records.Change.{Change}
 use Rattle.plant_config.specs.Plant.{destinations_of}
 use Rattle.change_boards.specs.declared.sort.Sort.{Sort}
@@ -102,8 +102,7 @@ left-step state panel (Told p item (Connect at source)) left = of_change (change
           | true ↦ left
           | false ↦ (noticed-IsHeard state.boards p change.dest).left panel ∙ left
         ]
-left-step state panel (Told p item (Tally at source)) left = left
-left-step state panel (Told p item (Connected at source)) left = left
+left-step state panel (Told p item message) left = left
 left-step state panel (Poll p item turn) left =
     left_set state.boards p panel (taken (board_of state.boards p)) (λ here. taken_left (board_of state.boards p) ∙ ap (has_left state.boards) (sym here) ∙ left) left
 left-step state panel (Leave p) left = left_set state.boards p panel abandoned (λ here. refl) left
@@ -125,8 +124,7 @@ answers_without state boards panel item (Connect at source) = go (change_of stat
     go : (change : Option Change) → (connected (record state { boards = boards }) panel at source change).answers ≡ (connected state panel at source change).answers
     go None = refl
     go (Some change) = refl
-answers_without state boards panel item (Tally at source) = refl
-answers_without state boards panel item (Connected at source) = refl
+answers_without state boards panel item message = refl
 
 pub crosspoints_without : (state : State) (boards : List Board) (panel item : ℕ) (message : Message) →
     (step (record state { boards = boards }) (Told panel item message)).state.crosspoints ≡ (step state (Told panel item message)).state.crosspoints
@@ -136,5 +134,4 @@ crosspoints_without state boards panel item (Connect at source) = go (change_of 
     go : (change : Option Change) → (connected (record state { boards = boards }) panel at source change).state.crosspoints ≡ (connected state panel at source change).state.crosspoints
     go None = refl
     go (Some change) = refl
-crosspoints_without state boards panel item (Tally at source) = refl
-crosspoints_without state boards panel item (Connected at source) = refl
+crosspoints_without state boards panel item message = refl

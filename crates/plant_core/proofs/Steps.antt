@@ -4,7 +4,7 @@ use Rattle.std.specs.Option.{option_map, option_and_then}
 use Rattle.std.specs.FinMap as finite
 use Rattle.std.specs.Ordering.{nat_cmp}
 use Rattle.swp08_messages.specs.declared.point.Point.{Point}
-use Rattle.swp08_messages.specs.declared.message.Message.TheVariants.{Interrogate, Connect, Tally, Connected}
+use Rattle.swp08_messages.specs.declared.message.Message.TheVariants.{Interrogate, Connect, Tally}
 use Rattle.plant_config.specs.declared.records.Point as places
 use Rattle.plant_config.specs.declared.records.Change.{Change}
 use Rattle.plant_config.specs.Plant.{PlantData, IsPlant}
@@ -30,8 +30,7 @@ IsValid-connected state panel at source valid =
 pub IsValid-step : (state : State) (request : Request) → IsValid state → IsValid (step state request).state
 IsValid-step state (Told panel item (Interrogate at)) valid = valid
 IsValid-step state (Told panel item (Connect at source)) valid = IsValid-connected state panel at source valid
-IsValid-step state (Told panel item (Tally at source)) valid = valid
-IsValid-step state (Told panel item (Connected at source)) valid = valid
+IsValid-step state (Told panel item message) valid = valid
 IsValid-step state (Poll panel item turn) valid = IsValid-take state panel valid
 IsValid-step state (Leave panel) valid = IsValid-leave state panel valid
 
@@ -158,8 +157,7 @@ keeps : (state : State) (place : Point) (request : Request) (stands : Option ℕ
 keeps state place (Told panel item (Interrogate at)) stands valid alone answers = answers
 keeps state place (Told panel item (Connect at source)) stands valid alone answers =
     keeps-connect state panel item place at source stands valid (λ same. alone panel item source (ap (λ (at : Point). Told panel item (Connect at source)) (sym same))) answers
-keeps state place (Told panel item (Tally at source)) stands valid alone answers = answers
-keeps state place (Told panel item (Connected at source)) stands valid alone answers = answers
+keeps state place (Told panel item message) stands valid alone answers = answers
 keeps state place (Poll panel item turn) stands valid alone answers = answers
 keeps state place (Leave panel) stands valid alone answers = answers
 
@@ -191,7 +189,6 @@ same_plant state panel at source (Some change) = refl
 pub plant-step : (state : State) (request : Request) → (step state request).state.plant ≡ state.plant
 plant-step state (Told panel item (Interrogate at)) = refl
 plant-step state (Told panel item (Connect at source)) = same_plant state panel at source (change_of state.plant at source)
-plant-step state (Told panel item (Tally at source)) = refl
-plant-step state (Told panel item (Connected at source)) = refl
+plant-step state (Told panel item message) = refl
 plant-step state (Poll panel item turn) = refl
 plant-step state (Leave panel) = refl

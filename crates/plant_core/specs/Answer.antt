@@ -1,22 +1,32 @@
 -- What may be answered, and how often.
 use Rattle.std.specs.Prelude.{◌≡◌, ℕ, ◌≤◌, max}
 use Rattle.std.specs.List.{fold}
-use Rattle.swp08_messages.specs.Text.{InRange}
+use Rattle.swp08_messages.specs.declared.message.Message.{Message}
+use Rattle.swp08_messages.specs.declared.message.Message.TheVariants.{DumpAsk}
+use Rattle.swp08_messages.specs.Text.{IsPoint, IsSource, InRange}
 use Rattle.plant_config.specs.Plant.{PlantData}
 use Rattle.plant_core.specs.declared.request.Request.{Request}
 use Rattle.plant_core.specs.declared.request.Request.TheVariants.{Told, Poll, Leave}
 use Rattle.plant_core.specs.declared.answer.Answer.{Answer}
-use Rattle.plant_core.specs.declared.answer.Answer.TheVariants.{Say}
+use Rattle.plant_core.specs.declared.answer.Answer.TheVariants.{Say, Dumped}
+use Rattle.plant_core.specs.Step.{dest_count}
 
--- An answer's message is in its ranges, so that it can be spelled.
+-- An answer's message, or what a dump tells, is in its ranges, so that it can be spelled.
 abbrev pub IsSayable : Answer → Type 0
 IsSayable (Say message) = InRange message
+IsSayable (Dumped matrix level dest source) =
+    IsPoint (record { matrix = matrix; level = level; dest = dest }) × IsSource source
 
--- A message that asks something has one answer, a poll at most one, and a leave none.
-abbrev pub IsAnswerCount : Request → ℕ → Type 0
-IsAnswerCount (Told panel item message) count = count ≡ 1
-IsAnswerCount (Poll panel item turn) count = count ≤ 1
-IsAnswerCount (Leave panel) count = count ≡ 0
+-- how many answers a message has that asks something: a dump one for each destination of its level, any other one
+abbrev pub told_count : PlantData → Message → ℕ
+told_count plant (DumpAsk matrix level) = dest_count plant matrix level
+told_count plant message = 1
+
+-- A message that asks something has its answers, a poll at most one, and a leave none.
+abbrev pub IsAnswerCount : PlantData → Request → ℕ → Type 0
+IsAnswerCount plant (Told panel item message) count = count ≡ told_count plant message
+IsAnswerCount plant (Poll panel item turn) count = count ≤ 1
+IsAnswerCount plant (Leave panel) count = count ≡ 0
 
 -- For how many answers there has to be room: 64, or the destinations of the level that has the most, if these are more.
 abbrev pub room_of : PlantData → ℕ

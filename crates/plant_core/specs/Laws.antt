@@ -1,17 +1,20 @@
 -- What is true of every state and every step, said by places and answers, without the step's cases.
-use Rattle.std.specs.Prelude.{◌≡◌, ◌≢◌, ℕ, List, [], ◌∷◌, Option, Some, IfSome, IsSome}
+use Rattle.std.specs.Prelude.{◌≡◌, ◌≢◌, ℕ, ◌≤◌, List, [], ◌∷◌, length, All, slice_get, Option, Some, None, IfSome, IsSome, IsNone}
 use Rattle.std.specs.FinMap.{get}
 use Rattle.swp08_messages.specs.declared.point.Point.{Point}
-use Rattle.swp08_messages.specs.declared.message.Message.TheVariants.{Interrogate, Connect, Tally, Connected}
-use Rattle.plant_config.specs.Plant.{PlantData}
+use Rattle.swp08_messages.specs.declared.message.Message.{Message}
+use Rattle.swp08_messages.specs.declared.message.Message.TheVariants.{Interrogate, Connect, Tally, Connected, DumpAsk}
+use Rattle.plant_config.specs.Plant.{PlantData, IsPlant}
 use Rattle.plant_config.specs.Sites.{dest_at, source_at}
+use Rattle.plant_config.specs.declared.records.Change.{Change}
 use Rattle.plant_core.specs.declared.request.Request.{Request}
-use Rattle.plant_core.specs.declared.request.Request.TheVariants.{Told}
+use Rattle.plant_core.specs.declared.request.Request.TheVariants.{Told, Poll}
 use Rattle.history_lock.specs.Step.{Stepped}
 use Rattle.plant_core.specs.declared.answer.Answer.{Answer}
-use Rattle.plant_core.specs.declared.answer.Answer.TheVariants.{Say}
-use Rattle.plant_core.specs.State.{State}
+use Rattle.plant_core.specs.declared.answer.Answer.TheVariants.{Say, Dumped}
+use Rattle.plant_core.specs.State.{State, IsValid, IsChangeOf, Fits, start, applied}
 use Rattle.plant_core.specs.Step.{step}
+use Rattle.plant_core.specs.Answer.{IsSayable, IsAnswerCount, room_of}
 
 -- Whoever interrogates a place is answered with this source, and with nothing else.
 abbrev pub AnswersWith : State → Point → Option ℕ → Type 0
@@ -37,6 +40,15 @@ pub record IsNotMade (old : State) (at : Point) (stepped : Stepped State Answer)
   pub answer : stepped.answers ≡ Say (Tally at standing) ∷ []
   pub state : stepped.state ≡ old
 
+-- A dump tells what stands: for each place of the level that is in the plant the source with which an interrogate of it
+-- is answered, at the place's number, and nothing else. Nothing changes.
+pub record IsDumped (old : State) (matrix level : ℕ) (stepped : Stepped State Answer) : Type 0 where
+  pub tells : (dest : ℕ) (source : Option ℕ) → IsSome (dest_at old.plant matrix level dest)
+      → AnswersWith old (record { matrix = matrix; level = level; dest = dest }) source
+      → slice_get stepped.answers dest ≡ Some (Dumped matrix level dest source)
+  pub no_more : (dest : ℕ) → IsNone (dest_at old.plant matrix level dest) → slice_get stepped.answers dest ≡ None
+  pub state : stepped.state ≡ old
+
 -- the state behind a list of requests
 abbrev pub after : State → List Request → State
 after state [] = state
@@ -45,3 +57,82 @@ after state (request ∷ requests) = after (step state request).state requests
 -- A request isn't a connect of this place.
 abbrev pub LeavesAlone : Point → Request → Type 0
 LeavesAlone at request = (panel item : ℕ) (source : Option ℕ) → request ≢ Told panel item (Connect at source)
+
+-- the state at the start of a plant is valid
+abbrev pub StartsAreValid : Type 0
+StartsAreValid = (plant : PlantData) → IsPlant plant → IsValid (start plant)
+
+-- a step from a valid state leaves a valid one
+abbrev pub StepsStayValid : Type 0
+StepsStayValid = (state : State) (request : Request) → IsValid state → IsValid (step state request).state
+
+-- no step changes the plant
+abbrev pub StepsKeepThePlant : Type 0
+StepsKeepThePlant = (state : State) (request : Request) → (step state request).state.plant ≡ state.plant
+
+-- changes of a valid state's plant, made as one, leave a valid state
+abbrev pub ChangesStayValid : Type 0
+ChangesStayValid = (state : State) (changes : List Change)
+    → IsValid state → All (IsChangeOf state.plant) changes
+    → IsValid (record state { crosspoints = applied state.crosspoints changes })
+
+-- a connect that may be made is made
+abbrev pub ConnectablesAreMade : Type 0
+ConnectablesAreMade = (state : State) (panel item : ℕ) (at : Point) (source : Option ℕ)
+    → IsValid state → IsConnectable state.plant at source
+    → IsMade state at source (step state (Told panel item (Connect at source)))
+
+-- every other connect isn't made
+abbrev pub OthersAreNotMade : Type 0
+OthersAreNotMade = (state : State) (panel item : ℕ) (at : Point) (source : Option ℕ)
+    → ¬ IsConnectable state.plant at source → IsNotMade state at (step state (Told panel item (Connect at source)))
+
+-- A connect that is made stands: whoever interrogates its place is answered with its source, whatever was asked meanwhile
+-- but a connect of that place.
+abbrev pub ConnectsStand : Type 0
+ConnectsStand = (state : State) (panel item : ℕ) (at : Point) (source : Option ℕ) (later : List Request)
+    → IsValid state → IsConnectable state.plant at source → All (LeavesAlone at) later
+    → (let new : State = (step state (Told panel item (Connect at source))).state in AnswersWith (after new later) at source)
+
+-- an interrogate changes nothing
+abbrev pub InterrogatesChangeNothing : Type 0
+InterrogatesChangeNothing = (state : State) (panel item : ℕ) (at : Point) → (step state (Told panel item (Interrogate at))).state ≡ state
+
+-- at the start of a plant each interrogate is answered with 'parked'
+abbrev pub StartsAnswerParked : Type 0
+StartsAnswerParked = (plant : PlantData) (at : Point) → AnswersWith (start plant) at None
+
+-- an interrogate of a place that the plant doesn't have is answered with 'parked'
+abbrev pub OutsidersAnswerParked : Type 0
+OutsidersAnswerParked = (state : State) (at : Point) → IsNone (dest_at state.plant at.matrix at.level at.dest) → AnswersWith state at None
+
+-- a dump tells what stands
+abbrev pub DumpsTellWhatStands : Type 0
+DumpsTellWhatStands = (state : State) (panel item matrix level : ℕ)
+    → IsDumped state matrix level (step state (Told panel item (DumpAsk matrix level)))
+
+-- a request that fits has as many answers as its kind may have
+abbrev pub AnswersAreFew : Type 0
+AnswersAreFew = (state : State) (request : Request) → Fits state request
+    → IsAnswerCount state.plant request (length (step state request).answers)
+
+-- a request that fits has no more answers than there has to be room for
+abbrev pub AnswersFit : Type 0
+AnswersFit = (state : State) (request : Request) → Fits state request → length (step state request).answers ≤ room_of state.plant
+
+-- in a valid state each answer to a request that fits can be said
+abbrev pub AnswersAreSayable : Type 0
+AnswersAreSayable = (state : State) (request : Request) → IsValid state → Fits state request → All IsSayable (step state request).answers
+
+-- no plant asks for room for more than 1,024 answers
+abbrev pub RoomsAreBounded : Type 0
+RoomsAreBounded = (plant : PlantData) → IsPlant plant → room_of plant ≤ 1024
+
+-- the number of a message's item has no effect
+abbrev pub ItemsHaveNoEffect : Type 0
+ItemsHaveNoEffect = (state : State) (panel item other : ℕ) (message : Message)
+    → step state (Told panel item message) ≡ step state (Told panel other message)
+
+-- a poll's numbers of items and turns have no effect
+abbrev pub PollNumbersHaveNoEffect : Type 0
+PollNumbersHaveNoEffect = (state : State) (panel item turn other later : ℕ) → step state (Poll panel item turn) ≡ step state (Poll panel other later)

@@ -7,6 +7,7 @@ pub use Rattle.change_boards.specs.Notices
 pub mod State
 pub mod RowsInside
 pub mod Answer
+pub mod AnswerInside
 pub mod Step
 pub mod Laws
 pub mod NoticeLaws

@@ -1,18 +1,20 @@
 -- What is true of the notices of every valid state, said by panels, places and answers.
-use Rattle.std.specs.Prelude.{◌≡◌, ◌≢◌, ℕ, ◌<◌, true, false, List, [], ◌∷◌, ◌++◌, length, map, All, Option, Some}
+use Rattle.std.specs.Prelude.{◌≡◌, ◌≢◌, ◌⊎◌, ℕ, ◌<◌, ◌≤◌, true, false, List, [], ◌∷◌, ◌++◌, length, take, drop, map, All, Option, Some}
 use Rattle.swp08_messages.specs.declared.point.Point.{Point}
+use Rattle.swp08_messages.specs.declared.message.Message.{Message}
+use Rattle.swp08_messages.specs.declared.message.Message.TheVariants.{Connect}
 use Rattle.plant_config.specs.Plant.{destinations_of}
 use Rattle.plant_config.specs.Sites.{dest_at}
 use Rattle.change_boards.specs.Board.{Board}
 use Rattle.change_boards.specs.Notices.{board_of, has, has_left}
-use Rattle.change_boards.specs.Laws.{Takes, notices_below}
+use Rattle.change_boards.specs.Laws.{Leaves, Takes, notices_below}
 use Rattle.change_boards.specs.declared.sort.Sort.{Sort}
 use Rattle.change_boards.specs.declared.sort.Sort.TheVariants.{Source}
 use Rattle.history_lock.specs.Step.{Stepped}
 use Rattle.plant_core.specs.declared.request.Request.{Request}
-use Rattle.plant_core.specs.declared.request.Request.TheVariants.{Poll, Leave}
+use Rattle.plant_core.specs.declared.request.Request.TheVariants.{Told, Poll, Leave}
 use Rattle.plant_core.specs.declared.answer.Answer.{Answer}
-use Rattle.plant_core.specs.State.{State}
+use Rattle.plant_core.specs.State.{State, IsValid}
 use Rattle.plant_core.specs.Step.{step, notice_of, told_at}
 use Rattle.plant_core.specs.Laws.{AnswersWith, IsConnectable, after}
 
@@ -77,3 +79,77 @@ notices_of state panel = notices_below (destinations_of state.plant) (board_of s
 pub record IsServedAlike (one other : State) (request : Request) : Type 0 where
   pub answers : (step one request).answers ≡ (step other request).answers
   pub crosspoints : (step one request).state.crosspoints ≡ (step other request).state.crosspoints
+
+-- A connect that changes a source gives notice to all other panels that haven't left, and to nobody else.
+abbrev pub ConnectsAreHeard : Type 0
+ConnectsAreHeard = (state : State) (panel item dest : ℕ) (at : Point) (source : Option ℕ)
+    → IsValid state → ChangesSource state at source → dest_at state.plant at.matrix at.level at.dest ≡ Some dest
+    → (let new : State = (step state (Told panel item (Connect at source))).state in IsHeard state.boards new.boards panel dest)
+
+-- a connect that changes no source gives no notice
+abbrev pub OthersAreQuiet : Type 0
+OthersAreQuiet = (state : State) (panel item : ℕ) (at : Point) (source : Option ℕ)
+    → IsValid state → ¬ ChangesSource state at source
+    → (step state (Told panel item (Connect at source))).state.boards ≡ state.boards
+
+-- a message that is no connect changes nothing
+abbrev pub OnlyConnectsChange : Type 0
+OnlyConnectsChange = (state : State) (panel item : ℕ) (message : Message)
+    → ((at : Point) (source : Option ℕ) → message ≢ Connect at source) → (step state (Told panel item message)).state ≡ state
+
+-- a poll of a panel that has a notice tells it of one destination
+abbrev pub PollsTell : Type 0
+PollsTell = (state : State) (panel dest item turn : ℕ)
+    → IsValid state → has state.boards panel dest Source ≡ true
+    → (first : ℕ) × IsTold state panel first (step state (Poll panel item turn))
+
+-- a poll of a panel that has no notice has no answer, and changes nothing
+abbrev pub PollsOfNoneAreSilent : Type 0
+PollsOfNoneAreSilent = (state : State) (panel item turn : ℕ)
+    → IsValid state → ((dest : ℕ) → has state.boards panel dest Source ≡ false)
+    → step state (Poll panel item turn) ≡ record { state = state; answers = [] }
+
+-- a notice stands behind each request that is neither a poll nor a leave of its panel
+abbrev pub OthersLeaveNotices : Type 0
+OthersLeaveNotices = (state : State) (panel dest : ℕ) (request : Request)
+    → IsNoPollOrLeave panel request → has state.boards panel dest Source ≡ true
+    → has (step state request).state.boards panel dest Source ≡ true
+
+-- whatever is asked, a notice of a panel that remains stands, or the panel was told
+abbrev pub NoticesStandUntilTold : Type 0
+NoticesStandUntilTold = (state : State) (panel dest : ℕ) (later : List Request)
+    → IsValid state → has state.boards panel dest Source ≡ true → Remains panel later
+    → (has (after state later).boards panel dest Source ≡ true) ⊎ IsToldAmong state panel dest later
+
+-- polls of a panel, no more than it has notices, tell it of these in their order
+abbrev pub PollsTellInOrder : Type 0
+PollsTellInOrder = (state : State) (panel : ℕ) (numbers : List (ℕ × ℕ))
+    → IsValid state → panel < length state.plant.panels → length numbers ≤ length (notices_of state panel)
+    → answers_of state (polls_of panel numbers) ≡ told_for state (take (length numbers) (notices_of state panel))
+
+-- so many polls of a panel leave it all but so many of its notices, the first
+abbrev pub PollsLeaveTheRest : Type 0
+PollsLeaveTheRest = (state : State) (panel : ℕ) (numbers : List (ℕ × ℕ))
+    → IsValid state → panel < length state.plant.panels
+    → notices_of (after state (polls_of panel numbers)) panel ≡ drop (length numbers) (notices_of state panel)
+
+-- a leave takes its panel's notices, and changes nothing of another panel
+abbrev pub LeavesAreHeeded : Type 0
+LeavesAreHeeded = (state : State) (panel : ℕ)
+    → panel < length state.boards → Leaves state.boards (step state (Leave panel)).state.boards panel
+
+-- whoever has left has left whatever is asked
+abbrev pub LeaversStayAway : Type 0
+LeaversStayAway = (state : State) (panel : ℕ) (later : List Request)
+    → has_left state.boards panel ≡ true → has_left (after state later).boards panel ≡ true
+
+-- a poll of a panel that has left has no answer, and changes nothing
+abbrev pub LeaversHearNothing : Type 0
+LeaversHearNothing = (state : State) (panel item turn : ℕ)
+    → IsValid state → has_left state.boards panel ≡ true
+    → step state (Poll panel item turn) ≡ record { state = state; answers = [] }
+
+-- what a panel tells is served alike before and behind any panel's leave
+abbrev pub LeaversAreServed : Type 0
+LeaversAreServed = (state : State) (leaver panel item : ℕ) (message : Message)
+    → IsServedAlike (step state (Leave leaver)).state state (Told panel item message)

@@ -1,7 +1,8 @@
 -- How a state is kept: the crosspoints as a list of rows.
 use Rattle.std.specs.Prelude.{◌≡◌, ℕ, ◌<◌, nat_eq, List, All, map, Option, Some, None, refl}
 use Rattle.std.specs.List.{IsDistinct}
-use Rattle.std.specs.FinMap.{from_entries, insert, remove}
+use Rattle.std.specs.Ordering.{nat_cmp}
+use Rattle.std.specs.FinMap.{code, from_entries, insert, remove}
 use Rattle.std.specs.Coded.{Coded, code_by, coded×, coded_ℕ, coded_option}
 use Rattle.plant_config.specs.Plant.{PlantData, destinations_of}
 use Rattle.change_boards.specs.Board.{Board}
@@ -11,6 +12,10 @@ use Rattle.plant_core.specs.State.{Spot, Crosspoints, State, IsValid}
 -- a spot is stored as the pair of its fields
 abbrev pub spot_code : Coded Spot
 spot_code = code_by (ℕ × Option ℕ) (coded× coded_ℕ (coded_option coded_ℕ)) (λ spot. (spot.source, spot.tie)) (λ pair. record { source = pair.0; tie = pair.1 }) (λ _. refl)
+
+-- crosspoints are stored as the list of their entries
+abbrev pub crosspoints_code : Coded Crosspoints
+crosspoints_code = code {R = nat_cmp} coded_ℕ spot_code
 
 -- what rows say, and for how many destinations there is room
 pub record Kept : Type 0 where

@@ -1,11 +1,12 @@
 -- What an event does to the state, and how it is answered.
 use Rattle.std.specs.Prelude.{ℕ, if◌then◌else◌, List, [], ◌∷◌, map, slice_set, Option, Some, None}
-use Rattle.std.specs.Option.{option_map, option_and_then, option_to_list}
+use Rattle.std.specs.List.{range_with_len}
+use Rattle.std.specs.Option.{option_map, option_map_or, option_and_then, option_to_list}
 use Rattle.swp08_messages.specs.declared.point.Point.{Point}
 use Rattle.swp08_messages.specs.declared.message.Message.{Message}
-use Rattle.swp08_messages.specs.declared.message.Message.TheVariants.{Interrogate, Connect, Tally, Connected}
+use Rattle.swp08_messages.specs.declared.message.Message.TheVariants.{Interrogate, Connect, Tally, Connected, DumpAsk}
 use Rattle.plant_config.specs.Plant.{PlantData}
-use Rattle.plant_config.specs.Sites.{dest_at, source_at, point_of}
+use Rattle.plant_config.specs.Sites.{dest_at, source_at, level_at, point_of}
 use Rattle.plant_config.specs.declared.records.Change.{Change}
 use Rattle.plant_config.specs.declared.records.Point as places
 use Rattle.change_boards.specs.Board.{Board, marked, next}
@@ -16,7 +17,7 @@ use Rattle.history_lock.specs.Step.{Stepped}
 use Rattle.plant_core.specs.declared.request.Request.{Request}
 use Rattle.plant_core.specs.declared.request.Request.TheVariants.{Told, Poll, Leave}
 use Rattle.plant_core.specs.declared.answer.Answer.{Answer}
-use Rattle.plant_core.specs.declared.answer.Answer.TheVariants.{Say}
+use Rattle.plant_core.specs.declared.answer.Answer.TheVariants.{Say, Dumped}
 use Rattle.plant_core.specs.State.{State, standing, is_idle, applied}
 
 -- this is the state, and this is answered
@@ -53,12 +54,27 @@ abbrev pub connected : State → ℕ → Point → Option ℕ → Option Change 
 connected state panel at source None = says state (Tally at (standing state at))
 connected state panel at source (Some change) = says (changed state panel change) (Connected at source)
 
--- what a message of a panel does. A report does nothing, and isn't answered.
+-- how many destinations a level has, none where the plant has no such level
+abbrev pub dest_count : PlantData → ℕ → ℕ → ℕ
+dest_count plant matrix level = option_map_or (λ at. at.destinations) (level_at plant matrix level) 0
+
+-- what a dump tells of a place: the source that stands there
+abbrev pub dumped_at : State → Point → Answer
+dumped_at state at = Dumped at.matrix at.level at.dest (standing state at)
+
+-- The answers to a dump: each destination of the level, in order.
+abbrev pub dumped : State → ℕ → ℕ → List Answer
+dumped state matrix level =
+    map (λ dest. dumped_at state (record { matrix = matrix; level = level; dest = dest }))
+    (range_with_len 0 (dest_count state.plant matrix level))
+
+-- What a message of a panel does. Neither a report nor one that asks for names does anything, and none of these is
+-- answered here.
 abbrev pub answered : State → ℕ → Message → Stepped State Answer
 answered state panel (Interrogate at) = says state (Tally at (standing state at))
 answered state panel (Connect at source) = connected state panel at source (change_of state.plant at source)
-answered state panel (Tally at source) = record { state = state; answers = [] }
-answered state panel (Connected at source) = record { state = state; answers = [] }
+answered state panel (DumpAsk matrix level) = record { state = state; answers = dumped state matrix level }
+answered state panel message = record { state = state; answers = [] }
 
 -- a plant's place as messages have it
 abbrev pub message_place : places.Point → Point

@@ -4,6 +4,7 @@
 #![tactic(auto)]
 
 mod answer;
+mod dump;
 #[cfg(test)]
 mod example;
 mod laws;
@@ -19,8 +20,8 @@ mod tests;
 
 pub use answer::Answer;
 pub use laws::{
-    answers_are_few, connects_are_made, connects_stand, interrogates_only_ask,
-    numbers_have_no_effect, states_stay_valid,
+    answers_are_few, connects_are_made, connects_stand, dumps_tell_what_stands,
+    interrogates_only_ask, numbers_have_no_effect, states_stay_valid,
 };
 pub use notice_laws::{
     connects_give_notice, notices_stand_until_told, polls_go_in_order, polls_tell_one_notice,

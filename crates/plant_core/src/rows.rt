@@ -24,16 +24,17 @@ pub(crate) struct Rows {
 
 impl Model for Rows {
     ghost use Rattle.std.specs.Prelude.{vec_capacity};
-    ghost use Rattle.std.specs.Ordering.{nat_cmp};
-    ghost use Rattle.std.specs.FinMap as finite;
-    ghost use Rattle.std.specs.Coded.{codes, coded_ℕ};
-    ghost use Rattle.plant_core.specs.RowsInside.{Kept, AreRows, crosspoints_of, spot_code};
+    ghost use Rattle.std.specs.Coded.{codes};
+    ghost use Rattle.plant_core.specs.RowsInside.{Kept, AreRows, crosspoints_of, crosspoints_code};
 
     ghost Value = { Kept };
 
-    ghost coded = { Prim.hlevel (codes, finite.code {R = nat_cmp} coded_ℕ spot_code) };
+    ghost coded = { Prim.hlevel (codes, crosspoints_code) };
 
-    ghost view = { λ rows. record { crosspoints = crosspoints_of rows.rows.items; room = vec_capacity rows.rows } };
+    ghost view = { λ rows. record {
+      crosspoints = crosspoints_of rows.rows.items;
+      room = vec_capacity rows.rows;
+    } };
 
     ghost invariant = { λ rows. AreRows rows.rows.items (vec_capacity rows.rows) };
 }

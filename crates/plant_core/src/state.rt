@@ -1,6 +1,6 @@
 //! A plant and what stands in it, and its step.
 
-ghost use Rattle.std.specs.Prelude.{◌≡◌, ◌<◌, ◌≤◌, [], ◌∷◌, length, All, Some, IfOk, IfSome};
+ghost use Rattle.std.specs.Prelude.{◌≡◌, ◌<◌, ◌≤◌, [], length, All, Some, IfOk, IfSome};
 ghost use Rattle.std.specs.Option.{option_to_list};
 ghost use Rattle.swp08_messages.specs.Text.{kind_of};
 ghost use Rattle.swp08_messages.specs.declared.message.Message.TheVariants.{Connect, Tally};
@@ -12,7 +12,7 @@ ghost use Rattle.change_boards.specs.Notices.{board_of, with_leave, with_take};
 ghost use Rattle.plant_core.specs.State.{start, source_of, standing, is_idle, Fits, IsValid, IsChangeOf};
 ghost use Rattle.plant_core.specs.Step.{step, answered, changed, change_of, noticed, notice_of, poll_answers, wanted, with_change};
 ghost use Rattle.plant_core.specs.Answer.{IsSayable, IsAnswerCount, room_of};
-ghost use Rattle.plant_core.specs.declared.answer.Answer.TheVariants.{Say};
+ghost use Rattle.plant_core.specs.AnswerInside.{SaysJust};
 
 use crate::answer::Answer;
 use crate::notify::notify;
@@ -35,16 +35,14 @@ pub struct PlantState {
 }
 
 impl Model for PlantState {
-    ghost use Rattle.std.specs.Ordering.{nat_cmp};
-    ghost use Rattle.std.specs.FinMap as finite;
-    ghost use Rattle.std.specs.Coded.{codes, coded_ℕ};
+    ghost use Rattle.std.specs.Coded.{codes};
     ghost use Rattle.change_boards.specs.Board as board;
     ghost use Rattle.plant_core.specs.State.{State};
-    ghost use Rattle.plant_core.specs.RowsInside.{state_of, IsKept, spot_code};
+    ghost use Rattle.plant_core.specs.RowsInside.{state_of, IsKept, crosspoints_code};
 
     ghost Value = { State };
 
-    ghost coded = { Prim.hlevel (codes, board.code, finite.code {R = nat_cmp} coded_ℕ spot_code) };
+    ghost coded = { Prim.hlevel (codes, board.code, crosspoints_code) };
 
     ghost view = { λ state. state_of state.plant state.rows state.notices };
 
@@ -85,7 +83,8 @@ impl PlantState {
 
     // The plant.
     pub(crate) fn plant(&self) -> &Plant
-        ensures { result.now ≡ self.now.plant }
+        ensures plant { result.now ≡ self.now.plant }
+        ensures valid { IsValid self.now }
     {
         &self.plant
     }
@@ -108,7 +107,7 @@ impl PlantState {
 
     // The source that stands at a place, by its number in its level. `None` where the place is parked or isn't in the
     // plant.
-    fn standing(&self, at: Point) -> Option<u16>
+    pub(crate) fn standing(&self, at: Point) -> Option<u16>
         ensures source { result ≡ standing self.now at }
         ensures valid { IsValid self.now }
     {
@@ -136,15 +135,13 @@ impl PlantState {
         requires places { room_of self.old.plant ≤ out.old.places }
         ensures state { self.new ≡ (step self.old request.now).state }
         ensures answers { out.new.items ≡ (step self.old request.now).answers }
-        ensures count { IsAnswerCount request.now (length out.new.items) }
+        ensures count { IsAnswerCount self.old.plant request.now (length out.new.items) }
         ensures sayable { All IsSayable out.new.items }
         ensures places { out.new.places ≡ out.old.places }
         ensures plant { self.new.plant ≡ self.old.plant }
     {
         match *request {
-            Request::Told { panel, message, .. } => {
-                out.put(Answer::Say(self.answer_to(panel, message)));
-            }
+            Request::Told { panel, message, .. } => self.answer(panel, message, out),
             Request::Poll { panel, .. } => {
                 if let Some(answer) = self.poll(panel) {
                     out.put(answer);
@@ -154,24 +151,31 @@ impl PlantState {
         }
     }
 
-    // What a message does, and its answer.
-    fn answer_to(&mut self, panel: PanelNo, message: Message) -> Message
+    // What a message does, and its answers.
+    #[tactic(auto, using(crate::proofs::AnswerLemmas::room_some))]
+    fn answer(&mut self, panel: PanelNo, message: Message, out: &mut OutBox<Answer>)
         requires asks { kind_of message ≡ kinds.Plant }
+        requires empty { out.old.items ≡ [] }
+        requires places { room_of self.old.plant ≤ out.old.places }
         ensures state { self.new ≡ (answered self.old panel message).state }
-        ensures answer { (answered self.old panel message).answers ≡ Say result ∷ [] }
+        ensures answers { out.new.items ≡ (answered self.old panel message).answers }
+        ensures places { out.new.places ≡ out.old.places }
         ensures valid { IsValid self.old }
     {
         match message {
-            Message::Interrogate { at } => self.tally(at),
-            Message::Connect { at, source } => self.connect(panel, at, source),
-            Message::Tally { .. } | Message::Connected { .. } => unreachable!(),
+            Message::Interrogate { at } => out.put(Answer::Say(self.tally(at))),
+            Message::Connect { at, source } => {
+                out.put(Answer::Say(self.connect(panel, at, source)));
+            }
+            Message::DumpAsk { matrix, level } => self.dump(matrix, level, out),
+            _ => unreachable!(),
         }
     }
 
     // Makes a connect where it is in range, and answers so; else answers with the source that stands.
     fn connect(&mut self, panel: PanelNo, at: Point, source: Option<u16>) -> Message
         ensures state { self.new ≡ (answered self.old panel (Connect at source)).state }
-        ensures answer { (answered self.old panel (Connect at source)).answers ≡ Say result ∷ [] }
+        ensures answer { SaysJust (answered self.old panel (Connect at source)) result }
         ensures valid { IsValid self.old }
     {
         match self.change(at, source) {

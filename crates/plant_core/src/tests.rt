@@ -3,6 +3,7 @@
 ghost use Rattle.std.specs.Prelude.{◌≤◌};
 ghost use Rattle.plant_core.specs.Answer.{room_of};
 
+mod dumps;
 mod shared;
 
 use crate::{Answer, PlantState, Request};
@@ -257,6 +258,11 @@ fn panels_of_the_plant_ask_what_a_plant_answers(rt: HostRuntime) -> Result<(), F
     assert!(rt; state.fits(&told(1, Message::Connect { at, source })));
     assert!(rt; state.fits(&poll(1)));
     assert!(rt; state.fits(&leaves(1).0));
+
+    let (matrix, level) = (15, 15);
+    assert!(rt; state.fits(&told(1, Message::DumpAsk { matrix, level })));
+    assert!(rt; !state.fits(&told(1, Message::DumpAsk { matrix, level: 16 })));
+    assert!(rt; !state.fits(&told(1, Message::DestNamesAsk { matrix, size: 0 })));
 
     assert!(rt; !state.fits(&told(2, Message::Interrogate { at })));
     assert!(rt; !state.fits(&poll(2)));

@@ -1,0 +1,69 @@
+//! What a dump of a level is answered.
+
+ghost use Rattle.std.specs.Prelude.{◌≡◌, ◌<◌, ◌≤◌, ◌==◌, ◌&&◌, [], ◌∷◌, ◌++◌, length, find};
+ghost use Rattle.plant_core.specs.State.{IsValid};
+ghost use Rattle.plant_core.specs.Step.{dest_count, dumped, dumped_at};
+ghost use Rattle.plant_core.specs.Answer.{room_of};
+
+use crate::answer::Answer;
+use crate::state::PlantState;
+use history_lock::OutBox;
+use plant_config::Level;
+use swp08_messages::Point;
+
+impl PlantState {
+    // Tells each destination of a level, in order, with the source that stands there.
+    pub(crate) fn dump(&self, matrix: u8, level: u8, out: &mut OutBox<Answer>)
+        requires empty { out.old.items ≡ [] }
+        requires places { room_of self.now.plant ≤ out.old.places }
+        ensures answers { out.new.items ≡ dumped self.now matrix level }
+        ensures places { out.new.places ≡ out.old.places }
+        ensures valid { IsValid self.now }
+    {
+        for dest in 0..self.dest_count(matrix, level) {
+            let at = Point {
+                matrix,
+                level,
+                dest,
+            };
+            self.tell(at, out);
+        }
+    }
+
+    // Tells a destination with the source that stands there.
+    fn tell(&self, at: Point, out: &mut OutBox<Answer>)
+        requires { length out.old.items < out.old.places }
+        ensures items { out.new.items ≡ out.old.items ++ dumped_at self.now at ∷ [] }
+        ensures places { out.new.places ≡ out.old.places }
+    {
+        let source = self.standing(at);
+        out.put(Answer::Dumped {
+            matrix: at.matrix,
+            level: at.level,
+            dest: at.dest,
+            source,
+        });
+    }
+
+    // How many destinations a level has, none where the plant has no such level.
+    fn dest_count(&self, matrix: u8, level: u8) -> u16
+        ensures count { result ≡ dest_count self.now.plant matrix level }
+        ensures within { result ≤ room_of self.now.plant }
+        ensures valid { IsValid self.now }
+    {
+        match level_at(self.plant().levels(), matrix, level) {
+            Some(at) => at.destinations as u16,
+            None => 0,
+        }
+    }
+}
+
+// The level of this matrix and this level number.
+fn level_at(levels: &[Level], matrix: u8, level: u8) -> Option<Level>
+    ensures { result ≡ find (λ at. at.matrix == matrix && at.level == level) levels.now }
+{
+    levels
+        .iter()
+        .copied()
+        .find(|at| at.matrix == matrix && at.level == level)
+}
