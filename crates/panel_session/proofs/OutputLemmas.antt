@@ -7,7 +7,7 @@ use Rattle.dle_framing.specs.Numbers.{ack, nak}
 use Rattle.dle_framing.specs.Frame.{frame}
 use Rattle.swp08_messages.specs.Text.{text}
 use Rattle.plant_core.specs.declared.answer.Answer.{Answer}
-use Rattle.plant_core.specs.declared.answer.Answer.TheVariants.{Say}
+use Rattle.plant_core.specs.declared.answer.Answer.TheVariants.{Say, Dumped}
 use Rattle.panel_session.specs.declared.asked.Asked.{Asked}
 use Rattle.panel_session.specs.declared.asked.Asked.TheVariants.{Nothing, Repeat, Refused, Noted, Sent}
 use Rattle.panel_session.specs.Entry.{PlantEntry}
@@ -81,6 +81,7 @@ with_frames-append (sent ∷ one) other output = with_frames-append one other (w
 pub frames_of-append : (one other : List Answer) → frames_of (one ++ other) ≡ frames_of one ++ frames_of other
 frames_of-append [] other = refl
 frames_of-append (Say message ∷ one) other = ap (λ (frames : List (List ℕ)). frame (text message) ∷ frames) (frames_of-append one other)
+frames_of-append (Dumped matrix level dest source ∷ one) other = frames_of-append one other
 
 -- the polls made behind an item, where others are among them
 same_polls : (item : ℕ) (entries others : List PlantEntry) (output : Output) → polled_at item others ≡ polled_at item entries → with_polls item others output ≡ with_polls item entries output

@@ -18,5 +18,6 @@ pub mod Acting
 pub mod ReadingInside
 pub mod Lending
 pub mod Run
+pub mod Laws
 pub mod RunInside
 pub mod SettledInside

@@ -11,7 +11,7 @@ use Rattle.panel_session.specs.declared.session.Session.{Session}
 use Rattle.panel_session.specs.declared.stage.Stage.{Stage}
 use Rattle.panel_session.specs.declared.stage.Stage.TheVariants.{Read, Tell, Poll as PollStage, End}
 use Rattle.panel_session.specs.MostAnswers.{most_answers}
-use Rattle.panel_session.specs.SoFar.{Past, read_so_far, with_entry}
+use Rattle.panel_session.specs.SoFar.{Past, nothing_yet, read_so_far, with_entry}
 use Rattle.panel_session.specs.StandsInside.{Kept, Keeps}
 use Rattle.panel_session.specs.Counted.{goods_of, bads_of}
 
@@ -74,3 +74,14 @@ abbrev pub TakesAnswers : Session → Request → List Answer → Session → Ty
 TakesAnswers before request answers after =
     (plant : PlantData) (panel seat : ℕ) (past : Past) → Awaits plant panel before past request
     → StandsFor plant panel after (with_entry (record { seat = seat; request = request; answers = answers }) past)
+
+-- A session that stood for some past stands for nothing yet, as a new one of its panel.
+abbrev pub BeginsAnew : Session → Session → Type 0
+BeginsAnew before after =
+    (plant : PlantData) (panel : ℕ) (past : Past) → StandsFor plant panel before past → StandsFor plant panel after nothing_yet
+
+-- So does one that awaited the answers to some request.
+abbrev pub BeginsAnewUnanswered : Session → Session → Type 0
+BeginsAnewUnanswered before after =
+    (plant : PlantData) (panel : ℕ) (past : Past) (request : Request)
+    → Awaits plant panel before past request → StandsFor plant panel after nothing_yet

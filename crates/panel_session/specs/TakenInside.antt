@@ -1,5 +1,5 @@
 -- What an item makes a session do.
-use Rattle.std.specs.Prelude.{ℕ, List, []}
+use Rattle.std.specs.Prelude.{◌≡◌, ℕ, List, []}
 use Rattle.dle_framing.specs.Numbers.{ack, nak}
 use Rattle.panel_session.specs.declared.asked.Asked.{Asked}
 use Rattle.panel_session.specs.declared.asked.Asked.TheVariants.{Nothing, Repeat, Refused, Noted, Sent}
@@ -23,6 +23,10 @@ sent_by Repeat output = (repeated (emptied output)).bytes
 sent_by Refused output = nak
 sent_by Noted output = ack
 sent_by (Sent message) output = ack
+
+-- what is to be sent next is what is sent for the item
+abbrev pub IsSending : Asked → Output → Output → Type 0
+IsSending asked before after = after.bytes ≡ sent_by asked before
 
 -- what comes next
 abbrev pub taken_stage : Asked → Stage

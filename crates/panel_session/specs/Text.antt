@@ -10,16 +10,17 @@ use Rattle.plant_config.specs.Plant.{PlantData}
 use Rattle.plant_core.specs.declared.request.Request.{Request}
 use Rattle.plant_core.specs.declared.request.Request.TheVariants.{Told, Poll, Leave}
 use Rattle.plant_core.specs.declared.answer.Answer.{Answer}
-use Rattle.plant_core.specs.declared.answer.Answer.TheVariants.{Say}
+use Rattle.plant_core.specs.declared.answer.Answer.TheVariants.{Say, Dumped}
 use Rattle.panel_session.specs.Entry.{PlantEntry}
 use Rattle.panel_session.specs.declared.asked.Asked.{Asked}
 use Rattle.panel_session.specs.declared.asked.Asked.TheVariants.{Nothing, Repeat, Refused, Noted, Sent}
 use Rattle.panel_session.specs.Asked.{AllAsk}
 
--- the message frames of answers, in order
+-- The message frames of answers, in order. What a dump tells is not sent yet.
 abbrev pub frames_of : List Answer → List (List ℕ)
 frames_of [] = []
 frames_of (Say message ∷ others) = frame (text message) ∷ frames_of others
+frames_of (Dumped matrix level dest source ∷ others) = frames_of others
 
 -- What was sent so far: the bytes, the last message frame that was newly sent, and how often it was sent again.
 pub record Output : Type 0 where

@@ -61,6 +61,6 @@ fn asked_by_good(carried: &[u8]) -> Asked
     };
     match message.kind() {
         MessageKind::Plant => Asked::Sent(message),
-        MessageKind::Report => Asked::Noted,
+        MessageKind::Report | MessageKind::Names => Asked::Noted,
     }
 }

@@ -1,8 +1,7 @@
 //! The bytes that a session sends next, and the frame that it may send again.
 
-ghost use Rattle.std.specs.Prelude.{◌≡◌, ◌≢◌, ◌≤◌, ◌*◌, true, false, IfOk, [], ◌++◌, length, All, None, vec_len, vec_capacity, ◌+◌};
+ghost use Rattle.std.specs.Prelude.{◌≡◌, ◌≢◌, ◌≤◌, ◌*◌, true, false, IfOk, [], ◌∷◌, ◌++◌, length, All, None, vec_len, vec_capacity, ◌+◌};
 ghost use Rattle.dle_framing.specs.Numbers.{ack, nak};
-ghost use Rattle.plant_core.specs.declared.answer.Answer.TheVariants.{Say};
 ghost use Rattle.plant_core.specs.Answer.{IsSayable};
 ghost use Rattle.swp08_messages.specs.Text.{InRange, text};
 ghost use Rattle.dle_framing.specs.Frame.{frame};
@@ -119,9 +118,23 @@ impl Outgoing {
     {
         self.bytes.clear();
         for answer in answers {
-            self.say(message_of(answer));
+            self.send(answer);
         }
-        !answers.is_empty()
+        !self.bytes.is_empty()
+    }
+
+    // The frames of this answer are to be sent too. What a dump tells is not sent yet.
+    fn send(&mut self, answer: &Answer)
+        requires sayable { IsSayable answer.now }
+        requires room { length self.old.bytes + most_message_frame
+            ≤ most_answers * most_message_frame }
+        ensures output { self.new ≡ with_frames (frames_of (answer.now ∷ [])) self.old }
+        ensures most { length self.new.bytes ≤ length self.old.bytes + most_message_frame }
+    {
+        match answer {
+            Answer::Say(message) => self.say(*message),
+            Answer::Dumped { .. } => {}
+        }
     }
 
     // The frame of this message is to be sent too.
@@ -142,14 +155,6 @@ impl Outgoing {
         append(bytes, last);
         *repeats = 0;
     }
-}
-
-// The message of an answer.
-fn message_of(answer: &Answer) -> Message
-    ensures { Say result ≡ answer.now }
-{
-    let Answer::Say(message) = answer;
-    *message
 }
 
 // The frame of a message, and its DATA, in place of what there was.

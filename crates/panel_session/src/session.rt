@@ -1,6 +1,6 @@
 //! The session of one panel.
 
-ghost use Rattle.std.specs.Prelude.{◌≡◌, ◌≢◌, ℕ, ◌+◌, ◌-◌, ◌*◌, ◌^◌, ◌<◌, ◌≤◌, true, false, [], ◌++◌, length, take, All, IfOk};
+ghost use Rattle.std.specs.Prelude.{◌≡◌, ◌≢◌, ℕ, ◌-◌, ◌^◌, ◌<◌, ◌≤◌, true, false, [], ◌++◌, length, take, All, IfOk};
 ghost use Rattle.std.specs.Borrow.{sem};
 ghost use Rattle.plant_config.specs.Plant.{PlantData};
 ghost use Rattle.plant_core.specs.declared.request.Request.{Request};
@@ -8,7 +8,7 @@ ghost use Rattle.plant_core.specs.Answer.{IsSayable};
 ghost use Rattle.plant_core.specs.declared.request.Request.TheVariants.{Told, Poll};
 ghost use Rattle.panel_session.specs.SoFar.{Past, nothing_yet};
 ghost use Rattle.panel_session.specs.MostAnswers.{most_answers};
-ghost use Rattle.panel_session.specs.TakenInside.{sent_by};
+ghost use Rattle.panel_session.specs.TakenInside.{IsSending, sent_by};
 
 use crate::act::Act;
 use crate::asked::{Asked, next_asked};
@@ -45,11 +45,12 @@ impl<'p> Session<'p> {
     ghost use Rattle.panel_session.specs.Acting.{ActsOn};
     ghost use Rattle.panel_session.specs.Counted.{AreCounts};
     ghost use Rattle.panel_session.specs.Lending.{LendsOutbox};
-    ghost use Rattle.panel_session.specs.CallsLeft.{calls_left, stage_left, IsNearer, Leaves};
+    ghost use Rattle.panel_session.specs.CallsLeft.{stage_left, IsNearer, LeavesLess};
     ghost use Rattle.panel_session.specs.declared.stage.Stage.TheVariants.{Read};
     ghost use Rattle.panel_session.specs.MovesInside.{took, took_answers, ended_turn};
     ghost use Rattle.panel_session.specs.ReadingInside.{ReadsOn, HasReadOn};
     ghost use Rattle.panel_session.specs.Session.{outgoing_of, outbox_of, StandsFor, Awaits, TakesAnswers};
+    ghost use Rattle.panel_session.specs.Session.{BeginsAnew, BeginsAnewUnanswered};
 
     /// A session of a panel of the plant, to which nothing was sent.
     pub fn start(alloc: Global, plant: &'p Plant, panel: PanelNo) -> Result<Session<'p>, AllocError>
@@ -77,11 +78,8 @@ impl<'p> Session<'p> {
 
     /// Makes it as a new one of the same panel.
     pub fn reset(&mut self)
-        ensures stood { (plant : PlantData) (panel : ℕ) (past : Past)
-            → StandsFor plant panel self.old past → StandsFor plant panel self.new nothing_yet }
-        ensures awaited { (plant : PlantData) (panel : ℕ) (past : Past) (request : Request)
-            → Awaits plant panel self.old past request
-            → StandsFor plant panel self.new nothing_yet }
+        ensures stood { BeginsAnew self.old self.new }
+        ensures awaited { BeginsAnewUnanswered self.old self.new }
     {
         self.framer.reset();
         self.stage = Stage::Read;
@@ -99,16 +97,20 @@ impl<'p> Session<'p> {
 
     /// Its panel.
     pub fn panel(&self) -> PanelNo
-        ensures { (plant : PlantData) (panel : ℕ) (past : Past)
+        ensures stood { (plant : PlantData) (panel : ℕ) (past : Past)
             → StandsFor plant panel self.now past → result ≡ panel }
+        ensures awaited { (plant : PlantData) (panel : ℕ) (past : Past) (request : Request)
+            → Awaits plant panel self.now past request → result ≡ panel }
     {
         self.panel
     }
 
     /// What came since the start or the last reset.
     pub fn counts(&self) -> Counts
-        ensures { (plant : PlantData) (panel : ℕ) (past : Past)
+        ensures stood { (plant : PlantData) (panel : ℕ) (past : Past)
             → StandsFor plant panel self.now past → AreCounts past result }
+        ensures awaited { (plant : PlantData) (panel : ℕ) (past : Past) (request : Request)
+            → Awaits plant panel self.now past request → AreCounts past result }
     {
         self.counts
     }
@@ -133,8 +135,7 @@ impl<'p> Session<'p> {
     pub fn act(&mut self, piece: &[u8]) -> (usize, Act)
         ensures within { result.0 ≤ length piece.now }
         ensures acts { ActsOn self.old piece.now result.0 result.1 self.new }
-        ensures ends { Leaves result.1 (4 * length piece.now + calls_left self.old)
-            (4 * (length piece.now - result.0) + calls_left self.new) }
+        ensures ends { LeavesLess self.old (length piece.now) result.0 result.1 self.new }
     {
         if self.unsent {
             self.unsent = false;
@@ -178,8 +179,7 @@ impl<'p> Session<'p> {
         ensures within { result.0 ≤ length piece.now }
         ensures acts { ReadsOn self.old piece.now result.0 result.1 self.new }
         ensures ends { self.old.stage ≡ Read
-            → Leaves result.1 (4 * length piece.now + calls_left self.old)
-            (4 * (length piece.now - result.0) + calls_left self.new) }
+            → LeavesLess self.old (length piece.now) result.0 result.1 self.new }
     {
         let mut used = 0;
         while used < piece.len() {
@@ -214,7 +214,7 @@ impl<'p> Session<'p> {
     fn take(&mut self, asked: Asked) -> bool
         ensures session { self.new ≡ took asked self.old }
         ensures some { result ≡ true → sent_by asked self.old.outgoing ≢ [] }
-        ensures bytes { result ≡ true → self.new.outgoing.bytes ≡ sent_by asked self.old.outgoing }
+        ensures bytes { result ≡ true → IsSending asked self.old.outgoing self.new.outgoing }
         ensures none { result ≡ false → sent_by asked self.old.outgoing ≡ [] }
         ensures quiet { result ≡ false → self.new.stage ≡ self.old.stage }
     {

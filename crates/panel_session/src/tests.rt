@@ -125,6 +125,9 @@ const FRAMES: &[Line] = &[
     (0, "10 02 07 01 F8 10 03", "10 06"),
     (0, "10 02 02 00 00 05 04 F5 10 03", "10 06"),
     (0, PARKED_5, "10 06"),
+    // What asks for a dump or for names is acknowledged.
+    (0, "10 02 15 00 02 E9 10 03", "10 06"),
+    (0, "10 02 64 00 01 03 98 10 03", "10 06"),
     // Noise, ACKs and idle turns are answered by nothing.
     (0, "00 10 41 10 06 10 06", ""),
     (0, "", ""),

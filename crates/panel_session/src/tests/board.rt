@@ -33,7 +33,7 @@ impl Board {
         }
     }
 
-    pub(super) fn told(&mut self, panel: usize, message: Message) -> Message {
+    pub(super) fn told(&mut self, panel: usize, message: Message) -> Option<Message> {
         match message {
             Message::Connect { at, source } if at.matrix == 0 && at.level == 0 && at.dest < 32 => {
                 let dest = at.dest as usize;
@@ -41,15 +41,17 @@ impl Board {
                     self.sources[dest] = source;
                     self.waiting[1 - panel.min(1)][dest] = true;
                 }
-                Message::Connected { at, source }
+                Some(Message::Connected { at, source })
             }
-            Message::Interrogate { at }
-            | Message::Connect { at, .. }
-            | Message::Tally { at, .. }
-            | Message::Connected { at, .. } => Message::Tally {
-                at,
-                source: self.source(at),
-            },
+            Message::Interrogate { at } | Message::Connect { at, .. } => Some(self.tally(at)),
+            _ => None,
+        }
+    }
+
+    fn tally(&self, at: Point) -> Message {
+        Message::Tally {
+            at,
+            source: self.source(at),
         }
     }
 
@@ -78,7 +80,7 @@ impl Board {
         ensures one { length out.new.items ≤ 1 }
     {
         let answer = match *request {
-            Request::Told { panel, message, .. } => Some(self.told(panel.get() as usize, message)),
+            Request::Told { panel, message, .. } => self.told(panel.get() as usize, message),
             Request::Poll { panel, .. } => self.poll(panel.get() as usize),
             Request::Leave { .. } => None,
         };

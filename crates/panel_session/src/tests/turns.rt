@@ -26,7 +26,8 @@ impl Machine for Parked {
     ghost step = { λ parked request. record {
       state = parked;
       answers = elim request [
-        | (Told panel item message) ↦ Say (Tally (record { matrix = 0; level = 0; dest = 5 }) None) ∷ []
+        | (Told panel item message) ↦
+            Say (Tally (record { matrix = 0; level = 0; dest = 5 }) None) ∷ []
         | (Poll panel item turn) ↦ []
         | (Leave panel) ↦ []
       ];
@@ -74,8 +75,11 @@ impl Outlet for Given {
 
     ghost given_more = { λ first next last bytes more given later none.
         (let behind = later none in
-        let front = given behind.0 in
-        (front.0, behind.1 ∙ (ap (λ all. all ++ more) front.1 ∙ append_assoc first.bytes.items bytes more))) };
+        let front = given behind.0 in (
+          front.0,
+          behind.1
+              ∙ (ap (λ all. all ++ more) front.1 ∙ append_assoc first.bytes.items bytes more),
+        )) };
 
     fn give(&mut self, bytes: &[u8]) {
         if self.bytes.extend_from_slice(bytes).is_err() {
