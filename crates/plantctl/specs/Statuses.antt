@@ -1,15 +1,16 @@
 -- What the exit statuses tell of a run. Each is a law over the ends of runs.
-use Rattle.std.specs.Prelude.{◌≡◌, ◌⊎◌, ℕ, ◌<◌, ◌≤◌, List, length}
+use Rattle.std.specs.Prelude.{◌≡◌, ◌≢◌, ◌⊎◌, ℕ, ◌<◌, ◌≤◌, List, length}
 use Rattle.ctl_io.specs.Faults.{one_more}
 use Rattle.ctl_io.specs.Sink.{appended}
-use Rattle.ctl_io.specs.Held.{IfHeld, MayBeMissing}
+use Rattle.ctl_io.specs.Held.{NoFile, Holds, IfHeld, MayBeMissing, Stays}
 use Rattle.plant_config.specs.Plant.{PlantData}
 use Rattle.record_replay.specs.Script.{IsFirstBad}
 use Rattle.record_replay.specs.Replay.{IsReplay}
 use Rattle.plantctl.specs.World.{World}
-use Rattle.plantctl.specs.Lines.{no_memory, file_missing, file_fault, line_refused, script_too_long}
-use Rattle.plantctl.specs.Words.{Replay, LeadsTo, Ask}
+use Rattle.plantctl.specs.Lines.{no_memory, usage, file_missing, file_fault, line_refused, script_too_long}
+use Rattle.plantctl.specs.Words.{Replay, LeadsTo, Ask, HasNoForm}
 use Rattle.plantctl.specs.Replay.{longest_script}
+use Rattle.plantctl.specs.Run.{RunEnds}
 
 -- The words ask to replay the script of this name on this plant.
 pub record AskReplay (words : List (List ℕ)) (plant : PlantData) (name : List ℕ) : Type 0 where
@@ -84,3 +85,97 @@ WasKept before now status =
     (status ≡ 1)
     ⊎ ((status ≡ 3) × (now.file_faults ≡ one_more before.file_faults))
     ⊎ ((status ≡ 7) × (now.output_faults ≡ one_more before.output_faults))
+
+-- Every run ends with one of six statuses.
+abbrev pub StatusesAreKnown : Type 0
+StatusesAreKnown = (words : List (List ℕ)) (before now : World) (status : ℕ)
+    → RunEnds words before now status
+    → (status ≡ 0) ⊎ (status ≡ 1) ⊎ (status ≡ 2) ⊎ (status ≡ 3) ⊎ (status ≡ 5) ⊎ (status ≡ 7)
+
+-- A run that ends with 0 has replayed its script.
+abbrev pub ZeroHasReplayed : Type 0
+ZeroHasReplayed = (words : List (List ℕ)) (before now : World) → RunEnds words before now 0 → WasReplayed words before now
+
+-- A run that ends with 1 ran out of memory.
+abbrev pub OneRanOutOfMemory : Type 0
+OneRanOutOfMemory = (words : List (List ℕ)) (before now : World) → RunEnds words before now 1 → RanOutOfMemory words before now
+
+-- The words of a run that ends with 2 have no form.
+abbrev pub TwoHasNoForm : Type 0
+TwoHasNoForm = (words : List (List ℕ)) (before now : World) → RunEnds words before now 2 → HasNoForm words
+
+-- A run that ends with 2 has written the usage line and nothing else.
+abbrev pub TwoTellsUsage : Type 0
+TwoTellsUsage = (words : List (List ℕ)) (before now : World)
+    → RunEnds words before now 2 → now.written ≡ appended before.written usage
+
+-- Words that have no form lead to 2, or to 7 where the line could not be written.
+abbrev pub NoFormEndsWithTwo : Type 0
+NoFormEndsWithTwo = (words : List (List ℕ)) (before now : World) (status : ℕ)
+    → HasNoForm words → RunEnds words before now status → (status ≡ 2) ⊎ (status ≡ 7)
+
+-- Where a run ends with 3, its script's file is missing, or the files had a fault.
+abbrev pub ThreeHasCause : Type 0
+ThreeHasCause = (words : List (List ℕ)) (before now : World)
+    → RunEnds words before now 3 → WasMissing words before now ⊎ HadFileFault words before now
+
+-- A missing file leads to 3, or to 7 where the line could not be written.
+abbrev pub MissingEndsWithThree : Type 0
+MissingEndsWithThree = (words : List (List ℕ)) (before now : World) (status : ℕ) (plant : PlantData) (name : List ℕ)
+    → AskReplay words plant name → before.held name 0 ≡ NoFile
+    → RunEnds words before now status → (status ≡ 3) ⊎ (status ≡ 7)
+
+-- Where a run ends with 5, its script was refused for a line or for its length.
+abbrev pub FiveHasCause : Type 0
+FiveHasCause = (words : List (List ℕ)) (before now : World)
+    → RunEnds words before now 5 → RefusedLine words before now ⊎ RefusedLength words before now
+
+-- A script that is refused leads to 5, unless the run is kept from its end.
+abbrev pub RefusedEndsWithFive : Type 0
+RefusedEndsWithFive = (words : List (List ℕ)) (before now : World) (status : ℕ) (plant : PlantData) (name script : List ℕ)
+    → AskReplay words plant name → before.held name 0 ≡ Holds script → IsRefused plant script
+    → RunEnds words before now status → (status ≡ 5) ⊎ WasKept before now status
+
+-- A script that is accepted leads to 0, unless the run is kept from its end.
+abbrev pub AcceptedEndsWithZero : Type 0
+AcceptedEndsWithZero = (words : List (List ℕ)) (before now : World) (status : ℕ) (plant : PlantData) (name script : List ℕ)
+    → AskReplay words plant name → before.held name 0 ≡ Holds script → IsAccepted plant script
+    → RunEnds words before now status → (status ≡ 0) ⊎ WasKept before now status
+
+-- In a run that ends with 7 one write failed.
+abbrev pub SevenHasCause : Type 0
+SevenHasCause = (words : List (List ℕ)) (before now : World)
+    → RunEnds words before now 7 → now.output_faults ≡ one_more before.output_faults
+
+-- In a run that ends with another status no write failed.
+abbrev pub OthersWriteAll : Type 0
+OthersWriteAll = (words : List (List ℕ)) (before now : World) (status : ℕ)
+    → RunEnds words before now status → status ≢ 7 → now.output_faults ≡ before.output_faults
+
+-- As many sources are out after a run as before it.
+abbrev pub SourcesComeBack : Type 0
+SourcesComeBack = (words : List (List ℕ)) (before now : World) (status : ℕ)
+    → RunEnds words before now status → now.custody.sources_out ≡ before.custody.sources_out
+
+-- No run has a sink handed out or gives one back.
+abbrev pub NoSinkIsMade : Type 0
+NoSinkIsMade = (words : List (List ℕ)) (before now : World) (status : ℕ)
+    → RunEnds words before now status
+    → (now.custody.sinks_out ≡ before.custody.sinks_out) × (now.custody.sinks_back ≡ before.custody.sinks_back)
+
+-- What the files hold of a name whose script the words don't ask for stays.
+abbrev pub OtherNamesStay : Type 0
+OtherNamesStay = (words : List (List ℕ)) (before now : World) (status : ℕ) (name : List ℕ)
+    → RunEnds words before now status → ((plant : PlantData) → AskReplay words plant name → ⊥)
+    → Stays (before.held name) (now.held name)
+
+-- The files' count of faults stays, unless a run ends with 3 or 7.
+abbrev pub FileFaultsStay : Type 0
+FileFaultsStay = (words : List (List ℕ)) (before now : World) (status : ℕ)
+    → RunEnds words before now status → status ≢ 3 → status ≢ 7 → now.file_faults ≡ before.file_faults
+
+-- It rises by one at most.
+abbrev pub FileFaultsRiseOnce : Type 0
+FileFaultsRiseOnce = (words : List (List ℕ)) (before now : World) (status : ℕ)
+    → RunEnds words before now status
+    → (now.file_faults ≡ before.file_faults) ⊎ (now.file_faults ≡ one_more before.file_faults)

@@ -8,7 +8,7 @@ use Rattle.dle_framing.specs.declared.item.Item.{Item}
 use Rattle.dle_framing.specs.declared.item.Item.TheVariants.{Good, Bad, Ack, Nak}
 use Rattle.swp08_messages.specs.declared.message.Message.{Message}
 use Rattle.plant_core.specs.declared.answer.Answer.{Answer}
-use Rattle.plant_core.specs.declared.answer.Answer.TheVariants.{Say}
+use Rattle.plant_core.specs.declared.answer.Answer.TheVariants.{Say, Dumped}
 use Rattle.panel_session.specs.Asked.{GoodAsks, Asks, AllAsk}
 use Rattle.panel_session.specs.Entry.{PlantEntry}
 use Rattle.panel_session.specs.StandsInside.{IsTold, AllTold}
@@ -21,6 +21,7 @@ use Rattle.record_replay.proofs.TurnEntries.{Asked}
 abbrev pub messages_of : List Answer → List Message
 messages_of [] = []
 messages_of (Say message ∷ others) = message ∷ messages_of others
+messages_of (Dumped matrix level dest source ∷ others) = messages_of others
 
 abbrev pub told_by : List Answer → List ℕ
 told_by answers = flat_map message_frame (messages_of answers)
@@ -29,6 +30,7 @@ pub frames-bytes : (answers : List Answer) (output : Output) → (with_frames (f
 frames-bytes [] output = sym (append-nil output.bytes)
 frames-bytes (Say message ∷ others) output =
     frames-bytes others (with_frame (message_frame message) output) ∙ append_assoc output.bytes (message_frame message) (told_by others)
+frames-bytes (Dumped matrix level dest source ∷ others) output = frames-bytes others output
 
 -- What may be sent again is the frame of a message.
 abbrev pub IsLast : Option (List ℕ) → Type 0
@@ -38,6 +40,7 @@ IsLast (Some sent) = (message : Message) × (sent ≡ message_frame message)
 pub last-frames : (answers : List Answer) (output : Output) → IsLast output.last → IsLast (with_frames (frames_of answers) output).last
 last-frames [] output last = last
 last-frames (Say message ∷ others) output last = last-frames others (with_frame (message_frame message) output) (message, refl)
+last-frames (Dumped matrix level dest source ∷ others) output last = last-frames others output last
 
 -- An item is answered behind one output, and this is the next.
 pub record Answers (item : Item (List ℕ)) (before next : Output) : Type 0 where

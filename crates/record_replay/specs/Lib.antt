@@ -12,3 +12,4 @@ pub mod StandInside
 pub mod StageInside
 pub mod Laws
 pub mod Answered
+pub mod ScriptLaws

@@ -1,9 +1,10 @@
 -- What the code finds in a line.
-use Rattle.std.specs.Prelude.{◌≡◌, ◌≢◌, ℕ, ◌<◌, ◌≤◌, true, false, List, ◌∷◌, ◌++◌, length, All}
+use Rattle.std.specs.Prelude.{◌≡◌, ◌≢◌, ℕ, ◌<◌, ◌≤◌, true, false, List, ◌∷◌, ◌++◌, length, All, Ok}
+use Rattle.hex.specs.Hex.{decode_of}
 use Rattle.plant_config.specs.Plant.{PlantData}
 use Rattle.record_replay.specs.declared.line.Line as code
 use Rattle.record_replay.specs.declared.line.Line.TheVariants as found
-use Rattle.record_replay.specs.Script.{Work, Read, Leave, space, is_skipped, NumberSpells, HexSpells, LineSpells}
+use Rattle.record_replay.specs.Script.{Work, Read, Leave, space, is_skipped, lines, worked, NumberSpells, HexSpells, LineSpells, LinesSpell}
 
 -- A text without a space.
 abbrev pub HasNoSpace : List ℕ → Type 0
@@ -13,6 +14,21 @@ HasNoSpace text = All (λ byte. byte ≢ space) text
 pub record IsCut (text front behind : List ℕ) : Type 0 where
   pub place : text ≡ front ++ space ∷ behind
   pub first : HasNoSpace front
+
+-- A text spells no number.
+abbrev pub SpellsNoNumber : List ℕ → Type 0
+SpellsNoNumber text = (number : ℕ) → NumberSpells text number → ⊥
+
+-- A text spells the number of no panel of the plant, or that of this panel.
+abbrev pub SpellsNoPanel : PlantData → List ℕ → Type 0
+SpellsNoPanel plant text = (number : ℕ) → NumberSpells text number → number < length plant.panels → ⊥
+
+abbrev pub SpellsPanel : PlantData → List ℕ → ℕ → Type 0
+SpellsPanel plant text panel = NumberSpells text panel × (panel < length plant.panels)
+
+-- Digits without spaces are the hexadecimal of no bytes.
+abbrev pub IsNoHex : List ℕ → Type 0
+IsNoHex digits = (bytes : List ℕ) → decode_of digits ≡ Ok bytes → ⊥
 
 -- What a line has behind `> `: the digits of a panel of the plant, up to the first space, and then at least one byte in
 -- hexadecimal.
@@ -24,6 +40,14 @@ pub record IsTurn (plant : PlantData) (behind : List ℕ) (panel : ℕ) (piece :
   pub has_panel : panel < length plant.panels
   pub spelled : HexSpells hex piece
   pub some : 1 ≤ length piece
+
+-- What a line has behind `> ` is a turn of no panel.
+abbrev pub IsNoTurn : PlantData → List ℕ → Type 0
+IsNoTurn plant behind = (panel : ℕ) (piece : List ℕ) → IsTurn plant behind panel piece → ⊥
+
+-- Each line of a script that isn't skipped spells a piece of work.
+abbrev pub HasWorks : PlantData → List ℕ → Type 0
+HasWorks plant script = (works : List Work) × LinesSpell plant (worked (lines script)) works
 
 -- A line that isn't skipped spells no work.
 abbrev pub IsBad : PlantData → List ℕ → Type 0

@@ -1,7 +1,8 @@
 //! Whether each line of a script has a form.
 
-ghost use Rattle.std.specs.Prelude.{List, MatchOption};
-ghost use Rattle.record_replay.specs.Script.{Work, lines, worked, LinesSpell, IsFirstBad};
+ghost use Rattle.std.specs.Prelude.{MatchOption};
+ghost use Rattle.record_replay.specs.Script.{IsFirstBad};
+ghost use Rattle.record_replay.specs.LineInside.{HasWorks};
 
 use crate::digits::Digits;
 use crate::line::read_line;
@@ -11,7 +12,7 @@ use plant_config::Plant;
 // The number of a script's first line that has no form, counted from 1, if it has one. It takes no memory.
 pub(crate) fn check_lines(digits: &mut Digits, plant: &Plant, script: &[u8]) -> Option<u64>
     ensures { MatchOption result
-        ((works : List Work) × LinesSpell plant.now (worked (lines script.now)) works)
+        (HasWorks plant.now script.now)
         (λ number. IsFirstBad plant.now script.now number) }
 {
     let mut number = 0;

@@ -4,6 +4,7 @@ ghost use Rattle.std.specs.Prelude.{◌≡◌, ◌≤◌, ◌*◌, ◌/◌, ◌=
 ghost use Rattle.std.specs.Bool.{OnTrue, OnFalse};
 ghost use Rattle.hex.specs.Hex.{decode_of, hex_digit_value};
 ghost use Rattle.record_replay.specs.Script.{HexSpells, longest_line, space};
+ghost use Rattle.record_replay.specs.LineInside.{IsNoHex};
 
 use crate::script::{MAX_LINE, SPACE};
 use std::alloc::{AllocError, Global};
@@ -130,7 +131,7 @@ fn decode(digits: &[u8], room: &mut [u8]) -> bool
     requires { length digits.now ≤ 2 * length room.old }
     ensures decoded { OnTrue result
         (decode_of digits.now ≡ Ok (take (length digits.now / 2) room.new)) }
-    ensures refused { OnFalse result ((bytes : List ℕ) → decode_of digits.now ≡ Ok bytes → ⊥) }
+    ensures refused { OnFalse result (IsNoHex digits.now) }
 {
     if digits.len() % 2 == 1 {
         return false;

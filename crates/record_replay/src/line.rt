@@ -1,8 +1,8 @@
 //! What a line of a script spells.
 
-ghost use Rattle.std.specs.Prelude.{◌≤◌, ℕ, List, length, MatchOption};
+ghost use Rattle.std.specs.Prelude.{◌≤◌, length, MatchOption};
 ghost use Rattle.record_replay.specs.Script.{longest_line};
-ghost use Rattle.record_replay.specs.LineInside.{HasNoSpace, IsCut, IsTurn, IsBad, IsFound};
+ghost use Rattle.record_replay.specs.LineInside.{HasNoSpace, IsCut, IsTurn, IsNoTurn, IsBad, IsFound};
 
 use crate::digits::Digits;
 use crate::number::read_panel;
@@ -51,7 +51,7 @@ pub(crate) fn read_line(digits: &mut Digits, plant: &Plant, line: &[u8]) -> Opti
 fn read_turn(digits: &mut Digits, plant: &Plant, behind: &[u8]) -> Option<PanelNo>
     requires { length behind.now ≤ longest_line }
     ensures { MatchOption result
-        ((panel : ℕ) (piece : List ℕ) → IsTurn plant.now behind.now panel piece → ⊥)
+        (IsNoTurn plant.now behind.now)
         (λ panel. IsTurn plant.now behind.now panel digits.new) }
 {
     let (number, hex) = split_at_space(behind)?;

@@ -1,6 +1,7 @@
 //! The number of a panel in a line.
 
-ghost use Rattle.std.specs.Prelude.{ℕ, ◌<◌, length, MatchOption};
+ghost use Rattle.std.specs.Prelude.{MatchOption};
+ghost use Rattle.record_replay.specs.LineInside.{SpellsNoNumber, SpellsNoPanel, SpellsPanel};
 ghost use Rattle.record_replay.specs.Script.{NumberSpells};
 
 use plant_config::{PanelNo, Plant};
@@ -11,8 +12,8 @@ const MAX_DIGITS: usize = 5;
 // The panel of the plant whose number the digits spell, `None` where they spell none.
 pub(crate) fn read_panel(plant: &Plant, digits: &[u8]) -> Option<PanelNo>
     ensures { MatchOption result
-        ((number : ℕ) → NumberSpells digits.now number → number < length plant.now.panels → ⊥)
-        (λ panel. NumberSpells digits.now panel × (panel < length plant.now.panels)) }
+        (SpellsNoPanel plant.now digits.now)
+        (λ panel. SpellsPanel plant.now digits.now panel) }
 {
     let number = read_number(digits)?;
     if (number as usize) < plant.panels().len() {
@@ -25,7 +26,7 @@ pub(crate) fn read_panel(plant: &Plant, digits: &[u8]) -> Option<PanelNo>
 // The number that digits spell, `None` where a text isn't one to five digits.
 fn read_number(digits: &[u8]) -> Option<u32>
     ensures { MatchOption result
-        ((number : ℕ) → NumberSpells digits.now number → ⊥)
+        (SpellsNoNumber digits.now)
         (λ number. NumberSpells digits.now number) }
 {
     if digits.is_empty() || digits.len() > MAX_DIGITS {

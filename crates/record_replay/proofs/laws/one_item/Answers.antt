@@ -2,7 +2,7 @@ use Rattle.std.proofs.Common.{arith}
 use Rattle.dle_framing.specs.Frame.{IsData}
 use Rattle.dle_framing.proofs.LawLemmas.{reads_one}
 use Rattle.swp08_messages.specs.declared.message.Message.{Message}
-use Rattle.swp08_messages.specs.declared.message.Message.TheVariants.{Interrogate, Connect, Tally, Connected}
+use Rattle.swp08_messages.specs.declared.message.Message.TheVariants.{Interrogate, Connect}
 use Rattle.swp08_messages.specs.Text.{text}
 use Rattle.swp08_messages.proofs.SpelledLemmas.{Spells-text}
 use Rattle.swp08_messages.proofs.ReadingLemmas.{one_message}
@@ -12,8 +12,7 @@ use Rattle.record_replay.proofs.laws.one_item.Goals as goal
 IsData-text : (message : Message) → IsData (text message)
 IsData-text (Interrogate at) = (omega arith, omega arith)
 IsData-text (Connect at source) = (omega arith, omega arith)
-IsData-text (Tally at source) = (omega arith, omega arith)
-IsData-text (Connected at source) = (omega arith, omega arith)
+IsData-text message = (omega arith, omega arith)
 
 pub returns-clause-item : goal.returns-clause-item
 returns-clause-item c = λ message in_range. reads_one (text message) (IsData-text message)

@@ -1,0 +1,69 @@
+-- The laws of messages' frames and of scripts. The functions of `laws` promise them.
+use Rattle.std.specs.Prelude.{◌≡◌, ◌⊎◌, ℕ, List, [], ◌∷◌, ◌++◌}
+use Rattle.std.specs.List.{flat_map}
+use Rattle.dle_framing.specs.declared.item.Item.TheVariants.{Good}
+use Rattle.dle_framing.specs.Frame.{frame}
+use Rattle.dle_framing.specs.Laws.{IsReadAs}
+use Rattle.swp08_messages.specs.declared.message.Message.{Message}
+use Rattle.swp08_messages.specs.Text.{text, InRange}
+use Rattle.swp08_messages.specs.Spelled.{Spells}
+use Rattle.plant_config.specs.Plant.{PlantData}
+use Rattle.panel_session.specs.Entry.{PlantEntry}
+use Rattle.record_replay.specs.Script.{IsFirstBad}
+use Rattle.record_replay.specs.Replay.{IsReplay}
+use Rattle.record_replay.specs.Laws.{Deed, Turned, IsHistory, pieces_of}
+use Rattle.record_replay.specs.Answered.{AnswersItems}
+
+-- the frame of a message is read as one good item with the message's DATA
+abbrev pub MessageFramesAreItems : Type 0
+MessageFramesAreItems = (message : Message) → InRange message → IsReadAs (frame (text message)) (Good (text message) ∷ [])
+
+-- a message's DATA spell it
+abbrev pub TextsSpellTheirMessage : Type 0
+TextsSpellTheirMessage = (message : Message) → InRange message → Spells (text message) message
+
+-- and no other
+abbrev pub TextsSpellNoOther : Type 0
+TextsSpellNoOther = (message other : Message) → InRange message → Spells (text message) other → other ≡ message
+
+-- a script has a replay text on each plant, or a first bad line there
+abbrev pub ScriptsReplayOrAreBad : Type 0
+ScriptsReplayOrAreBad = (plant : PlantData) (script : List ℕ)
+    → ((output : List ℕ) × IsReplay plant script output) ⊎ ((number : ℕ) × IsFirstBad plant script number)
+
+-- a script has one replay text
+abbrev pub ReplayTextsAreOne : Type 0
+ReplayTextsAreOne = (plant : PlantData) (script a b : List ℕ) → IsReplay plant script a → IsReplay plant script b → a ≡ b
+
+-- a script has one first bad line
+abbrev pub FirstBadsAreOne : Type 0
+FirstBadsAreOne = (plant : PlantData) (script : List ℕ) (m n : ℕ) → IsFirstBad plant script m → IsFirstBad plant script n → m ≡ n
+
+-- no script has a replay text and a first bad line
+abbrev pub BadsDoNotReplay : Type 0
+BadsDoNotReplay = (plant : PlantData) (script output : List ℕ) (number : ℕ)
+    → IsReplay plant script output → IsFirstBad plant script number → ⊥
+
+-- a replay has a history
+abbrev pub ReplaysHaveHistory : Type 0
+ReplaysHaveHistory = (plant : PlantData) (script output : List ℕ)
+    → IsReplay plant script output → (deeds : List Deed) × IsHistory plant script output deeds
+
+-- a script has one history, whatever is shown
+abbrev pub HistoriesAreOne : Type 0
+HistoriesAreOne = (plant : PlantData) (script a b : List ℕ) (deeds others : List Deed)
+    → IsHistory plant script a deeds → IsHistory plant script b others → deeds ≡ others
+
+-- what a history shows is the replay text
+abbrev pub HistoriesShowReplays : Type 0
+HistoriesShowReplays = (plant : PlantData) (script output : List ℕ) (deeds : List Deed)
+    → IsHistory plant script output deeds → IsReplay plant script output
+
+-- In a history, what is sent in a turn of a panel's session answers the items that end in its piece, behind those that the
+-- panel sent before.
+abbrev pub TurnsAnswerItems : Type 0
+TurnsAnswerItems = (plant : PlantData) (script output : List ℕ) (deeds before after : List Deed)
+    (panel : ℕ) (piece sent : List ℕ) (entries : List PlantEntry)
+    → IsHistory plant script output deeds
+    → deeds ≡ before ++ Turned panel piece entries sent ∷ after
+    → AnswersItems (flat_map (λ piece. piece) (pieces_of panel before)) piece sent
