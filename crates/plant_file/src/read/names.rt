@@ -1,0 +1,96 @@
+//! Names in an array, and the default names behind them.
+
+ghost use Rattle.std.specs.Prelude.{◌≡◌, ◌<◌, length, IfOk, Some};
+ghost use Rattle.toml.specs.Data.{array};
+ghost use Rattle.toml.specs.View.{view, table_view};
+ghost use Rattle.plant_file.specs.Rows.{key, Names, no_names};
+ghost use Rattle.plant_file.specs.Document.{found_at, number_in};
+ghost use Rattle.plant_file.specs.Reading.{default_name, names_of};
+ghost use Rattle.plant_file.specs.FirstFault.{Answers};
+ghost use Rattle.plant_file.specs.ReadingInside.{read_as, key_answer, texts_answer, names_answer, names_in};
+
+use crate::fault::{Field, Place, PlantFault};
+use crate::name::{MAX_NAME, Name};
+use crate::read::entry::Entry;
+use crate::read::values::{range_fault, words};
+use std::alloc::{AllocError, Global};
+use toml::Value;
+
+// The name of the thing of this number: a letter and the number.
+fn default_name(alloc: Global, letter: &str, number: u32) -> Result<Name, AllocError>
+    requires letter { length letter.now ≡ 1 }
+    requires number { number < 10000 }
+    ensures { IfOk result (λ name. name ≡ default_name letter.now number) }
+{
+    let text = format!(in alloc; "{letter}{number}")?;
+    Ok(Name::of(text.as_bytes()))
+}
+
+// Names of the first of so many things, with default names for the others.
+fn with_defaults(
+    alloc: Global,
+    mut names: Vec<Name>,
+    letter: &str,
+    count: u32,
+) -> Result<Vec<Name>, AllocError>
+    requires letter { length letter.now ≡ 1 }
+    requires count { count < 10000 }
+    ensures { IfOk result (λ all. all.items ≡ names_of letter.now count names.items) }
+{
+    let first = names.len();
+    for number in first..count as usize {
+        names.push(default_name(alloc, letter, number as u32)?)?;
+    }
+    Ok(names)
+}
+
+// Texts of names, each of which is printable.
+fn read_names(alloc: Global, at: Place, items: &[Value]) -> Result<Vec<Name>, PlantFault>
+    ensures { Answers (read_as (λ names. names.items) result) (texts_answer at items.now) }
+{
+    let mut names = Vec::new(alloc);
+    for item in items {
+        let text = words(at, item, 1, MAX_NAME as u64)?;
+        names.push(Name::of(text.as_bytes()))?;
+    }
+    Ok(names)
+}
+
+// An array of names, of which there are at most `count`.
+fn name_array(alloc: Global, at: Place, value: &Value, count: u32) -> Result<Vec<Name>, PlantFault>
+    ensures { Answers (read_as (λ names. names.items) result)
+        (names_answer at count (view value.now)) }
+{
+    let items = match value.as_array() {
+        Some(items) => items.as_slice(),
+        None => return Err(PlantFault::WrongType { at }),
+    };
+    match range_fault(at, items.len() as i64, 0, u64::from(count)) {
+        Some(fault) => Err(fault),
+        None => read_names(alloc, at, items),
+    }
+}
+
+// The names of so many things, of which the first are in an array. The key `limit` of the entry says how many there are.
+pub(crate) fn names(
+    alloc: Global,
+    entry: &Entry,
+    field: Field,
+    limit: Field,
+    count: u32,
+    letter: &str,
+) -> Result<Vec<Name>, PlantFault>
+    requires letter { length letter.now ≡ 1 }
+    requires count { count < 10000 }
+    requires limit { number_in (found_at limit (table_view entry.now.table.now)) ≡ count }
+    ensures { Answers (read_as (λ names. names.items) result)
+        (key_answer (names_in letter.now count) entry.now.section entry.now.number
+        (table_view entry.now.table.now)
+        (key field (Names limit) no_names)) }
+{
+    let Some(value) = entry.found(field) else {
+        return Ok(with_defaults(alloc, Vec::new(alloc), letter, count)?);
+    };
+    let given = name_array(alloc, entry.place(field), value, count)?;
+    Ok(with_defaults(alloc, given, letter, count)?)
+}

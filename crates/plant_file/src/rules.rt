@@ -1,0 +1,16 @@
+//! The rules that the entries of a plant file keep together.
+
+mod data;
+mod keys;
+mod known;
+mod links;
+mod rule;
+mod sums;
+#[cfg(test)]
+mod tests;
+mod twice;
+mod unknown;
+
+pub(crate) use data::data_fault;
+#[cfg(test)]
+pub(crate) use links::link_fault;

@@ -1,0 +1,4 @@
+//! The faults of hand-made plant files.
+
+mod links;
+mod refusals;
