@@ -57,13 +57,34 @@ pub record IsSite (numbers : Numbering) (at : Site) : Type 0 where
   pub level : at.level < level_limit
   pub number : at.number < numbers.limit
 
+-- The number that a place has leads back to that place, so no two places have one number.
+abbrev pub NumbersLeadBack : Numbering → PlantData → Type 0
+NumbersLeadBack numbers plant = (matrix level number found : ℕ) → number_at numbers plant matrix level number ≡ Some found
+    → site_of numbers plant found ≡ Some (record { matrix = matrix; level = level; number = number })
+
+-- The place that a number has leads back to that number, so no place has two.
+abbrev pub PlacesLeadBack : Numbering → PlantData → Type 0
+PlacesLeadBack numbers plant = (found : ℕ) (at : Site) → site_of numbers plant found ≡ Some at
+    → number_at numbers plant at.matrix at.level at.number ≡ Some found
+
+-- The number of each place is below the count of all.
+abbrev pub NumbersAreBelow : Numbering → PlantData → Type 0
+NumbersAreBelow numbers plant = (matrix level number found : ℕ) → number_at numbers plant matrix level number ≡ Some found
+    → found < total numbers plant
+
+-- Each number below the count of all has a place.
+abbrev pub NumbersHavePlaces : Numbering → PlantData → Type 0
+NumbersHavePlaces numbers plant = (found : ℕ) → found < total numbers plant → IsSome (site_of numbers plant found)
+
+-- The place of each number is within its limits.
+abbrev pub PlacesAreInRange : Numbering → PlantData → Type 0
+PlacesAreInRange numbers plant = (found : ℕ) (at : Site) → site_of numbers plant found ≡ Some at → IsSite numbers at
+
 -- A number leads to its place and back, so no two places have one number, and no place has two. The numbers are those
 -- below the count of all, and the places are within their limits.
 pub record LeadBothWays (numbers : Numbering) (plant : PlantData) : Type 0 where
-  pub place : (matrix level number found : ℕ) → number_at numbers plant matrix level number ≡ Some found →
-      site_of numbers plant found ≡ Some (record { matrix = matrix; level = level; number = number })
-  pub number : (found : ℕ) (at : Site) → site_of numbers plant found ≡ Some at →
-      number_at numbers plant at.matrix at.level at.number ≡ Some found
-  pub below : (matrix level number found : ℕ) → number_at numbers plant matrix level number ≡ Some found → found < total numbers plant
-  pub placed : (found : ℕ) → found < total numbers plant → IsSome (site_of numbers plant found)
-  pub in_range : (found : ℕ) (at : Site) → site_of numbers plant found ≡ Some at → IsSite numbers at
+  pub place : NumbersLeadBack numbers plant
+  pub number : PlacesLeadBack numbers plant
+  pub below : NumbersAreBelow numbers plant
+  pub placed : NumbersHavePlaces numbers plant
+  pub in_range : PlacesAreInRange numbers plant

@@ -25,13 +25,24 @@ pub record IsConnectable (plant : PlantData) (at : Point) (source : Option ℕ) 
   pub has_place : IsSome (dest_at plant at.matrix at.level at.dest)
   pub has_source : IfSome source (λ number. IsSome (source_at plant at.matrix at.level number))
 
+-- Every destination but that of this place carries what it carried.
+abbrev pub OthersCarryAsBefore : State → Point → State → Type 0
+OthersCarryAsBefore old at new = (dest : ℕ)
+    → dest_at old.plant at.matrix at.level at.dest ≢ Some dest
+    → get new.crosspoints dest ≡ get old.crosspoints dest
+
+-- An interrogate of every other place is answered as before.
+abbrev pub OthersAnswerAsBefore : State → Point → State → Type 0
+OthersAnswerAsBefore old at new = (place : Point) (stands : Option ℕ)
+    → place ≢ at → AnswersWith old place stands → AnswersWith new place stands
+
 -- A connect is made: it is answered so, its source stands at its place, no other destination changes, and so every other
 -- place answers as before.
 pub record IsMade (old : State) (at : Point) (source : Option ℕ) (stepped : Stepped State Answer) : Type 0 where
   pub answer : stepped.answers ≡ Say (Connected at source) ∷ []
   pub stands : AnswersWith stepped.state at source
-  pub unmoved : (dest : ℕ) → dest_at old.plant at.matrix at.level at.dest ≢ Some dest → get stepped.state.crosspoints dest ≡ get old.crosspoints dest
-  pub others : (place : Point) (stands : Option ℕ) → place ≢ at → AnswersWith old place stands → AnswersWith stepped.state place stands
+  pub unmoved : OthersCarryAsBefore old at stepped.state
+  pub others : OthersAnswerAsBefore old at stepped.state
 
 -- A connect isn't made: nothing changes, and the answer is a tally of the source that stands.
 pub record IsNotMade (old : State) (at : Point) (stepped : Stepped State Answer) : Type 0 where
@@ -40,13 +51,24 @@ pub record IsNotMade (old : State) (at : Point) (stepped : Stepped State Answer)
   pub answer : stepped.answers ≡ Say (Tally at standing) ∷ []
   pub state : stepped.state ≡ old
 
+-- Answers tell of each place of a level that is in the plant, at the place's number: with the source with which an
+-- interrogate of it is answered.
+abbrev pub TellEachPlace : State → ℕ → ℕ → List Answer → Type 0
+TellEachPlace state matrix level answers = (dest : ℕ) (source : Option ℕ)
+    → IsSome (dest_at state.plant matrix level dest)
+    → AnswersWith state (record { matrix = matrix; level = level; dest = dest }) source
+    → slice_get answers dest ≡ Some (Dumped matrix level dest source)
+
+-- There is no answer at a number that no place of a level has.
+abbrev pub TellNoOtherPlace : State → ℕ → ℕ → List Answer → Type 0
+TellNoOtherPlace state matrix level answers = (dest : ℕ)
+    → IsNone (dest_at state.plant matrix level dest) → slice_get answers dest ≡ None
+
 -- A dump tells what stands: for each place of the level that is in the plant the source with which an interrogate of it
 -- is answered, at the place's number, and nothing else. Nothing changes.
 pub record IsDumped (old : State) (matrix level : ℕ) (stepped : Stepped State Answer) : Type 0 where
-  pub tells : (dest : ℕ) (source : Option ℕ) → IsSome (dest_at old.plant matrix level dest)
-      → AnswersWith old (record { matrix = matrix; level = level; dest = dest }) source
-      → slice_get stepped.answers dest ≡ Some (Dumped matrix level dest source)
-  pub no_more : (dest : ℕ) → IsNone (dest_at old.plant matrix level dest) → slice_get stepped.answers dest ≡ None
+  pub tells : TellEachPlace old matrix level stepped.answers
+  pub no_more : TellNoOtherPlace old matrix level stepped.answers
   pub state : stepped.state ≡ old
 
 -- the state behind a list of requests

@@ -23,13 +23,29 @@ pub record ChangesSource (state : State) (at : Point) (source : Option ℕ) : Ty
   pub connectable : IsConnectable state.plant at source
   pub other : ¬ AnswersWith state at source
 
+-- Each panel but the asker that hasn't left has notice of a destination's source.
+abbrev pub OthersHear : List Board → List Board → ℕ → ℕ → Type 0
+OthersHear old new asker dest = (panel : ℕ)
+    → panel < length old → panel ≢ asker → has_left old panel ≡ false
+    → has new panel dest Source ≡ true
+
+-- The board of whoever has left is as it was.
+abbrev pub BoardsOfLeaversStay : List Board → List Board → Type 0
+BoardsOfLeaversStay old new = (panel : ℕ) → has_left old panel ≡ true → board_of new panel ≡ board_of old panel
+
+-- No panel's notice came or went, but that of this destination's source.
+abbrev pub OtherNoticesStay : List Board → List Board → ℕ → Type 0
+OtherNoticesStay old new dest = (panel d : ℕ) (sort : Sort)
+    → (let notice : ℕ × Sort = (d, sort) in notice ≢ (dest, Source))
+    → has new panel d sort ≡ has old panel d sort
+
 -- All panels but the asker have notice of a destination's source, if they haven't left. The asker has the notices that it
 -- had, and so has whoever has left. No other notice came or went, and nobody left.
 pub record IsHeard (old new : List Board) (asker dest : ℕ) : Type 0 where
-  pub heard : (panel : ℕ) → panel < length old → panel ≢ asker → has_left old panel ≡ false → has new panel dest Source ≡ true
+  pub heard : OthersHear old new asker dest
   pub own : board_of new asker ≡ board_of old asker
-  pub gone : (panel : ℕ) → has_left old panel ≡ true → board_of new panel ≡ board_of old panel
-  pub others : (panel d : ℕ) (sort : Sort) → (let notice : ℕ × Sort = (d, sort) in notice ≢ (dest, Source)) → has new panel d sort ≡ has old panel d sort
+  pub gone : BoardsOfLeaversStay old new
+  pub others : OtherNoticesStay old new dest
   pub left : (panel : ℕ) → has_left new panel ≡ has_left old panel
 
 -- A panel is told of a destination. It had notice of it and of none before it, and the answer is the source that stands
@@ -41,6 +57,10 @@ pub record IsTold (old : State) (panel dest : ℕ) (stepped : Stepped State Answ
   pub taken : Takes old.boards stepped.state.boards panel dest Source
   pub crosspoints : stepped.state.crosspoints ≡ old.crosspoints
 
+-- A poll with these numbers, made in this state, tells its panel of a destination.
+abbrev pub PollTells : State → ℕ → ℕ → ℕ → ℕ → Type 0
+PollTells state panel item turn dest = IsTold state panel dest (step state (Poll panel item turn))
+
 -- One of a list of requests is a poll by which a panel is told of a destination.
 pub record IsToldAmong (state : State) (panel dest : ℕ) (requests : List Request) : Type 0 where
   pub before : List Request
@@ -48,7 +68,7 @@ pub record IsToldAmong (state : State) (panel dest : ℕ) (requests : List Reque
   pub item : ℕ
   pub turn : ℕ
   pub among : requests ≡ before ++ Poll panel item turn ∷ behind
-  pub told : IsTold (after state before) panel dest (step (after state before) (Poll panel item turn))
+  pub told : PollTells (after state before) panel item turn dest
 
 -- No request is a leave of this panel.
 abbrev pub Remains : ℕ → List Request → Type 0

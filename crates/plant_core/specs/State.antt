@@ -85,13 +85,22 @@ pub record IsCrosspoint (plant : PlantData) (dest source : ℕ) : Type 0 where
   pub dest_is : dest_at plant matrix level dest_number ≡ Some dest
   pub source_is : source_at plant matrix level source_number ≡ Some source
 
+-- Each destination that isn't parked carries a source of its own level.
+abbrev pub AreCrosspoints : PlantData → Crosspoints → Type 0
+AreCrosspoints plant crosspoints =
+    (dest : ℕ) (spot : Spot) → get crosspoints dest ≡ Some spot → IsCrosspoint plant dest spot.source
+
+-- No destination has a tie.
+abbrev pub HaveNoTies : Crosspoints → Type 0
+HaveNoTies crosspoints = (dest : ℕ) (spot : Spot) → get crosspoints dest ≡ Some spot → spot.tie ≡ None
+
 -- A state is valid where its plant is, each destination carries a source of its own level, and none has a tie. Each panel
 -- of the plant has a board, with notices of the plant's destinations, none where the panel has left. No event gives a
 -- protect notice.
 pub record IsValid (state : State) : Type 0 where
   pub is_plant : IsPlant state.plant
-  pub is_crosspoint : (dest : ℕ) (spot : Spot) → get state.crosspoints dest ≡ Some spot → IsCrosspoint state.plant dest spot.source
-  pub ties : (dest : ℕ) (spot : Spot) → get state.crosspoints dest ≡ Some spot → spot.tie ≡ None
+  pub is_crosspoint : AreCrosspoints state.plant state.crosspoints
+  pub ties : HaveNoTies state.crosspoints
   pub boards : AreBoards state.boards (length state.plant.panels) (destinations_of state.plant)
   pub no_protects : (panel dest : ℕ) → has state.boards panel dest Protect ≡ false
 
