@@ -16,12 +16,12 @@ use Rattle.panel_session.specs.declared.stage.Stage.{Stage}
 use Rattle.panel_session.specs.declared.stage.Stage.TheVariants.{Read, Tell, Poll as PollStage, End}
 use Rattle.panel_session.specs.Entry.{PlantEntry}
 use Rattle.panel_session.specs.Asked.{AllAsk, sent_to_plant}
-use Rattle.panel_session.specs.Turns.{bytes_of, entries_of, AreTurns, IsTurn, Turn}
+use Rattle.panel_session.specs.Turns.{bytes_of, entries_of, requests, AreTurns, IsTurn, Turn}
 use Rattle.panel_session.specs.Text.{Output, frames_of, with_frames, nothing_sent, output_from, IsText}
 use Rattle.panel_session.specs.OutgoingInside.{emptied}
 use mathlib.Core.List.{IsPrefix}
 use Rattle.panel_session.specs.SoFar.{IsSoFar, Past, nothing_yet, read_so_far, entries_so_far, with_entry, with_turn}
-use Rattle.panel_session.specs.StandsInside.{Kept, Keeps, AllTold, NoneFrom, behind, pending, requests, IsAtStage}
+use Rattle.panel_session.specs.StandsInside.{Kept, Keeps, AllTold, NoneFrom, behind, pending, IsAtStage}
 use Rattle.panel_session.proofs.EntryLemmas.{all_ask-append, sent-append}
 use Rattle.panel_session.proofs.KeptItemLemmas.{reading}
 use Rattle.panel_session.proofs.KeepsLemmas.{keeps_polled_to}

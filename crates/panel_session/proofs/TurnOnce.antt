@@ -20,9 +20,8 @@ use Rattle.panel_session.specs.Asked.{GoodAsks, Asks, AllAsk, sent_to_plant}
 use Rattle.panel_session.specs.Entry.{PlantEntry}
 use Rattle.panel_session.specs.Run.{IsWorked}
 use Rattle.panel_session.specs.SoFar.{Past}
-use Rattle.panel_session.specs.StandsInside.{requests}
 use Rattle.panel_session.specs.Text.{nothing_sent, output_from}
-use Rattle.panel_session.specs.Turns.{Turn, ArePolls, EndIn, bytes_of, entries_in, entries_of}
+use Rattle.panel_session.specs.Turns.{Turn, ArePolls, EndIn, bytes_of, entries_in, entries_of, requests}
 
 -- DATA asks one thing.
 good_asks-one : (carried : List ℕ) (a b : Asked) → GoodAsks carried a → GoodAsks carried b → a ≡ b

@@ -21,6 +21,12 @@ use Rattle.panel_session.specs.Turns.{Turn, bytes_of, entries_in, entries_of, Is
 abbrev pub turned : Turn → List ℕ → Past → Past
 turned turn more past = record { turns = past.turns ++ turn ∷ []; now = unread; sent = past.sent ++ more }
 
+-- All that was sent in a past, and then these bytes of a turn, is the session's text of what was read and answered in
+-- both.
+abbrev pub CompletesText : PlantData → Past → Turn → List ℕ → Type 0
+CompletesText plant past turn more =
+    IsText plant (items (bytes_of past.turns ++ turn.piece)) (entries_of past.turns ++ entries_in turn) (past.sent ++ more)
+
 -- A turn of a panel's session is worked behind a past, by a machine from this state on, and these bytes are sent in it: it
 -- is a turn, its entries are the panel's, each is answered as the machine answers it in its place, and all that was sent so
 -- far is the session's text.
@@ -29,15 +35,20 @@ pub record IsWorked {State : Type 0} (step : State → Request → Stepped State
   pub is_turn : IsTurn panel past.turns turn
   pub seats : All (λ entry. entry.seat ≡ panel) (entries_in turn)
   pub legal : IsLegal step Fits machine (entries_in turn)
-  pub text : IsText plant (items (bytes_of past.turns ++ turn.piece)) (entries_of past.turns ++ entries_in turn) (past.sent ++ more)
+  pub text : CompletesText plant past turn more
+
+-- Behind each legal history of a machine, the answers to a request that it takes can be sent.
+abbrev pub GivesSayableAnswers : {State : Type 0} (step : State → Request → Stepped State Answer) (Fits : State → Request → Type 0) → State → Type 0
+GivesSayableAnswers step Fits machine = (history : List PlantEntry) (request : Request)
+    → IsLegal step Fits machine history → Fits (run step machine history) request
+    → All IsSayable (step (run step machine history) request).answers
 
 -- A machine serves a plant: it takes each request that fits the plant, whatever it was asked before its answers can be
 -- sent, and there is room for those of a step.
 pub record Serves {State : Type 0} (step : State → Request → Stepped State Answer) (Fits : State → Request → Type 0) (most : State → ℕ)
     (plant : PlantData) (machine : State) : Type 0 where
   pub takes : (request : Request) → FitsPlant plant request → Fits machine request
-  pub sayable : (history : List PlantEntry) (request : Request) → IsLegal step Fits machine history → Fits (run step machine history) request
-      → All IsSayable (step (run step machine history) request).answers
+  pub sayable : GivesSayableAnswers step Fits machine
   pub within : most machine ≤ most_answers
 
 -- A piece may be a turn behind a past.

@@ -2,8 +2,13 @@
 use Rattle.std.specs.Prelude.{◌≡◌, ℕ, false}
 use Rattle.panel_session.specs.declared.stage.Stage.TheVariants.{Read}
 use Rattle.panel_session.specs.SoFar.{Past, unread}
-use Rattle.panel_session.specs.StandsInside.{Keeps}
+use Rattle.panel_session.specs.StandsInside.{Kept, Keeps}
 use Rattle.panel_session.specs.Text.{Output}
+
+-- what a session keeps between its turns: it reads next, has not polled since, and all its output was sent
+abbrev pub between_turns : ℕ → ℕ → ℕ → Output → Kept
+between_turns panel items turns output =
+    record { panel = panel; stage = Read; items = items; turns = turns; polls = 0; output = output; unsent = false }
 
 -- What a panel's session has done where all its turns are over: something is kept of it.
 pub record Settled (panel : ℕ) (past : Past) : Type 0 where
@@ -11,4 +16,4 @@ pub record Settled (panel : ℕ) (past : Past) : Type 0 where
   pub turns : ℕ
   pub output : Output
   pub begins : past.now ≡ unread
-  pub keeps : Keeps (record { panel = panel; stage = Read; items = count; turns = turns; polls = 0; output = output; unsent = false }) past
+  pub keeps : Keeps (between_turns panel count turns output) past

@@ -1,5 +1,5 @@
 -- What a session has done so far.
-use Rattle.std.specs.Prelude.{◌≡◌, ◌≢◌, ℕ, ◌≤◌, List, [], ◌∷◌, ◌++◌, length, map, All}
+use Rattle.std.specs.Prelude.{◌≡◌, ◌≢◌, ℕ, ◌≤◌, List, [], ◌∷◌, ◌++◌, length, All}
 use mathlib.Core.List.{IsPrefix}
 use Rattle.dle_framing.specs.declared.item.Item.{Item}
 use Rattle.dle_framing.specs.Items.{items}
@@ -9,7 +9,7 @@ use Rattle.plant_core.specs.declared.request.Request.TheVariants.{Told, Poll, Le
 use Rattle.panel_session.specs.Entry.{PlantEntry}
 use Rattle.panel_session.specs.declared.asked.Asked.{Asked}
 use Rattle.panel_session.specs.Asked.{AllAsk, sent_to_plant}
-use Rattle.panel_session.specs.Turns.{Turn, bytes_of, entries_of, EndIn, AreTurns, IsTurn}
+use Rattle.panel_session.specs.Turns.{Turn, bytes_of, entries_of, requests, item_count, poll_behind, EndIn, AreTurns, IsTurn}
 use Rattle.panel_session.specs.Text.{IsText}
 
 -- The turns that are over, the present one so far (the bytes of its piece that were used, and its entries), and the bytes
@@ -52,6 +52,15 @@ read_so_far past = bytes_of past.turns ++ past.now.piece
 abbrev pub entries_so_far : Past → List PlantEntry
 entries_so_far past = entries_of past.turns ++ (past.now.told ++ past.now.polls)
 
+-- the poll that the present turn makes
+abbrev pub poll_now : ℕ → Past → Request
+poll_now panel past = poll_behind panel past.turns past.now.piece
+
+-- Where the present turn has polled, all was told that its items, which ask so, send to the plant.
+abbrev pub TellsFirst : ℕ → Past → List Asked → Type 0
+TellsFirst panel past asked =
+    past.now.polls ≢ [] → requests past.now.told ≡ sent_to_plant panel (item_count past.turns) asked
+
 -- What a session has done so far fits: the turns that are over are turns; of the present one a front of what its items send
 -- to the plant was told, all of it before the first poll, and each poll was answered; and a front of the session's text was
 -- sent.
@@ -61,9 +70,9 @@ pub record IsSoFar (plant : PlantData) (panel : ℕ) (past : Past) : Type 0 wher
   pub end_in : EndIn (bytes_of past.turns) past.now.piece ended
   pub asked : List Asked
   pub ask : AllAsk ended asked
-  pub told : IsPrefix (map (λ entry. entry.request) past.now.told) (sent_to_plant panel (length (items (bytes_of past.turns))) asked)
-  pub polls : All (λ entry. entry.request ≡ Poll panel (length (items (read_so_far past))) (length past.turns)) past.now.polls
-  pub told_first : past.now.polls ≢ [] → map (λ entry. entry.request) past.now.told ≡ sent_to_plant panel (length (items (bytes_of past.turns))) asked
+  pub told : IsPrefix (requests past.now.told) (sent_to_plant panel (item_count past.turns) asked)
+  pub polls : All (λ entry. entry.request ≡ poll_now panel past) past.now.polls
+  pub told_first : TellsFirst panel past asked
   pub within : length past.now.polls ≤ 32
   pub text : List ℕ
   pub is_text : IsText plant (items (read_so_far past)) (entries_so_far past) text

@@ -1,10 +1,8 @@
 -- What a session keeps of its past.
-use Rattle.std.specs.Prelude.{◌≡◌, ◌≢◌, ℕ, ◌+◌, ◌<◌, ◌≤◌, Bool, if◌then◌else◌, List, [], ◌∷◌, ◌++◌, length, map, All, None}
+use Rattle.std.specs.Prelude.{◌≡◌, ◌≢◌, ℕ, ◌+◌, ◌<◌, ◌≤◌, Bool, if◌then◌else◌, List, [], ◌∷◌, ◌++◌, length, All, None}
 use Rattle.std.specs.Prelude.{IsSome}
 use Rattle.dle_framing.specs.declared.item.Item.{Item}
 use Rattle.dle_framing.specs.Items.{items}
-use Rattle.plant_core.specs.declared.request.Request.{Request}
-use Rattle.plant_core.specs.declared.request.Request.TheVariants.{Poll}
 use Rattle.plant_core.specs.State.{IsForPlant}
 use Rattle.panel_session.specs.declared.asked.Asked.{Asked}
 use Rattle.panel_session.specs.declared.asked.Asked.TheVariants.{Nothing, Repeat, Refused, Noted, Sent}
@@ -12,10 +10,10 @@ use Rattle.panel_session.specs.declared.stage.Stage.{Stage}
 use Rattle.panel_session.specs.declared.stage.Stage.TheVariants.{Read, Tell, Poll as PollStage, End}
 use Rattle.panel_session.specs.Entry.{PlantEntry}
 use Rattle.panel_session.specs.Asked.{AllAsk, sent_to_plant}
-use Rattle.panel_session.specs.Turns.{bytes_of, EndIn, AreTurns, ArePolls}
+use Rattle.panel_session.specs.Turns.{bytes_of, requests, item_count, EndIn, AreTurns, ArePolls}
 use Rattle.panel_session.specs.Text.{Output, nothing_sent, output_from, told_at, polled_at}
 use Rattle.panel_session.specs.OutgoingInside.{emptied}
-use Rattle.panel_session.specs.SoFar.{Past, read_so_far, entries_so_far}
+use Rattle.panel_session.specs.SoFar.{Past, read_so_far, entries_so_far, poll_now}
 
 -- what a session keeps beside its framer and its outbox
 pub record Kept : Type 0 where
@@ -53,9 +51,6 @@ behind before output = record output { bytes = before ++ output.bytes }
 abbrev pub pending : Kept → Output
 pending kept = if kept.unsent then kept.output else emptied kept.output
 
-abbrev pub requests : List PlantEntry → List Request
-requests entries = map (λ entry. entry.request) entries
-
 -- The polls of a turn so far were answered, and may go on.
 pub record MayPoll (polls : List PlantEntry) : Type 0 where
   pub answered : All (λ entry. entry.answers ≢ []) polls
@@ -81,8 +76,12 @@ IsAtStage PollStage panel first before asked past =
     × AllTold 0 (before ++ asked) (entries_so_far past)
 IsAtStage End panel first before asked past =
     (requests past.now.told ≡ sent_to_plant panel first asked)
-    × ArePolls (Poll panel (length (items (read_so_far past))) (length past.turns)) past.now.polls
+    × ArePolls (poll_now panel past) past.now.polls
     × AllTold 0 (before ++ asked) (entries_so_far past)
+
+-- the output of what was done so far, where the items that were read ask so
+abbrev pub output_so_far : Past → List Asked → Output
+output_so_far past asked = output_from 0 asked (entries_so_far past) nothing_sent
 
 -- What is kept stands for this past.
 pub record Keeps (kept : Kept) (past : Past) : Type 0 where
@@ -97,7 +96,7 @@ pub record Keeps (kept : Kept) (past : Past) : Type 0 where
   pub turns_are : kept.turns ≡ length past.turns
   pub polls_are : kept.polls ≡ length past.now.polls
   pub within : length past.now.polls ≤ 32
-  pub polls : All (λ entry. entry.request ≡ Poll kept.panel (length (items (read_so_far past))) (length past.turns)) past.now.polls
-  pub stage : IsAtStage kept.stage kept.panel (length (items (bytes_of past.turns))) before asked past
+  pub polls : All (λ entry. entry.request ≡ poll_now kept.panel past) past.now.polls
+  pub stage : IsAtStage kept.stage kept.panel (item_count past.turns) before asked past
   pub none_from : NoneFrom (length (items (read_so_far past))) (entries_so_far past)
-  pub output : output_from 0 (before ++ asked) (entries_so_far past) nothing_sent ≡ behind past.sent (pending kept)
+  pub output : output_so_far past (before ++ asked) ≡ behind past.sent (pending kept)

@@ -27,6 +27,18 @@ entries_in turn = turn.told ++ turn.polls
 abbrev pub entries_of : List Turn → List PlantEntry
 entries_of turns = flat_map entries_in turns
 
+-- what entries asked of the plant
+abbrev pub requests : List PlantEntry → List Request
+requests entries = map (λ entry. entry.request) entries
+
+-- how many items were read in turns
+abbrev pub item_count : List Turn → ℕ
+item_count turns = length (items (bytes_of turns))
+
+-- the poll that a turn with this piece makes behind others: it has the number of items so far, and that of the turn
+abbrev pub poll_behind : ℕ → List Turn → List ℕ → Request
+poll_behind panel before piece = Poll panel (length (items (bytes_of before ++ piece))) (length before)
+
 -- A turn polls until a poll has no answer, and at most 32 times.
 pub record ArePolls (poll : Request) (polls : List PlantEntry) : Type 0 where
   pub answered : List PlantEntry
@@ -48,8 +60,8 @@ pub record IsTurn (panel : ℕ) (before : List Turn) (turn : Turn) : Type 0 wher
   pub end_in : EndIn (bytes_of before) turn.piece ended
   pub asked : List Asked
   pub ask : AllAsk ended asked
-  pub told : map (λ entry. entry.request) turn.told ≡ sent_to_plant panel (length (items (bytes_of before))) asked
-  pub polls : ArePolls (Poll panel (length (items (bytes_of before ++ turn.piece))) (length before)) turn.polls
+  pub told : requests turn.told ≡ sent_to_plant panel (item_count before) asked
+  pub polls : ArePolls (poll_behind panel before turn.piece) turn.polls
 
 -- Each turn of a session, in its place, is one.
 abbrev pub AreTurns : ℕ → List Turn → Type 0

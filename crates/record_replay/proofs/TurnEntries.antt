@@ -12,9 +12,8 @@ use Rattle.plant_core.specs.declared.request.Request.TheVariants.{Told, Poll, Le
 use Rattle.plant_core.specs.declared.answer.Answer.{Answer}
 use Rattle.panel_session.specs.Asked.{sent_to_plant}
 use Rattle.panel_session.specs.Entry.{PlantEntry}
-use Rattle.panel_session.specs.StandsInside.{requests}
 use Rattle.panel_session.specs.Text.{polled_by, polled_at, is_told_at, told_at}
-use Rattle.panel_session.specs.Turns.{Turn, bytes_of, entries_in, ArePolls, IsTurn}
+use Rattle.panel_session.specs.Turns.{Turn, bytes_of, entries_in, requests, ArePolls, IsTurn}
 
 -- What an item asks: the type is `panel_session`'s own, and is named here by a function that goes over it.
 abbrev ElementOf : {A B : Type 0} → (List A → B) → Type 0
