@@ -15,10 +15,14 @@ abbrev pub CommandEnds : Command → World → End → Type 0
 CommandEnds (Replay plant script) before end =
     (found : PlantData) × LeadsTo plant found × ReplayEnds found script (before.held script 0) end
 
+-- This file was opened at most once: each opening finds what it would have found before, or the next one is gone.
+abbrev pub OpensAtMostOnce : List ℕ → World → World → Type 0
+OpensAtMostOnce name before now = Stays (before.held name) (now.held name) ⊎ CountsOn (before.held name) (now.held name)
+
 -- At most this file was opened, once, and given back, and no sink was made. What the files hold of other names stays.
 pub record ReadsOnly (name : List ℕ) (before now : World) : Type 0 where
   pub given_back : IsGivenBack name before.custody now.custody
-  pub opened : Stays (before.held name) (now.held name) ⊎ CountsOn (before.held name) (now.held name)
+  pub opened : OpensAtMostOnce name before now
   pub others : (other : List ℕ) → other ≢ name → Stays (before.held other) (now.held other)
 
 -- the files that a command leaves

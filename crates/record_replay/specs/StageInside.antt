@@ -12,10 +12,15 @@ use Rattle.record_replay.specs.Script.{Work, Read, Leave, lines, worked, LinesSp
 use Rattle.record_replay.specs.Replay.{Stand, Works, AllWork}
 use Rattle.record_replay.specs.StandInside.{IsSettled}
 
+-- The session at the place of each panel stands for what the panel's session has done.
+abbrev pub StandForPasts : PlantData → List Session → (ℕ → Past) → Type 0
+StandForPasts plant sessions pasts = (panel : ℕ) (other : Session) → panel < length plant.panels
+    → StandsFor plant panel (slice_index_or sessions panel other) (pasts panel)
+
 -- New sessions, one for each panel.
 pub record AreNew (plant : PlantData) (sessions : List Session) : Type 0 where
   pub count : length sessions ≡ length plant.panels
-  pub each : (panel : ℕ) (other : Session) → panel < length plant.panels → StandsFor plant panel (slice_index_or sessions panel other) nothing_yet
+  pub each : StandForPasts plant sessions (λ panel. nothing_yet)
 
 -- What a session has done stays small: each of its turns, and each byte of them, has two bytes of the script.
 pub record IsSmall (used : ℕ) (past : Past) : Type 0 where
@@ -29,8 +34,7 @@ pub record StandsAt (plant : PlantData) (stage : Stage) (stand : Stand) (used : 
   pub valid : IsValid stand.state
   pub settled : IsSettled plant stand
   pub count : length stage.sessions.items ≡ length plant.panels
-  pub each : (panel : ℕ) (other : Session) → panel < length plant.panels
-      → StandsFor plant panel (slice_index_or stage.sessions.items panel other) (stand.pasts panel)
+  pub each : StandForPasts plant stage.sessions.items stand.pasts
   pub small : (panel : ℕ) → IsSmall used (stand.pasts panel)
   pub none : stage.none.items ≡ []
   pub places : room_of plant ≤ stage.none.places
