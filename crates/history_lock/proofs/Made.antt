@@ -36,7 +36,7 @@ module _ {State Request Answer : Type 0} (step : State → Request → Stepped S
       → Enters step Fits room m first t m' → m.0.numbers ≡ n ∷ [] → Fits first request → t < 2 ^ 62
       → answers ≡ (step (run step first m'.0.seen) request).answers → m''.0 ≡ ended step first m'.0 request
       → before.first ≡ first → before.number ≡ n → before.seen ≡ m.0.seen → after.seen ≡ m''.0.seen
-      → IsMade step Fits before t request answers after
+      → IsMade step Fits before after t request answers
   made m m' m'' first t n request answers before after e number fits below answered is first_is number_is seen_is after_is =
       let history : m'.0.seen ≡ e.history = ap (λ (v : V). v.seen) e.view_is in
       let numbered : number_of m'.0 ≡ before.number = ap (λ (v : V). number_of v) e.view_is ∙ (ap (λ (l : List ℕ). slice_index l 0) number ∙ sym number_is) in

@@ -9,8 +9,11 @@ use Rattle.history_lock.specs.History.{IsLegal}
 use Rattle.history_lock.specs.Seats.{SeatData, seat_data}
 use Rattle.history_lock.specs.Calls.{SeesAnswers, AddsOwn, IsNumbered, OnlyCalled, OnlyTried, FoundFull, IsRefused}
 
-module _ {State Request Answer : Type 0} (step : State → Request → Stepped State Answer) (Fits : State → Request → Type 0) where
-  pub record IsMade (before : SeatData State Request Answer) (n : ℕ) (request : Request) (answers : List Answer) (after : SeatData State Request Answer) : Type 0 where
+-- of what a seat shows before a call, and behind it
+module _ {State Request Answer : Type 0} (step : State → Request → Stepped State Answer) (Fits : State → Request → Type 0)
+    (before after : SeatData State Request Answer) where
+  -- The call of this number was made: it asked this, and was answered so.
+  pub record IsMade (n : ℕ) (request : Request) (answers : List Answer) : Type 0 where
     pub legal : IsLegal step Fits before.first after.seen
     pub numbered : IsNumbered n after.seen
     pub goes_on : SeesAnswers before request answers after
@@ -24,7 +27,7 @@ Place State Request Answer = Seat (Desk State Request) (View State Request Answe
 abbrev pub IsMadeAt : {State Request Answer : Type 0} → (State → Request → Stepped State Answer) → (State → Request → Type 0)
     → State → Place State Request Answer → ℕ → Request → List Answer → Place State Request Answer → Type 0
 IsMadeAt step Fits first before n request answers after =
-    IsMade step Fits (seat_data first before) n request answers (seat_data first after)
+    IsMade step Fits (seat_data first before) (seat_data first after) n request answers
 
 module _ {State Request Answer : Type 0} (first : State) (before : Place State Request Answer) where
   abbrev pub OnlyCalledAt : Place State Request Answer → Type 0

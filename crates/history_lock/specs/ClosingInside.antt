@@ -8,20 +8,21 @@ use Rattle.history_lock.specs.Step.{Stepped}
 use Rattle.history_lock.specs.History.{run, IsLegal, entries_of}
 use Rattle.history_lock.specs.Seats.{SeatData}
 
-module _ {State Request Answer : Type 0} where
+-- of what a view knows of a seat
+module _ {State Request Answer : Type 0} (v : View State Request Answer) (seat : SeatData State Request Answer) where
   -- a view was joined that saw this, under this number
-  abbrev pub IsFormer : View State Request Answer → SeatData State Request Answer → Type 0
-  IsFormer v seat = (former : Former Request Answer) × Contains v.former former × (former.seen ≡ seat.seen) × Contains former.numbers seat.number
+  abbrev pub IsFormer : Type 0
+  IsFormer = (former : Former Request Answer) × Contains v.former former × (former.seen ≡ seat.seen) × Contains former.numbers seat.number
 
-  -- A seat was joined to a view, or is the one that others are joined to.
-  pub record IsTaken (v : View State Request Answer) (seat : SeatData State Request Answer) : Type 0 where
+  -- The seat was joined to the view, or is the one that others are joined to.
+  pub record IsTaken : Type 0 where
     pub number : Contains v.numbers seat.number
-    pub seen : (v.seen ≡ seat.seen) ⊎ IsFormer v seat
+    pub seen : (v.seen ≡ seat.seen) ⊎ IsFormer
     pub ticket_full : seat.ticket_full ≡ true → v.ticket_full ≡ true
     pub serving_full : seat.serving_full ≡ true → v.serving_full ≡ true
 
   -- The view knows what the seat saw, and has seen no other entry under its number.
-  pub record Covers (v : View State Request Answer) (seat : SeatData State Request Answer) : Type 0 where
+  pub record Covers : Type 0 where
     pub number : Contains v.numbers seat.number
     pub seen : IsPrefix seat.seen v.seen
     pub own : entries_of seat.number v.seen ≡ entries_of seat.number seat.seen

@@ -61,9 +61,11 @@ ended step first v request = record v { stage = Idle; seen = v.seen ++ entry_at 
 abbrev pub EndsTurn : {State Request Answer : Type 0} (step : State → Request → Stepped State Answer) → State → Request → Hand State Request Answer → Hand State Request Answer → Type 0
 EndsTurn step first request before after = after ≡ (ended step first before.0 request, [])
 
-module _ {State Request Answer : Type 0} (step : State → Request → Stepped State Answer) (Fits : State → Request → Type 0) (room : State → ℕ) where
-  -- The seat has the machine, and has seen the whole history, in which it made no entry since it saw it last.
-  pub record Enters (m : Hand State Request Answer) (first : State) (t : ℕ) (m' : Hand State Request Answer) : Type 0 where
+-- of a seat in a call, and the machine that its lock was made with
+module _ {State Request Answer : Type 0} (step : State → Request → Stepped State Answer) (Fits : State → Request → Type 0) (room : State → ℕ)
+    (m : Hand State Request Answer) (first : State) where
+  -- With its ticket it has the machine now, and has seen the whole history, in which it made no entry since it saw it last.
+  pub record Enters (t : ℕ) (m' : Hand State Request Answer) : Type 0 where
     pub history : List (Entry Request Answer)
     pub desk : Desk State Request
     pub view_is : m'.0 ≡ record m.0 { stage = Holds t; seen = history; read = None }
@@ -75,19 +77,8 @@ module _ {State Request Answer : Type 0} (step : State → Request → Stepped S
     pub length_is : length history ≡ t
     pub own : All (λ n. entries_of n history ≡ entries_of n m.0.seen) m.0.numbers
 
-  -- a load of `serving` by a seat with a ticket
-  abbrev pub turn_awaited : Step (Desk State Request) → Hand State Request Answer → ℕ → Hand State Request Answer → Type 0
-  turn_awaited at m found m' = (t : ℕ) (first : State) → m.0.stage ≡ Waits t → m.0.first ≡ Some first →
-      (found ≤ t) × IfSome m.0.read (λ n. n ≤ found) × MatchBool (found == t) (Enters m first t m') (m' ≡ m)
-
-  -- the step that raises `serving`: what was asked of the machine ends the history, and the slot is back
-  abbrev pub turn_ended : Step (Desk State Request) → Hand State Request Answer → ℕ → Hand State Request Answer → Type 0
-  turn_ended at m found m' = (t : ℕ) (first : State) (desk : Desk State Request) (request : Request) →
-      m.0.stage ≡ Holds t → m.0.first ≡ Some first → m.1 ≡ (0, desk) ∷ [] → IsAsked desk request →
-      EndsTurn step first request m m'
-
   -- The seat has the machine, which is the one that all that it saw leaves.
-  pub record HasMachine (m : Hand State Request Answer) (first : State) : Type 0 where
+  pub record HasMachine : Type 0 where
     pub t : ℕ
     pub n : ℕ
     pub desk : Desk State Request
@@ -100,7 +91,7 @@ module _ {State Request Answer : Type 0} (step : State → Request → Stepped S
     pub accepts : Accepts step Fits room first desk.machine
 
   -- The seat has the machine, and asked this of it, which it took.
-  pub record IsWorked (m : Hand State Request Answer) (first : State) (request : Request) : Type 0 where
+  pub record IsWorked (request : Request) : Type 0 where
     pub t : ℕ
     pub n : ℕ
     pub desk : Desk State Request
@@ -113,6 +104,18 @@ module _ {State Request Answer : Type 0} (step : State → Request → Stepped S
     pub machine : desk.machine ≡ (step (run step first m.0.seen) request).state
     pub fits : Fits (run step first m.0.seen) request
     pub accepts : Accepts step Fits room first desk.machine
+
+module _ {State Request Answer : Type 0} (step : State → Request → Stepped State Answer) (Fits : State → Request → Type 0) (room : State → ℕ) where
+  -- a load of `serving` by a seat with a ticket
+  abbrev pub turn_awaited : Step (Desk State Request) → Hand State Request Answer → ℕ → Hand State Request Answer → Type 0
+  turn_awaited at m found m' = (t : ℕ) (first : State) → m.0.stage ≡ Waits t → m.0.first ≡ Some first →
+      (found ≤ t) × IfSome m.0.read (λ n. n ≤ found) × MatchBool (found == t) (Enters step Fits room m first t m') (m' ≡ m)
+
+  -- the step that raises `serving`: what was asked of the machine ends the history, and the slot is back
+  abbrev pub turn_ended : Step (Desk State Request) → Hand State Request Answer → ℕ → Hand State Request Answer → Type 0
+  turn_ended at m found m' = (t : ℕ) (first : State) (desk : Desk State Request) (request : Request) →
+      m.0.stage ≡ Holds t → m.0.first ≡ Some first → m.1 ≡ (0, desk) ∷ [] → IsAsked desk request →
+      EndsTurn step first request m m'
 
 module _ {State Request Answer : Type 0} where
   -- a seat that has seen nothing, under this number
