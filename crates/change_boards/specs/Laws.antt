@@ -6,9 +6,14 @@ use Rattle.change_boards.specs.declared.sort.Sort.TheVariants.{Source, Protect}
 use Rattle.change_boards.specs.Board.{Board, IsEmpty, has_notice, next, taken}
 use Rattle.change_boards.specs.Notices.{board_of, has, has_left, with_mark, with_take, with_leave}
 
+-- The panels have the same notices but for this one.
+abbrev pub SameNoticesBut : List Board → List Board → ℕ → ℕ → Sort → Type 0
+SameNoticesBut old new panel dest sort = (p d : ℕ) (s : Sort)
+    → (let notice : ℕ × ℕ × Sort = (p, d, s) in notice ≢ (panel, dest, sort)) → has new p d s ≡ has old p d s
+
 -- The panels have the same notices but for this one, and those that have left are the same.
 pub record DiffersAt (old new : List Board) (panel dest : ℕ) (sort : Sort) : Type 0 where
-  pub others : (p d : ℕ) (s : Sort) → (let notice : ℕ × ℕ × Sort = (p, d, s) in notice ≢ (panel, dest, sort)) → has new p d s ≡ has old p d s
+  pub others : SameNoticesBut old new panel dest sort
   pub left : (p : ℕ) → has_left new p ≡ has_left old p
 
 -- A panel was given this notice, and nothing else changed.
@@ -20,10 +25,15 @@ pub record Gives (old new : List Board) (panel dest : ℕ) (sort : Sort) : Type 
 abbrev pub IsBefore : ℕ → Sort → ℕ → Sort → Type 0
 IsBefore dest sort d s = (dest < d) ⊎ ((dest ≡ d) × (sort ≡ Source) × (s ≡ Protect))
 
+-- Every other notice of the panel comes after this one.
+abbrev pub IsFirstNotice : List Board → ℕ → ℕ → Sort → Type 0
+IsFirstNotice boards panel dest sort = (d : ℕ) (s : Sort) → has boards panel d s ≡ true
+    → (let notice : ℕ × Sort = (d, s) in notice ≢ (dest, sort)) → IsBefore dest sort d s
+
 -- A panel had this notice and no other before it; the notice was taken, and nothing else changed.
 pub record Takes (old new : List Board) (panel dest : ℕ) (sort : Sort) : Type 0 where
   pub stood : has old panel dest sort ≡ true
-  pub first : (d : ℕ) (s : Sort) → has old panel d s ≡ true → (let notice : ℕ × Sort = (d, s) in notice ≢ (dest, sort)) → IsBefore dest sort d s
+  pub first : IsFirstNotice old panel dest sort
   pub gone : has new panel dest sort ≡ false
   pub rest : DiffersAt old new panel dest sort
 
@@ -33,10 +43,20 @@ pub record Leaves (old new : List Board) (panel : ℕ) : Type 0 where
   pub nothing : IsEmpty (board_of new panel)
   pub others : (p : ℕ) → p ≢ panel → board_of new p ≡ board_of old p
 
+-- A mark gives its notice to its panel, where that hasn't left.
+abbrev pub PresentAreMarked : List Board → Type 0
+PresentAreMarked boards = (panel dest : ℕ) (sort : Sort) → panel < length boards → has_left boards panel ≡ false
+    → Gives boards (with_mark boards panel dest sort) panel dest sort
+
+-- A mark of a panel that has left changes nothing.
+abbrev pub LeftAreNotMarked : List Board → Type 0
+LeftAreNotMarked boards = (panel dest : ℕ) (sort : Sort) → has_left boards panel ≡ true
+    → with_mark boards panel dest sort ≡ boards
+
 -- A mark gives one notice to one panel. On a panel that has left it changes nothing.
 pub record MarksGiveOneNotice (boards : List Board) : Type 0 where
-  pub gives : (panel dest : ℕ) (sort : Sort) → panel < length boards → has_left boards panel ≡ false → Gives boards (with_mark boards panel dest sort) panel dest sort
-  pub left : (panel dest : ℕ) (sort : Sort) → has_left boards panel ≡ true → with_mark boards panel dest sort ≡ boards
+  pub gives : PresentAreMarked boards
+  pub left : LeftAreNotMarked boards
 
 -- A take removes the first notice of its panel and no other.
 abbrev pub TakesRemoveOneNotice : List Board → Type 0
@@ -57,9 +77,14 @@ pub record AreBoards (boards : List Board) (panels destinations : ℕ) : Type 0 
   pub below : (panel : ℕ) → IsBelow (board_of boards panel) destinations
   pub left : (panel : ℕ) → has_left boards panel ≡ true → IsEmpty (board_of boards panel)
 
+-- Boards are so after a mark of a destination below the count.
+abbrev pub MarkedAreBoards : List Board → ℕ → ℕ → Type 0
+MarkedAreBoards boards panels destinations = (panel dest : ℕ) (sort : Sort) → dest < destinations
+    → AreBoards (with_mark boards panel dest sort) panels destinations
+
 -- Boards stay so after a mark of a destination below the count, after a take, and after a panel has left.
 pub record StayBoards (boards : List Board) (panels destinations : ℕ) : Type 0 where
-  pub mark : (panel dest : ℕ) (sort : Sort) → dest < destinations → AreBoards (with_mark boards panel dest sort) panels destinations
+  pub mark : MarkedAreBoards boards panels destinations
   pub take : (panel : ℕ) → AreBoards (with_take boards panel) panels destinations
   pub leave : (panel : ℕ) → AreBoards (with_leave boards panel) panels destinations
 
@@ -77,7 +102,12 @@ abbrev pub taken_times : ℕ → Board → Board
 taken_times zero board = board
 taken_times (suc n) board = taken_times n (taken board)
 
+-- So many takes leave the notices of those below a count but for the first so many.
+abbrev pub LoseFirst : Board → ℕ → ℕ → Type 0
+LoseFirst board destinations takes =
+    notices_below destinations (taken_times takes board) ≡ drop takes (notices_below destinations board)
+
 -- So many takes remove the first so many notices of those below a count, in their order, and one more takes the next.
 pub record TakesInOrder (board : Board) (destinations takes : ℕ) : Type 0 where
-  pub left : notices_below destinations (taken_times takes board) ≡ drop takes (notices_below destinations board)
+  pub left : LoseFirst board destinations takes
   pub next : next (taken_times takes board) ≡ slice_get (notices_below destinations board) takes

@@ -17,17 +17,21 @@ members words = from_list (filter (has_bit words) (range_with_len 0 (64 * length
 abbrev pub IsZero : List ℕ → Type 0
 IsZero words = (word : ℕ) → slice_index words word ≡ 0
 
+-- No word changed but this one.
+abbrev pub SameWordsBut : List ℕ → List ℕ → ℕ → Type 0
+SameWordsBut old new changed = (word : ℕ) → word ≢ changed → slice_index new word ≡ slice_index old word
+
 -- One bit was set. No other bit changed, and no other word.
 pub record SetsBit (old new : List ℕ) (number : ℕ) : Type 0 where
   pub length_kept : length new ≡ length old
   pub bits : (n : ℕ) → has_bit new n ≡ ((n == number) || has_bit old n)
-  pub others : (word : ℕ) → word ≢ number / 64 → slice_index new word ≡ slice_index old word
+  pub others : SameWordsBut old new (number / 64)
 
 -- One bit was cleared, so that its word isn't greater than before. No other bit changed, and no other word.
 pub record ClearsBit (old new : List ℕ) (number : ℕ) : Type 0 where
   pub length_kept : length new ≡ length old
   pub bits : (n : ℕ) → has_bit new n ≡ (not (n == number) && has_bit old n)
-  pub others : (word : ℕ) → word ≢ number / 64 → slice_index new word ≡ slice_index old word
+  pub others : SameWordsBut old new (number / 64)
   pub less : slice_index new (number / 64) ≤ slice_index old (number / 64)
 
 -- The lowest bit of a word, by its number in the row: it is set, and no lower one of the word is.
