@@ -19,9 +19,18 @@ files_state files = record {
   calls = files.calls;
 }
 
+-- There is room for all sources, and for all sinks, that were given back, are out, or may still be handed out.
+abbrev pub SourcesHaveRoom : Inside → Type 0
+SourcesHaveRoom files =
+    files.objects + files.sources_out + length files.sources_back.items ≤ vec_capacity files.sources_back
+
+abbrev pub SinksHaveRoom : Inside → Type 0
+SinksHaveRoom files =
+    files.objects + files.sinks_out + length files.sinks_back.items ≤ vec_capacity files.sinks_back
+
 -- What is still to be handed out is new, and there is room for all that may still be given back.
 pub record HasRoom (files : Inside) : Type 0 where
   pub new_sources : AreNewSources files.waiting.items
   pub new_sinks : AreNewSinks files.sinks.items
-  pub sources : files.objects + files.sources_out + length files.sources_back.items ≤ vec_capacity files.sources_back
-  pub sinks : files.objects + files.sinks_out + length files.sinks_back.items ≤ vec_capacity files.sinks_back
+  pub sources : SourcesHaveRoom files
+  pub sinks : SinksHaveRoom files

@@ -41,10 +41,14 @@ AfterFile (Err file.Missing) before now = Stays before now
 AfterFile (Err file.TooLong) before now = CountsOn before now
 AfterFile (Err file.Failed) before now = CountsOn before now ⊎ Stays before now
 
+-- A source of this name was given back.
+abbrev pub GivesOneBack : List ℕ → Custody → Custody → Type 0
+GivesOneBack name before now = (ended : SourceEnd) × IsNamed name ended.name
+    × (now.sources_back ≡ option_map (λ back. back ++ ended ∷ []) before.sources_back)
+
 -- The source of this name, where one was handed out, was given back, and no sink was handed out or given back.
 pub record IsGivenBack (name : List ℕ) (before now : Custody) : Type 0 where
   pub sources_out : now.sources_out ≡ before.sources_out
   pub sinks_out : now.sinks_out ≡ before.sinks_out
   pub sinks_back : now.sinks_back ≡ before.sinks_back
-  pub sources_back : (now.sources_back ≡ before.sources_back)
-      ⊎ ((ended : SourceEnd) × IsNamed name ended.name × (now.sources_back ≡ option_map (λ back. back ++ ended ∷ []) before.sources_back))
+  pub sources_back : (now.sources_back ≡ before.sources_back) ⊎ GivesOneBack name before now

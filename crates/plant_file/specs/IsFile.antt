@@ -2,7 +2,7 @@
 use Rattle.std.specs.Prelude.{◌≡◌, ◌≢◌, ℕ, ◌≤◌, true, false, bytes_eq, List, All, map, sum_by, MatchOption}
 use Rattle.std.specs.List.{IsDistinct}
 use Rattle.plant_file.specs.Limits.{all_sources_limit, all_destinations_limit}
-use Rattle.plant_file.specs.FileData.{RemoteEntry, PoolEntry, DeviceEntry, SwitchEntry, BusEntry, FileData}
+use Rattle.plant_file.specs.FileData.{LevelData, RemoteEntry, PoolEntry, DeviceEntry, SwitchEntry, BusEntry, RootEntry, DisplayEntry, FileData}
 use Rattle.plant_file.specs.Rules.{level_key, remote_key, pool_key, output_key, bus_key, root_key, display_key, panel_key}
 use Rattle.plant_file.specs.Links.{has_level, has_source, has_destination, has_device, is_remote, has_pool, main_level}
 use Rattle.plant_file.specs.Ranges.{AreInRange}
@@ -10,6 +10,10 @@ use Rattle.plant_file.specs.Ranges.{AreInRange}
 -- No two of these lists of numbers are the same.
 abbrev pub AllDiffer : List (List ℕ) → Type 0
 AllDiffer = IsDistinct bytes_eq
+
+-- No two sources of a level have the same name, and no two of its destinations.
+abbrev pub HasDifferentNames : LevelData → Type 0
+HasDifferentNames level = AllDiffer level.source_names × AllDiffer level.destination_names
 
 -- A remote is a source of the plant. It stands for a local source of another matrix, to which a pool leads.
 pub record IsLinkedRemote (file : FileData) (remote : RemoteEntry) : Type 0 where
@@ -44,13 +48,19 @@ pub record IsLinkedBus (file : FileData) (bus : BusEntry) : Type 0 where
 abbrev pub IsMainDestination : FileData → ℕ → ℕ → Type 0
 IsMainDestination file matrix destination = has_destination file matrix main_level destination ≡ true
 
+abbrev pub IsLinkedRoot : FileData → RootEntry → Type 0
+IsLinkedRoot file root = IsMainDestination file root.matrix root.destination
+
+abbrev pub IsLinkedDisplay : FileData → DisplayEntry → Type 0
+IsLinkedDisplay file display = IsMainDestination file display.matrix display.destination
+
 -- Within their ranges, no two the same, and linked.
 pub record IsFile (file : FileData) : Type 0 where
   pub ranges : AreInRange file
   pub sources : sum_by (λ level. level.sources) file.levels ≤ all_sources_limit
   pub destinations : sum_by (λ level. level.destinations) file.levels ≤ all_destinations_limit
   pub levels_differ : AllDiffer (map level_key file.levels)
-  pub names_differ : All (λ level. AllDiffer level.source_names × AllDiffer level.destination_names) file.levels
+  pub names_differ : All HasDifferentNames file.levels
   pub remotes_differ : AllDiffer (map remote_key file.remotes)
   pub pools_differ : AllDiffer (map pool_key file.pools)
   pub devices_differ : AllDiffer (map (λ device. device.name) file.devices)
@@ -64,6 +74,6 @@ pub record IsFile (file : FileData) : Type 0 where
   pub pools : All (IsLinkedPool file) file.pools
   pub devices : All (IsLinkedDevice file) file.devices
   pub buses : All (IsLinkedBus file) file.buses
-  pub air : All (λ root. IsMainDestination file root.matrix root.destination) file.air
-  pub preview : All (λ root. IsMainDestination file root.matrix root.destination) file.preview
-  pub displays : All (λ display. IsMainDestination file display.matrix display.destination) file.displays
+  pub air : All (IsLinkedRoot file) file.air
+  pub preview : All (IsLinkedRoot file) file.preview
+  pub displays : All (IsLinkedDisplay file) file.displays

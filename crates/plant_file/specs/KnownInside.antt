@@ -32,11 +32,27 @@ widened before level =
     let counts = unwrap_or before no_counts in
     record { sources = max counts.sources level.sources; destinations = max counts.destinations level.destinations }
 
+-- A table has a matrix and level exactly where there is such a level.
+abbrev pub KnowsEachLevel : BTreeMap (ℕ × ℕ) Counts → List LevelData → Type 0
+KnowsEachLevel known levels = (m l : ℕ)
+    → is_some (map.get pair_cmp known (m, l)) ≡ list_any (λ at. at.matrix == m && at.level == l) levels
+
+-- The sources that it counts of them are those that some such level has, and so are the destinations.
+abbrev pub KnowsEachSource : BTreeMap (ℕ × ℕ) Counts → List LevelData → Type 0
+KnowsEachSource known levels = (m l s : ℕ)
+    → option_map_or (λ counts. nat_lt s counts.sources) (map.get pair_cmp known (m, l)) false
+    ≡ list_any (λ at. at.matrix == m && at.level == l && nat_lt s at.sources) levels
+
+abbrev pub KnowsEachDestination : BTreeMap (ℕ × ℕ) Counts → List LevelData → Type 0
+KnowsEachDestination known levels = (m l d : ℕ)
+    → option_map_or (λ counts. nat_lt d counts.destinations) (map.get pair_cmp known (m, l)) false
+    ≡ list_any (λ at. at.matrix == m && at.level == l && nat_lt d at.destinations) levels
+
 -- A table knows levels by matrix and level, with as many sources and destinations as some level there has.
 pub record KnowsLevels (known : BTreeMap (ℕ × ℕ) Counts) (levels : List LevelData) : Type 0 where
-  pub level : (m l : ℕ) → is_some (map.get pair_cmp known (m, l)) ≡ list_any (λ at. at.matrix == m && at.level == l) levels
-  pub source : (m l s : ℕ) → option_map_or (λ counts. nat_lt s counts.sources) (map.get pair_cmp known (m, l)) false ≡ list_any (λ at. at.matrix == m && at.level == l && nat_lt s at.sources) levels
-  pub destination : (m l d : ℕ) → option_map_or (λ counts. nat_lt d counts.destinations) (map.get pair_cmp known (m, l)) false ≡ list_any (λ at. at.matrix == m && at.level == l && nat_lt d at.destinations) levels
+  pub level : KnowsEachLevel known levels
+  pub source : KnowsEachSource known levels
+  pub destination : KnowsEachDestination known levels
 
 -- what tells remotes apart, and pools
 abbrev pub remote_place : RemoteEntry → ℕ × ℕ × ℕ

@@ -52,11 +52,23 @@ impl<F: io::Read> FileSource<F> {
 }
 
 impl<F: io::Read> Source for FileSource<F> {
+    ghost use Rattle.std.specs.Io.KnownBytes.{Consumes, IsAtEnd};
+    ghost use Rattle.ctl_io.specs.Faults.{counted};
+    ghost use Rattle.ctl_io.specs.Source.{IsWithin, got, read_failed};
+
     ghost left = { λ _. None };
 
     ghost faults = { λ s. s.faults };
 
-    fn read(&mut self, into: &mut [u8]) -> Read {
+    // The source shows nothing, so the trait's clauses of what is left hold; these say the same of what the reader shows.
+    fn read(&mut self, into: &mut [u8]) -> Read
+        requires { 0 < length into.old }
+        ensures within { IsWithin result (length into.old) }
+        ensures gave { Consumes (F.remaining self.old.file) (F.remaining self.new.file)
+            (take (got result) into.new) }
+        ensures ended { result ≡ Read.End → IsAtEnd (F.remaining self.new.file) }
+        ensures count { self.new.faults ≡ counted (read_failed result) self.old.faults }
+    {
         self.give(into)
     }
 }
