@@ -35,11 +35,15 @@ HasPut written faults before count text output =
 abbrev pub HasNothing : {K : Type 0} → (K → Option (List ℕ)) → (K → ℕ) → K → Output K → Type 0
 HasNothing written faults sink output = HasPut written faults (written sink) (faults sink) [] output
 
--- These bytes were put into an output behind whatever was put before. Its sink is the same.
+-- Whatever text was put into an output, these bytes were put behind it.
+abbrev pub GoesOn : {K : Type 0} → (K → Option (List ℕ)) → (K → ℕ) → List ℕ → Output K → Output K → Type 0
+GoesOn written faults more old new = (before : Option (List ℕ)) (count : ℕ) (text : List ℕ)
+    → HasPut written faults before count text old → HasPut written faults before count (text ++ more) new
+
+-- These bytes were put into an output. Its sink is the same.
 pub record Puts {K : Type 0} (written : K → Option (List ℕ)) (faults : K → ℕ) (more : List ℕ) (old new : Output K) : Type 0 where
   pub same_sink : new.out.ghost_name ≡ old.out.ghost_name
-  pub puts : (before : Option (List ℕ)) (count : ℕ) (text : List ℕ)
-      → HasPut written faults before count text old → HasPut written faults before count (text ++ more) new
+  pub puts : GoesOn written faults more old new
 
 -- All that was put into an output was given to its sink, which is so now.
 abbrev pub IsAllGiven : {K : Type 0} → (K → Option (List ℕ)) → (K → ℕ) → Output K → K → Type 0
