@@ -5,7 +5,8 @@ use Rattle.std.specs.Option.{option_map, option_and_then}
 use Rattle.std.proofs.lemmas.Bool.{and_parts, eqb-true, leb-true, ltb-true, lt-ltb}
 use Rattle.plant_config.specs.declared.records.Level.{Level}
 use Rattle.plant_config.specs.declared.records.Point.{Point}
-use Rattle.plant_config.specs.Plant.{PlantData, Numbering, dest_numbers, source_numbers, total, destinations_of, sources_of, AreNumberedFrom, HasSome, IsLevel, IsPlant}
+use Rattle.plant_config.specs.Plant.{PlantData, Numbering, dest_numbers, source_numbers, total, destinations_of, sources_of, AreNumberedFrom}
+use Rattle.plant_config.specs.IsPlant.{HasSome, IsLevel, IsPlant}
 use Rattle.plant_config.specs.Sites.{Site, level_at, number_at, has_number, level_of, site_of, dest_at, source_at, point_of, source_number_of, IsSite, LeadBothWays}
 use Rattle.plant_config.proofs.Found.{All-find, find-passes}
 use Rattle.plant_config.proofs.Order.{find-is_at}

@@ -1,13 +1,16 @@
 -- The definitions computed by hand, on a plant of two levels and at each limit. Of the two levels, level 0 has sources 0
 -- and 1 and destinations 0 to 2, and level 1 the two sources and the one destination behind them.
-use Rattle.std.proofs.Common.{◌≡◌, [], ◌∷◌, length, true, false, Some, None, refl, arith}
+use Rattle.std.proofs.Common.{◌≡◌, ◌<◌, [], ◌∷◌, codes, length, true, false, Some, None, refl, arith}
 use Rattle.plant_config.specs.declared.records.Level.{Level}
 use Rattle.plant_config.specs.Limits.{all_levels_limit, all_sources_limit, all_destinations_limit, panel_limit}
-use Rattle.plant_config.specs.Plant.{PlantData, IsLevel, IsPanel, IsPlant, destinations_of, sources_of}
+use Rattle.plant_config.specs.Plant.{PlantData, destinations_of, sources_of}
+use Rattle.plant_config.specs.IsPlant.{IsLevel, IsPanel, IsPlant, IsRemote, IsMainSource, IsSwitch}
 use Rattle.plant_config.specs.Sites.{dest_at, source_at, point_of, source_number_of}
+use Rattle.plant_config.specs.Sources.{origin_of, pool_of, source_name_of, dest_name_of}
+use Rattle.plant_config.specs.Bench.{bench}
 
 abbrev two_levels : PlantData
-two_levels = record {
+two_levels = record bench {
   levels =
       record { matrix = 3; level = 0; first_source = 0; sources = 2; first_dest = 0; destinations = 3 }
       ∷ record { matrix = 3; level = 1; first_source = 2; sources = 2; first_dest = 3; destinations = 1 }
@@ -44,6 +47,67 @@ no_place = refl
 
 third_source : source_number_of two_levels 2 ≡ Some 0
 third_source = refl
+
+-- Two matrices of two sources and one destination each. Source 3, of matrix 1, stands for source 0, of matrix 0, and the
+-- one pool leads there.
+abbrev tied : PlantData
+tied = record bench {
+  levels =
+      record { matrix = 0; level = 0; first_source = 0; sources = 2; first_dest = 0; destinations = 1 }
+      ∷ record { matrix = 1; level = 0; first_source = 2; sources = 2; first_dest = 1; destinations = 1 }
+      ∷ [];
+  sources =
+      record { name = codes "A"; origin = 0; pool = None }
+      ∷ record { name = codes "B"; origin = 1; pool = None }
+      ∷ record { name = codes "C"; origin = 2; pool = None }
+      ∷ record { name = codes "A1"; origin = 0; pool = Some 0 }
+      ∷ [];
+  dest_names = codes "X" ∷ codes "Y" ∷ [];
+  pools = record { from = 0; to = 1; level = 0; ties = 2 } ∷ [];
+}
+
+remote_stands_for_0 : origin_of tied 3 ≡ Some 0
+remote_stands_for_0 = refl
+
+local_stands_for_itself : origin_of tied 2 ≡ Some 2
+local_stands_for_itself = refl
+
+remote_has_pool_0 : pool_of tied 3 ≡ Some 0
+remote_has_pool_0 = refl
+
+local_has_no_pool : pool_of tied 2 ≡ None
+local_has_no_pool = refl
+
+no_such_source : (origin_of tied 4 ≡ None) × (pool_of tied 4 ≡ None) × (source_name_of tied 4 ≡ None)
+no_such_source = (refl, refl, refl)
+
+names : (source_name_of tied 3 ≡ Some (codes "A1")) × (dest_name_of tied 1 ≡ Some (codes "Y"))
+names = (refl, refl)
+
+pool_leads : IsRemote tied 0 3 0
+pool_leads = record { local = refl; tied = record { from = (refl, refl); to = (refl, refl) } }
+
+no_origin_is_remote : ¬ IsRemote tied 3 3 0
+no_origin_is_remote is = let h = is.local in cc
+
+no_pool_leads_back : ¬ IsRemote tied 2 1 0
+no_pool_leads_back is = let h = is.tied.from.0 in cc
+
+-- Of the two levels, level 0 has the output of a mixer, and level 1 what switches a bus.
+output_of_level_0 : IsMainSource two_levels 1
+output_of_level_0 = refl
+
+no_output_of_level_1 : ¬ IsMainSource two_levels 2
+no_output_of_level_1 is = let h : 1 ≡ 0 = is in omega (arith, h)
+
+switch_of_level_1 : IsSwitch two_levels 3
+switch_of_level_1 = record { dest = omega arith; other = omega arith }
+
+no_switch_of_level_0 : ¬ IsSwitch two_levels 0
+no_switch_of_level_0 is = let h : 0 < 0 = is.other in omega (arith, h)
+
+no_switch_past_all : ¬ IsSwitch two_levels 4
+no_switch_past_all is = is.other
 
 -- A level at each of its limits, and one past each of them.
 abbrev greatest : Level

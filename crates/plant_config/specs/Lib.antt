@@ -1,4 +1,13 @@
 pub mod Limits
 pub mod Plant
 pub mod Sites
+pub mod Sources
+pub mod NamesOfLevel
+pub mod IsPlant
+pub mod Origins
+pub mod LevelsInside
+pub mod PlantInside
 pub mod Bench
+pub mod PlantOfFile
+pub mod OfFileInside
+pub mod PlantOfText

@@ -1,5 +1,5 @@
 -- Where the destinations and sources of a plant are, and how their numbers say so. All is said once, for both.
-use Rattle.std.specs.Prelude.{◌≡◌, ℕ, ◌+◌, ◌-◌, ◌<◌, ◌==◌, ◌&&◌, nat_lt, nat_le, Bool, if◌then◌else◌, find, Option, Some, None, IsSome}
+use Rattle.std.specs.Prelude.{◌≡◌, ℕ, ◌+◌, ◌-◌, ◌<◌, ◌==◌, ◌&&◌, nat_lt, nat_le, Bool, if◌then◌else◌, List, find, Option, Some, None, IsSome}
 use Rattle.std.specs.Option.{option_map, option_and_then}
 use Rattle.plant_config.specs.declared.records.Level.{Level}
 use Rattle.plant_config.specs.declared.records.Point.{Point}
@@ -13,14 +13,20 @@ pub record Site : Type 0 where
   pub number : ℕ
 
 -- the level of this matrix and this level number
+abbrev pub level_among : List Level → ℕ → ℕ → Option Level
+level_among levels matrix number = find (λ level. level.matrix == matrix && level.level == number) levels
+
 abbrev pub level_at : PlantData → ℕ → ℕ → Option Level
-level_at plant matrix number = find (λ level. level.matrix == matrix && level.level == number) plant.levels
+level_at plant = level_among plant.levels
 
 -- the number in the whole plant of what has this number at a level, `None` where the plant has no such level or the
 -- level no such number
+abbrev pub number_among : Numbering → List Level → ℕ → ℕ → ℕ → Option ℕ
+number_among numbers levels matrix level number =
+    option_and_then (λ at. if nat_lt number (numbers.count at) then Some (numbers.first at + number) else None) (level_among levels matrix level)
+
 abbrev pub number_at : Numbering → PlantData → ℕ → ℕ → ℕ → Option ℕ
-number_at numbers plant matrix level number =
-    option_and_then (λ at. if nat_lt number (numbers.count at) then Some (numbers.first at + number) else None) (level_at plant matrix level)
+number_at numbers plant = number_among numbers plant.levels
 
 -- whether a number of the whole plant is among those of a level
 abbrev pub has_number : Numbering → ℕ → Level → Bool

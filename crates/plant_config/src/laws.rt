@@ -2,9 +2,12 @@
 
 ghost use Rattle.std.specs.Prelude.{◌≡◌};
 ghost use Rattle.plant_config.specs.Limits as limits;
-ghost use Rattle.plant_config.specs.Plant.{PlantData, IsPlant, dest_numbers, source_numbers};
+ghost use Rattle.plant_config.specs.Plant.{PlantData, dest_numbers, source_numbers};
+ghost use Rattle.plant_config.specs.IsPlant.{IsPlant};
 ghost use Rattle.plant_config.specs.Sites.{LeadBothWays};
-ghost use Rattle.plant_config.specs.Bench.{bench};
+ghost use Rattle.plant_config.specs.Origins.{OriginsAreLocal, PoolsLeadAcross, BusesDiffer};
+ghost use Rattle.plant_config.specs.Bench.{bench, bench_file};
+ghost use Rattle.plant_config.specs.PlantOfFile.{plant_of_file};
 
 use crate::limits::{
     LEVELS_OF_A_MATRIX, MATRICES, MAX_DESTINATIONS, MAX_DEVICE, MAX_LEVEL_DESTINATIONS,
@@ -30,6 +33,11 @@ pub fn the_bench_is_a_plant()
     ensures { IsPlant bench }
 {}
 
+/// The bench plant is that of its file.
+pub fn the_bench_is_in_its_file()
+    ensures { plant_of_file bench_file ≡ bench }
+{}
+
 /// A destination's number leads to its place and back. So no two destinations have one number, and none has two.
 pub fn dests_are_numbered()
     ensures { (plant : PlantData) → IsPlant plant → LeadBothWays dest_numbers plant }
@@ -38,4 +46,20 @@ pub fn dests_are_numbered()
 /// A source's number leads to its place and back. So no two sources have one number, and none has two.
 pub fn sources_are_numbered()
     ensures { (plant : PlantData) → IsPlant plant → LeadBothWays source_numbers plant }
+{}
+
+/// Each source stands for a local one, and a local source for itself.
+pub fn origins_are_local()
+    ensures { (plant : PlantData) → IsPlant plant → OriginsAreLocal plant }
+{}
+
+/// The pool of a remote source leads from the matrix of the source that it stands for to its own, another one, at the
+/// level of both.
+pub fn pools_lead_across()
+    ensures { (plant : PlantData) → IsPlant plant → PoolsLeadAcross plant }
+{}
+
+/// No destination is two buses.
+pub fn buses_differ()
+    ensures { (plant : PlantData) → IsPlant plant → BusesDiffer plant }
 {}

@@ -5,15 +5,19 @@
 #[cfg(test)]
 mod example;
 mod laws;
+mod levels;
 mod limits;
 mod numbers;
+mod of_file;
 mod plant;
+mod readers;
 mod records;
 #[cfg(test)]
 mod tests;
 
 pub use laws::{
-    dests_are_numbered, limits_are_those_of_the_profile, sources_are_numbered, the_bench_is_a_plant,
+    buses_differ, dests_are_numbered, limits_are_those_of_the_profile, origins_are_local,
+    pools_lead_across, sources_are_numbered, the_bench_is_a_plant, the_bench_is_in_its_file,
 };
 pub use limits::{
     LEVELS_OF_A_MATRIX, MATRICES, MAX_DESTINATIONS, MAX_DEVICE, MAX_LEVEL_DESTINATIONS,
@@ -21,4 +25,5 @@ pub use limits::{
 };
 pub use numbers::{BusId, DestId, DeviceId, DisplayId, Number, PanelNo, PoolId, SourceId, TieNo};
 pub use plant::Plant;
-pub use records::{Change, Level, Panel, Point};
+pub use plant_file::{Field, Name, Place, PlantFault, Section, Server, Text};
+pub use records::{Bus, Change, Device, Display, Level, Panel, Point, Pool, Source};

@@ -2,40 +2,58 @@
 
 ghost use Rattle.std.specs.Prelude.{◌≡◌, ◌<◌, IfOk};
 ghost use Rattle.plant_config.specs.Limits.{level_source_limit};
-ghost use Rattle.plant_config.specs.Plant.{IsPlant, dest_numbers, source_numbers, destinations_of, sources_of};
+ghost use Rattle.plant_config.specs.Plant.{dest_numbers, source_numbers, destinations_of, sources_of};
+ghost use Rattle.plant_config.specs.IsPlant.{IsPlant};
 ghost use Rattle.plant_config.specs.Sites.{dest_at, source_at, level_at, level_of, point_of, source_number_of};
-ghost use Rattle.plant_config.specs.Bench.{bench};
+ghost use Rattle.plant_config.specs.Bench.{bench, bench_sources, bench_dest_names};
 
+use crate::levels::Levels;
 use crate::numbers::{DestId, SourceId};
-use crate::records::{Level, Panel, Point};
+use crate::records::{Bus, Device, Display, Level, Panel, Point, Pool, Source};
+use plant_file::{Name, Server, Text};
 use std::alloc::{AllocError, Global};
 use std::marker::Model;
 
 /// A plant: what the controller knows of its routers and panels. It never changes.
 #[derive(Debug, Drop)]
 pub struct Plant {
-    levels: Vec<Level>,
-    panels: Vec<Panel>,
+    // Behind one pointer: a plant is moved and let go in one step.
+    pub(crate) parts: Box<Parts>,
+}
+
+// The parts of a plant.
+#[derive(Debug, Drop)]
+pub(crate) struct Parts {
+    pub(crate) title: Text,
+    pub(crate) server: Server,
+    pub(crate) levels: Levels,
+    pub(crate) sources: Vec<Source>,
+    pub(crate) dest_names: Vec<Name>,
+    pub(crate) pools: Vec<Pool>,
+    pub(crate) devices: Vec<Device>,
+    pub(crate) buses: Vec<Bus>,
+    pub(crate) air: Vec<DestId>,
+    pub(crate) preview: Vec<DestId>,
+    pub(crate) displays: Vec<Display>,
+    pub(crate) panels: Vec<Panel>,
 }
 
 impl Model for Plant {
-    ghost use Rattle.plant_config.specs.Plant.{PlantData, IsPlant};
+    ghost use Rattle.plant_config.specs.Plant.{PlantData};
+    ghost use Rattle.plant_config.specs.IsPlant.{IsPlant};
 
     ghost Value = { PlantData };
 
-    ghost view = { λ plant. record {
-      levels = plant.levels.items;
-      panels = plant.panels.items;
-    } };
+    ghost use Rattle.plant_config.specs.PlantInside.{fields_of};
 
-    ghost invariant = { λ plant. IsPlant (record {
-      levels = plant.levels.items;
-      panels = plant.panels.items;
-    }) };
+    ghost view = { fields_of };
+
+    ghost invariant = { λ plant. IsPlant (fields_of plant) };
 }
 
 impl Plant {
-    /// The bench plant: one level of 32 by 32 and two panels, the second a master.
+    /// The bench plant: one level of 32 by 32 with default names, and two panels, the second a master.
+    #[tactic(auto, unfolding(crate::specs::Bench::bench))]
     pub fn bench(alloc: Global) -> Result<Plant, AllocError>
         ensures { IfOk result (λ plant. plant ≡ bench) }
     {
@@ -57,18 +75,46 @@ impl Plant {
             port: 9002,
             master: true,
         };
-        let levels = [level].to_vec(alloc)?;
-        let panels = [panel, master].to_vec(alloc)?;
-        Ok(Plant { levels, panels })
+        let parts = Parts {
+            title: Text::of(alloc, "Bench")?,
+            server: Server::given(alloc)?,
+            levels: Levels::of([level].to_vec(alloc)?),
+            sources: bench_sources(alloc)?,
+            dest_names: bench_dest_names(alloc)?,
+            pools: Vec::new(alloc),
+            devices: Vec::new(alloc),
+            buses: Vec::new(alloc),
+            air: Vec::new(alloc),
+            preview: Vec::new(alloc),
+            displays: Vec::new(alloc),
+            panels: [panel, master].to_vec(alloc)?,
+        };
+        Ok(Plant {
+            parts: Box::new(alloc, parts)?,
+        })
     }
 
     /// An equal plant.
     pub fn copy(&self, alloc: Global) -> Result<Plant, AllocError>
         ensures { IfOk result (λ plant. plant ≡ self.now) }
     {
-        let levels = self.levels.as_slice().to_vec(alloc)?;
-        let panels = self.panels.as_slice().to_vec(alloc)?;
-        Ok(Plant { levels, panels })
+        let parts = Parts {
+            title: self.parts.title.copy(alloc)?,
+            server: self.parts.server.copy(alloc)?,
+            levels: self.parts.levels.copy(alloc)?,
+            sources: self.parts.sources.as_slice().to_vec(alloc)?,
+            dest_names: self.parts.dest_names.as_slice().to_vec(alloc)?,
+            pools: self.parts.pools.as_slice().to_vec(alloc)?,
+            devices: self.parts.devices.as_slice().to_vec(alloc)?,
+            buses: self.parts.buses.as_slice().to_vec(alloc)?,
+            air: self.parts.air.as_slice().to_vec(alloc)?,
+            preview: self.parts.preview.as_slice().to_vec(alloc)?,
+            displays: self.parts.displays.as_slice().to_vec(alloc)?,
+            panels: self.parts.panels.as_slice().to_vec(alloc)?,
+        };
+        Ok(Plant {
+            parts: Box::new(alloc, parts)?,
+        })
     }
 
     /// The levels, in the order matrix, level.
@@ -76,7 +122,7 @@ impl Plant {
         ensures levels { result.now ≡ self.now.levels }
         ensures plant { IsPlant self.now }
     {
-        self.levels.as_slice()
+        self.parts.levels.as_slice()
     }
 
     /// The panels, in the order of their numbers.
@@ -84,7 +130,7 @@ impl Plant {
         ensures panels { result.now ≡ self.now.panels }
         ensures plant { IsPlant self.now }
     {
-        self.panels.as_slice()
+        self.parts.panels.as_slice()
     }
 
     // The level of this matrix and this level number.
@@ -92,10 +138,7 @@ impl Plant {
         ensures at { result ≡ level_at self.now matrix level }
         ensures plant { IsPlant self.now }
     {
-        self.levels
-            .iter()
-            .copied()
-            .find(|at| at.matrix == matrix && at.level == level)
+        self.parts.levels.at(matrix, level)
     }
 
     /// The destination of this number at a level. `None` where the plant has no such level or the level no such
@@ -137,7 +180,7 @@ impl Plant {
         ensures found { result ≡ level_of dest_numbers self.now dest }
         ensures plant { IsPlant self.now }
     {
-        self.levels
+        self.levels()
             .iter()
             .copied()
             .find(|level| level.has_dest(dest))
@@ -148,7 +191,7 @@ impl Plant {
         ensures found { result ≡ level_of source_numbers self.now source }
         ensures plant { IsPlant self.now }
     {
-        self.levels
+        self.levels()
             .iter()
             .copied()
             .find(|level| level.has_source(source))
@@ -182,10 +225,32 @@ impl Plant {
         ensures count { result ≡ destinations_of self.now }
         ensures plant { IsPlant self.now }
     {
-        let mut count = 0;
-        for level in &self.levels {
-            count += level.destinations;
-        }
-        count
+        self.parts.dest_names.len() as u32
     }
+}
+
+// The sources of the bench plant, all local and with default names.
+fn bench_sources(alloc: Global) -> Result<Vec<Source>, AllocError>
+    ensures { IfOk result (λ made. made.items ≡ bench_sources) }
+{
+    let mut sources = Vec::new(alloc);
+    for number in 0..32u16 {
+        sources.push(Source {
+            name: Name::numbered(b'S', number),
+            origin: SourceId::of(u32::from(number)),
+            pool: None,
+        })?;
+    }
+    Ok(sources)
+}
+
+// The names of the bench plant's destinations.
+fn bench_dest_names(alloc: Global) -> Result<Vec<Name>, AllocError>
+    ensures { IfOk result (λ made. made.items ≡ bench_dest_names) }
+{
+    let mut names = Vec::new(alloc);
+    for number in 0..32u16 {
+        names.push(Name::numbered(b'D', number))?;
+    }
+    Ok(names)
 }

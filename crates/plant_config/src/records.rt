@@ -2,7 +2,8 @@
 
 ghost use Rattle.std.specs.Prelude.{◌≡◌};
 
-use crate::numbers::{DestId, SourceId};
+use crate::numbers::{DestId, DeviceId, PoolId, SourceId};
+use plant_file::Name;
 
 /// One level of one matrix: a router whose destinations carry its own sources.
 #[derive(Clone, Copy, Debug, PartialEq, Eq)]
@@ -40,6 +41,63 @@ impl Level {
         let source = source.get();
         self.first_source <= source && source - self.first_source < self.sources
     }
+}
+
+/// A source: its name, and where its picture comes from.
+#[derive(Clone, Copy, Debug)]
+pub struct Source {
+    /// Its name, as panels show it.
+    pub name: Name,
+    /// The local source that it stands for, itself where it is local.
+    pub origin: SourceId,
+    /// The pool of tie-lines that leads to it, `None` where it is local.
+    pub pool: Option<PoolId>,
+}
+
+/// A pool of tie-lines that lead from one matrix to another, at one level of both.
+#[derive(Clone, Copy, Debug, PartialEq, Eq)]
+pub struct Pool {
+    /// 0 to 15.
+    pub from: u8,
+    /// 0 to 15.
+    pub to: u8,
+    /// 0 to 15.
+    pub level: u8,
+    /// How many tie-lines it has, 1 to 1024.
+    pub ties: u32,
+}
+
+/// A device, a mixer say, whose output carries what its buses carry.
+#[derive(Clone, Copy, Debug, PartialEq, Eq)]
+pub struct Device {
+    /// Its output, a local source of level 0.
+    pub output: SourceId,
+    /// The number of its first bus in the whole plant.
+    pub first_bus: u32,
+    /// How many buses it has.
+    pub buses: u32,
+}
+
+/// A bus of a device.
+#[derive(Clone, Copy, Debug, PartialEq, Eq)]
+pub struct Bus {
+    /// Its device.
+    pub device: DeviceId,
+    /// The destination that it is, of level 0.
+    pub dest: DestId,
+    /// The destination whose source says whether it is on, `None` where it always is.
+    pub switch: Option<DestId>,
+}
+
+/// A display of a screen.
+#[derive(Clone, Copy, Debug, PartialEq, Eq)]
+pub struct Display {
+    /// 0 to 65534.
+    pub screen: u16,
+    /// Its index on the screen, 0 to 65534.
+    pub index: u16,
+    /// The destination that it watches, of level 0.
+    pub watch: DestId,
 }
 
 /// One control panel.

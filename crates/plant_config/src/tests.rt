@@ -70,3 +70,53 @@ fn numbers(rt: HostRuntime) {
     assert_eq!(rt; PanelNo::of(7).get(), 7);
     assert!(rt; DestId::of(3) < DestId::of(4));
 }
+
+// Sources and destinations of the bench plant, and their names.
+const NAMES: [(u32, &str, &str); 4] = [
+    (0, "S0", "D0"),
+    (9, "S9", "D9"),
+    (10, "S10", "D10"),
+    (31, "S31", "D31"),
+];
+
+#[test]
+fn names_and_origins_of_the_bench(rt: HostRuntime) -> Result<(), Fail> {
+    let plant = Plant::bench(rt.alloc())?;
+    for (number, source_name, dest_name) in NAMES {
+        assert!(rt; number < plant.source_count());
+        let source = SourceId::of(number);
+        assert_eq!(rt; plant.source_name(source), source_name.as_bytes());
+        assert_eq!(rt; plant.origin(source), source);
+        assert_eq!(rt; plant.pool_of(source), None);
+        assert!(rt; number < plant.destination_count());
+        assert_eq!(rt; plant.dest_name(DestId::of(number)), dest_name.as_bytes());
+    }
+    assert_eq!(rt; plant.source_count(), 32);
+    assert_eq!(rt; plant.sources().len(), 32);
+    Ok(())
+}
+
+#[test]
+fn the_bench_is_served_as_by_default_and_has_no_links(rt: HostRuntime) -> Result<(), Fail> {
+    let plant = Plant::bench(rt.alloc())?;
+    assert_eq!(rt; plant.title().as_str(), "Bench");
+    let server = plant.server();
+    assert_eq!(rt; server.listen.as_str(), "127.0.0.1");
+    assert_eq!(rt; server.display.as_str(), "127.0.0.1:8901");
+    assert_eq!(rt; server.idle_ms, 100);
+    assert_eq!(rt; server.idle_limit, 1_000_000);
+    assert_eq!(rt; server.turns, 1_099_511_627_776);
+    assert_eq!(rt; server.sessions, 1_000_000);
+    assert_eq!(rt; server.refresh_every, 0);
+    assert_eq!(rt; server.brightness, 3);
+    let counts = [
+        plant.pools().len(),
+        plant.devices().len(),
+        plant.buses().len(),
+        plant.air().len(),
+        plant.preview().len(),
+        plant.displays().len(),
+    ];
+    assert_eq!(rt; counts, [0; 6]);
+    Ok(())
+}

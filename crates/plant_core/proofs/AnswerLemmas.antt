@@ -11,7 +11,8 @@ use Rattle.swp08_messages.specs.Text.{IsPoint, IsSource, InRange}
 use Rattle.plant_config.specs.declared.records.Point as places
 use Rattle.plant_config.specs.declared.records.Change.{Change}
 use Rattle.plant_config.specs.declared.records.Level.{Level}
-use Rattle.plant_config.specs.Plant.{PlantData, IsLevel, IsPlant, dest_numbers, source_numbers}
+use Rattle.plant_config.specs.Plant.{PlantData, dest_numbers, source_numbers}
+use Rattle.plant_config.specs.IsPlant.{IsLevel, IsPlant}
 use Rattle.plant_config.specs.Sites.{Site, site_of, dest_at, point_of, source_number_of}
 use Rattle.plant_config.proofs.SiteLemmas.{dests_are, sources_are, site_of-IsSite}
 use Rattle.change_boards.specs.declared.sort.Sort.{Sort}

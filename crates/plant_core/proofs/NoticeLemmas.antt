@@ -10,7 +10,8 @@ use Rattle.swp08_messages.specs.declared.message.Message.{Message}
 use Rattle.swp08_messages.specs.declared.message.Message.TheVariants.{Interrogate, Connect}
 use Rattle.plant_config.specs.declared.records.Point as places
 use Rattle.plant_config.specs.declared.records.Change.{Change}
-use Rattle.plant_config.specs.Plant.{PlantData, IsPlant, dest_numbers, destinations_of}
+use Rattle.plant_config.specs.Plant.{PlantData, dest_numbers, destinations_of}
+use Rattle.plant_config.specs.IsPlant.{IsPlant}
 use Rattle.plant_config.specs.Sites.{Site, site_of, dest_at, source_number_of}
 use Rattle.plant_config.proofs.SiteLemmas.{dests_are, site_of-number_at, IsSome-site_of, source_at-source_number_of}
 use Rattle.change_boards.specs.declared.sort.Sort.{Sort}

@@ -7,7 +7,8 @@ use Rattle.swp08_messages.specs.declared.point.Point.{Point}
 use Rattle.swp08_messages.specs.declared.message.Message.TheVariants.{Interrogate, Connect, Tally}
 use Rattle.plant_config.specs.declared.records.Point as places
 use Rattle.plant_config.specs.declared.records.Change.{Change}
-use Rattle.plant_config.specs.Plant.{PlantData, IsPlant}
+use Rattle.plant_config.specs.Plant.{PlantData}
+use Rattle.plant_config.specs.IsPlant.{IsPlant}
 use Rattle.plant_config.specs.Sites.{dest_at, source_at, source_number_of}
 use Rattle.plant_config.proofs.SiteLemmas.{dest_at-point_of, source_at-source_number_of}
 use Rattle.plant_core.specs.declared.request.Request.{Request}

@@ -7,7 +7,8 @@ use Rattle.std.specs.FinMap as finite
 use Rattle.std.proofs.lemmas.Bool.{eqb-true}
 use Rattle.std.proofs.lemmas.List.Elements.{All-nil, All-push, All-filter}
 use Rattle.swp08_messages.specs.declared.point.Point.{Point}
-use Rattle.plant_config.specs.Plant.{PlantData, IsPlant, destinations_of, sources_of}
+use Rattle.plant_config.specs.Plant.{PlantData, destinations_of, sources_of}
+use Rattle.plant_config.specs.IsPlant.{IsPlant}
 use Rattle.plant_config.specs.Sites.{dest_at, source_at}
 use Rattle.plant_config.specs.declared.records.Change.{Change}
 use Rattle.plant_config.proofs.SiteLemmas.{dest_at-below, source_at-below}

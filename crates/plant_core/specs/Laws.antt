@@ -4,7 +4,8 @@ use Rattle.std.specs.FinMap.{get}
 use Rattle.swp08_messages.specs.declared.point.Point.{Point}
 use Rattle.swp08_messages.specs.declared.message.Message.{Message}
 use Rattle.swp08_messages.specs.declared.message.Message.TheVariants.{Interrogate, Connect, Tally, Connected, DumpAsk}
-use Rattle.plant_config.specs.Plant.{PlantData, IsPlant}
+use Rattle.plant_config.specs.Plant.{PlantData}
+use Rattle.plant_config.specs.IsPlant.{IsPlant}
 use Rattle.plant_config.specs.Sites.{dest_at, source_at}
 use Rattle.plant_config.specs.declared.records.Change.{Change}
 use Rattle.plant_core.specs.declared.request.Request.{Request}

@@ -1,4 +1,5 @@
 pub use Rattle.plant_config.specs.Plant
+pub use Rattle.plant_config.specs.IsPlant
 pub use Rattle.plant_config.specs.Sites
 pub use Rattle.plant_config.specs.Bench
 pub use Rattle.swp08_messages.specs.Text

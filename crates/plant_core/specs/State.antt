@@ -7,7 +7,8 @@ use Rattle.swp08_messages.specs.declared.point.Point.{Point}
 use Rattle.swp08_messages.specs.declared.message.Message.{Message}
 use Rattle.swp08_messages.specs.declared.message.MessageKind.TheVariants.{Plant}
 use Rattle.swp08_messages.specs.Text.{InRange, kind_of}
-use Rattle.plant_config.specs.Plant.{PlantData, IsPlant, destinations_of}
+use Rattle.plant_config.specs.Plant.{PlantData, destinations_of}
+use Rattle.plant_config.specs.IsPlant.{IsPlant}
 use Rattle.plant_config.specs.Sites.{dest_at, source_at, source_number_of}
 use Rattle.plant_config.specs.declared.records.Change.{Change}
 use Rattle.change_boards.specs.Board.{Board}

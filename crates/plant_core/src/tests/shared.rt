@@ -8,6 +8,7 @@ use crate::{Answer, PlantState, Request};
 use history_lock::{Closed, HistoryLock, Machine, OutBox, Seat};
 use plant_config::{DestId, Plant, SourceId};
 use std::alloc::{AllocError, Global};
+use std::process::Abort;
 use std::sync::Wait;
 use std::test::Fail;
 use std::thread::{Threads, join};
@@ -160,11 +161,33 @@ fn works(alloc: Global, state: &mut PlantState, panel: u16) -> Result<(), AllocE
     Ok(())
 }
 
+// A plant on which each panel has all its turns at once, panel 1 first.
+fn one_by_one(alloc: Global, plant: &Plant) -> Result<PlantState, AllocError> {
+    let mut state = PlantState::start(alloc, plant)?;
+    works(alloc, &mut state, 1)?;
+    works(alloc, &mut state, 0)?;
+    Ok(state)
+}
+
+// Both plants carry at each destination what the last turns of the panels connected there.
+fn carry_the_last(rt: &impl Abort, one: &PlantState, other: &PlantState) {
+    let sources = [
+        0, 31, 1, 30, 2, 29, 3, 28, 4, 27, 5, 26, 6, 25, 7, 24, 24, 7, 25, 6, 26, 5, 27, 4, 28, 3,
+        29, 2, 30, 1, 31, 0,
+    ];
+    for (dest, source) in (0..).zip(sources) {
+        let dest = DestId::of(dest);
+        let source = Some(SourceId::of(source));
+        assert_eq!(rt; one.source_at(dest), source);
+        assert_eq!(rt; other.source_at(dest), source);
+    }
+}
+
 #[test]
 fn two_threads_connect_and_poll(rt: HostRuntime) -> Result<(), Fail> {
     let alloc = rt.alloc();
     let plant = Plant::bench(alloc)?;
-    let mut fresh = PlantState::start(alloc, &plant)?;
+    let fresh = PlantState::start(alloc, &plant)?;
     let (lock, zero, one) = locked(alloc, PlantState::start(alloc, &plant)?)?;
     let ((zero, all_of_zero), (one, all_of_one)) = both(&rt, alloc, &lock, &fresh, zero, one);
     assert!(rt; all_of_zero && all_of_one);
@@ -174,21 +197,7 @@ fn two_threads_connect_and_poll(rt: HostRuntime) -> Result<(), Fail> {
         past: _,
     } = closed(alloc, lock, zero, one)?;
     assert_eq!(rt; entries, 800);
-
     // The panels' requests have an order of their own here.
-    works(alloc, &mut fresh, 1)?;
-    works(alloc, &mut fresh, 0)?;
-    let sources = [
-        0, 31, 1, 30, 2, 29, 3, 28, 4, 27, 5, 26, 6, 25, 7, 24, 24, 7, 25, 6, 26, 5, 27, 4, 28, 3,
-        29, 2, 30, 1, 31, 0,
-    ];
-    for (dest, source) in (0..).zip(sources) {
-        let dest = DestId::of(dest);
-        let source = Some(SourceId::of(source));
-        assert_eq!(rt;
-            (machine.source_at(dest), fresh.source_at(dest)),
-            (source, source)
-        );
-    }
+    carry_the_last(&rt, &machine, &one_by_one(alloc, &plant)?);
     Ok(())
 }

@@ -1,5 +1,5 @@
 use Rattle.std.proofs.Common.{refl, subst, ap, ◌∙◌, arith}
-use Rattle.plant_config.specs.Plant.{IsPlant}
+use Rattle.plant_config.specs.IsPlant.{IsPlant}
 use Rattle.plant_core.specs.State.{State}
 use Rattle.plant_core.proofs.Validity.{IsValid-start}
 use Rattle.record_replay.proofs.SmallLemmas.{small_nothing}

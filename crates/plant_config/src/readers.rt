@@ -1,0 +1,148 @@
+//! What a plant says beside its levels and panels: names, where a source's picture comes from, and how it is served.
+
+ghost use Rattle.std.specs.Prelude.{◌≡◌, ◌<◌, true, length, slice_get, Some, IfSome};
+ghost use Rattle.plant_file.specs.Ranges.{IsName};
+ghost use Rattle.plant_config.specs.Plant.{destinations_of, sources_of};
+ghost use Rattle.plant_config.specs.IsPlant.{IsPlant, is_local};
+ghost use Rattle.plant_config.specs.Sources.{origin_of, pool_of, source_name_of, dest_name_of};
+
+use crate::numbers::{DestId, PoolId, SourceId};
+use crate::plant::Plant;
+use crate::records::{Bus, Device, Display, Pool, Source};
+use plant_file::{Name, Server, Text};
+
+impl Plant {
+    /// The plant's title, 1 to 40 printable bytes.
+    pub fn title(&self) -> &Text
+        ensures title { result.now ≡ self.now.title }
+        ensures plant { IsPlant self.now }
+    {
+        &self.parts.title
+    }
+
+    /// How the plant is served.
+    pub fn server(&self) -> &Server
+        ensures server { result.now ≡ self.now.server }
+        ensures plant { IsPlant self.now }
+    {
+        &self.parts.server
+    }
+
+    /// The sources, in the order of their numbers.
+    pub fn sources(&self) -> &[Source]
+        ensures sources { result.now ≡ self.now.sources }
+        ensures plant { IsPlant self.now }
+    {
+        self.parts.sources.as_slice()
+    }
+
+    /// The names of the destinations, in the order of their numbers.
+    pub fn dest_names(&self) -> &[Name]
+        ensures names { result.now ≡ self.now.dest_names }
+        ensures plant { IsPlant self.now }
+    {
+        self.parts.dest_names.as_slice()
+    }
+
+    /// The pools of tie-lines, in the order of their numbers.
+    pub fn pools(&self) -> &[Pool]
+        ensures pools { result.now ≡ self.now.pools }
+        ensures plant { IsPlant self.now }
+    {
+        self.parts.pools.as_slice()
+    }
+
+    /// The devices, in the order of their numbers.
+    pub fn devices(&self) -> &[Device]
+        ensures devices { result.now ≡ self.now.devices }
+        ensures plant { IsPlant self.now }
+    {
+        self.parts.devices.as_slice()
+    }
+
+    /// The buses, in the order of their numbers: those of one device stand together.
+    pub fn buses(&self) -> &[Bus]
+        ensures buses { result.now ≡ self.now.buses }
+        ensures plant { IsPlant self.now }
+    {
+        self.parts.buses.as_slice()
+    }
+
+    /// The destinations that are on air, each once.
+    pub fn air(&self) -> &[DestId]
+        ensures air { result.now ≡ self.now.air }
+        ensures plant { IsPlant self.now }
+    {
+        self.parts.air.as_slice()
+    }
+
+    /// The destinations that are on preview, each once.
+    pub fn preview(&self) -> &[DestId]
+        ensures preview { result.now ≡ self.now.preview }
+        ensures plant { IsPlant self.now }
+    {
+        self.parts.preview.as_slice()
+    }
+
+    /// The displays, in the order of their numbers.
+    pub fn displays(&self) -> &[Display]
+        ensures displays { result.now ≡ self.now.displays }
+        ensures plant { IsPlant self.now }
+    {
+        self.parts.displays.as_slice()
+    }
+
+    /// How many sources the plant has in all.
+    pub fn source_count(&self) -> u32
+        ensures count { result ≡ sources_of self.now }
+        ensures plant { IsPlant self.now }
+    {
+        self.parts.sources.len() as u32
+    }
+
+    /// The local source that a source stands for, itself where it is local.
+    pub fn origin(&self, source: SourceId) -> SourceId
+        requires { source < sources_of self.now }
+        ensures origin { origin_of self.now source ≡ Some result }
+        ensures local { is_local self.now result ≡ true }
+        ensures below { result < sources_of self.now }
+    {
+        self.parts.sources[source.get() as usize].origin
+    }
+
+    /// The pool of tie-lines that leads to a source, `None` where it is local.
+    pub fn pool_of(&self, source: SourceId) -> Option<PoolId>
+        requires { source < sources_of self.now }
+        ensures pool { result ≡ pool_of self.now source }
+        ensures below { IfSome result (λ pool. pool < length self.now.pools) }
+    {
+        self.parts.sources[source.get() as usize].pool
+    }
+
+    /// A pool of tie-lines.
+    pub fn pool(&self, pool: PoolId) -> Pool
+        requires { pool < length self.now.pools }
+        ensures pool { slice_get self.now.pools pool ≡ Some result }
+        ensures plant { IsPlant self.now }
+    {
+        self.parts.pools[pool.get() as usize]
+    }
+
+    /// The name of a source, 1 to 12 printable bytes.
+    pub fn source_name(&self, source: SourceId) -> &[u8]
+        requires { source < sources_of self.now }
+        ensures named { source_name_of self.now source ≡ Some result.now }
+        ensures name { IsName result.now }
+    {
+        self.parts.sources[source.get() as usize].name.as_bytes()
+    }
+
+    /// The name of a destination, 1 to 12 printable bytes.
+    pub fn dest_name(&self, dest: DestId) -> &[u8]
+        requires { dest < destinations_of self.now }
+        ensures named { dest_name_of self.now dest ≡ Some result.now }
+        ensures name { IsName result.now }
+    {
+        self.parts.dest_names[dest.get() as usize].as_bytes()
+    }
+}
