@@ -1,0 +1,6 @@
+mod NameLists
+mod TableLemmas
+mod PageLemmas
+mod LevelLemmas
+mod LookupLemmas
+mod Worked
