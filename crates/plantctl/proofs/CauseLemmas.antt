@@ -1,36 +1,58 @@
--- The cause of an end: the words, or the replay that they ask for.
-use Rattle.std.proofs.Common.{◌≡◌, ◌≢◌, ◌⊎◌, inl, inr, ℕ, List}
+-- Where a run came to its end.
+use Rattle.std.proofs.Common.{◌≡◌, ◌≢◌, ◌⊎◌, inl, inr, ℕ, Bool, true, false, List, Result, Ok, Err, refl, sym, subst}
+use Rattle.std.specs.Prelude.{MatchBool}
 use Rattle.ctl_io.specs.Faults.{one_more}
+use Rattle.ctl_io.specs.Held.{Held}
 use Rattle.plant_config.specs.Plant.{PlantData}
 use Rattle.plantctl.specs.World.{World}
-use Rattle.plantctl.specs.End.{End, Usage, status_of}
-use Rattle.plantctl.specs.Words.{Command, Replay, Ask}
-use Rattle.plantctl.specs.Replay.{ReplayEnds}
-use Rattle.plantctl.specs.Run.{CommandEnds, LeavesFiles, ReadsOnly, EndsAtWords, EndsByCommand, IsWritten, IsCutShort}
-use Rattle.plantctl.specs.Statuses.{AskReplay}
+use Rattle.plantctl.specs.End.{End, Usage, NotBuilt, status_of}
+use Rattle.plantctl.specs.Words.{Command, Check, Replay, plant_word, Ask, HasNoForm}
+use Rattle.plantctl.specs.OpensPlant.{OpensPlant, GoesOn, next_opening}
+use Rattle.plantctl.specs.Check.{CheckEnds}
+use Rattle.plantctl.specs.Replay.{ReplayEnds, has_remotes, BuiltReplayEnds}
+use Rattle.plantctl.specs.Asked.{AskCheck, AskOn, AskReplay}
+use Rattle.plantctl.specs.Run.{CommandEnds, EndsAtWords, EndsByCommand, IsWritten, IsCutShort}
 
--- the replay that the words ask for
-pub record Replays (words : List (List ℕ)) (before now : World) (end : End) : Type 0 where
-  pub plant : PlantData
-  pub name : List ℕ
-  pub asks : AskReplay words plant name
-  pub ends : ReplayEnds plant name (before.held name 0) end
-  pub files : ReadsOnly name before now
+-- A run came to its end at its words, at the plant's word, in a check, at a plant that isn't built, or in a replay.
+pub data Came (words : List (List ℕ)) (before : World) (end : End) : Type 0 where
+  at_words : HasNoForm words → end ≡ Usage → Came words before end
+  at_plant : (command : Command) → Ask words command → OpensPlant (plant_word command) (before.held (plant_word command) 0) (Err end) → Came words before end
+  in_check : (plant : PlantData) → AskCheck words before plant → CheckEnds plant end → Came words before end
+  at_remotes : (plant : PlantData) (name : List ℕ) → AskOn words before plant name true → end ≡ NotBuilt → Came words before end
+  in_replay : (plant : PlantData) (name : List ℕ) (held : Held) → AskReplay words before plant name held → ReplayEnds plant name held end → Came words before end
 
-replays_of : (words : List (List ℕ)) (before now : World) (end : End) (command : Command) → Ask words command → CommandEnds command before end → LeavesFiles command before now → Replays words before now end
-replays_of words before now end (Replay word name) ask ends files =
-    record { plant = ends.0; name = name; asks = record { word = word; ask = ask; leads = ends.1 }; ends = ends.2; files = files }
+-- an end at a plant's word is the word's
+at_word : (words : List (List ℕ)) (before : World) (end stopped : End) (command : Command) → Ask words command → end ≡ stopped
+    → OpensPlant (plant_word command) (before.held (plant_word command) 0) (Err stopped) → Came words before end
+at_word words before end stopped command ask is opens =
+    at_plant command ask (subst (λ (e : End). OpensPlant (plant_word command) (before.held (plant_word command) 0) (Err e)) (sym is) opens)
 
-pub replays : (words : List (List ℕ)) (before now : World) (end : End) → EndsByCommand words before now end → Replays words before now end
-replays words before now end by = replays_of words before now end by.command by.ask by.ends by.files
+came_check : (words : List (List ℕ)) (before : World) (end : End) (word : List ℕ) (opened : Result PlantData End) → Ask words (Check word) → OpensPlant word (before.held word 0) opened → GoesOn CheckEnds opened end
+    → Came words before end
+came_check words before end word (Ok plant) ask opens ends = in_check plant (record { word = word; ask = ask; leads = opens }) ends
+came_check words before end word (Err stopped) ask opens ends = at_word words before end stopped (Check word) ask ends opens
 
--- Words have a form, or a run ends at them, whatever the end that is not theirs.
+on_built : (words : List (List ℕ)) (before : World) (end : End) (word name : List ℕ) (plant : PlantData) (remotes : Bool) → has_remotes plant ≡ remotes → Ask words (Replay word name)
+    → OpensPlant word (before.held word 0) (Ok plant) → MatchBool remotes (end ≡ NotBuilt) (ReplayEnds plant name (before.held name (next_opening word name)) end) → Came words before end
+on_built words before end word name plant true is ask opens ends = at_remotes plant name (record { word = word; ask = ask; leads = opens; remotes_are = is }) ends
+on_built words before end word name plant false is ask opens ends =
+    in_replay plant name (before.held name (next_opening word name)) (record { on = record { word = word; ask = ask; leads = opens; remotes_are = is }; held_is = refl }) ends
+
+came_replay : (words : List (List ℕ)) (before : World) (end : End) (word name : List ℕ) (opened : Result PlantData End) → Ask words (Replay word name) → OpensPlant word (before.held word 0) opened
+    → GoesOn (λ plant. BuiltReplayEnds plant name (before.held name (next_opening word name))) opened end → Came words before end
+came_replay words before end word name (Ok plant) ask opens ends = on_built words before end word name plant (has_remotes plant) refl ask opens ends
+came_replay words before end word name (Err stopped) ask opens ends = at_word words before end stopped (Replay word name) ask ends opens
+
+came_by : (words : List (List ℕ)) (before : World) (end : End) (command : Command) → Ask words command → CommandEnds command before end → Came words before end
+came_by words before end (Check word) ask ends = came_check words before end word ends.0 ask ends.1 ends.2
+came_by words before end (Replay word name) ask ends = came_replay words before end word name ends.0 ask ends.1 ends.2
+
 abbrev pub Cause : List (List ℕ) → World → World → End → Type 0
 Cause words before now end = EndsAtWords words before now end ⊎ EndsByCommand words before now end
 
-pub by_command : (words : List (List ℕ)) (before now : World) (end : End) → end ≢ Usage → Cause words before now end → Replays words before now end
-by_command words before now end other (inl at) = absurd (other at.end_is)
-by_command words before now end other (inr by) = replays words before now end by
+pub came : (words : List (List ℕ)) (before now : World) (end : End) → Cause words before now end → Came words before end
+came words before now end (inl at) = at_words at.no_form at.end_is
+came words before now end (inr by) = came_by words before end by.command by.ask by.ends
 
 -- a status that isn't 7 is that of a text that was written
 pub is_written : (end : End) (before now : World) (status : ℕ) → status ≢ 7 → IsWritten end before now status ⊎ IsCutShort end before now status → IsWritten end before now status

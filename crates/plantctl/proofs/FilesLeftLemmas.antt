@@ -1,42 +1,112 @@
 -- What a run leaves of the files.
-use Rattle.std.proofs.Common.{◌≡◌, ◌≢◌, ◌⊎◌, inl, inr, ℕ, Bool, true, false, List, refl, sym, ◌∙◌, ap, subst}
+use Rattle.std.proofs.Common.{◌≡◌, ◌≢◌, ◌⊎◌, inl, inr, ℕ, Bool, true, false, List, refl, sym, ◌∙◌, ap, subst, arith}
+use Rattle.std.specs.Prelude.{MatchBool}
 use Rattle.ctl_io.specs.Custody.{Custody}
 use Rattle.ctl_io.specs.Faults.{one_more, counted}
-use Rattle.ctl_io.specs.Held.{Stays}
-use Rattle.plant_config.specs.Plant.{PlantData}
-use Rattle.plantctl.specs.World.{World}
-use Rattle.plantctl.specs.End.{End, Done, NoMemory, Usage, FileMissing, FileFault, LineRefused, ScriptTooLong, status_of, is_file_fault}
-use Rattle.plantctl.specs.Run.{RunEnds}
-use Rattle.plantctl.specs.Statuses.{AskReplay}
-use Rattle.plantctl.proofs.CauseLemmas.{Cause, replays, is_written}
+use Rattle.ctl_io.specs.Held.{Held, Stays}
+use Rattle.plantctl.specs.World.{World, Shelf, shelf}
+use Rattle.plantctl.specs.End.{End, Done, NoMemory, Usage, FileMissing, FileFault, PlantRefused, PlantTooLong, NotBuilt, LineRefused, ScriptTooLong, status_of, is_file_fault}
+use Rattle.plantctl.specs.Words.{Command, Check, Replay, Ask, plant_word}
+use Rattle.plantctl.specs.OpensPlant.{is_bench}
+use Rattle.plantctl.specs.Asked.{AskFile, NamesFile}
+use Rattle.plantctl.specs.Run.{LeavesAlone, ReadsOnly, LeavesFiles, RunEnds}
+use Rattle.plantctl.proofs.CauseLemmas.{Cause, is_written}
 
--- what was done to the files
+-- What is handed out and taken back of sources and sinks comes to the same.
+record IsEven (before now : Custody) : Type 0 where
+  sources_out : now.sources_out ≡ before.sources_out
+  sinks_out : now.sinks_out ≡ before.sinks_out
+  sinks_back : now.sinks_back ≡ before.sinks_back
 
-sources_back : (words : List (List ℕ)) (before now : World) (end : End) → Cause words before now end → now.custody.sources_out ≡ before.custody.sources_out
-sources_back words before now end (inl at) = ap (λ (c : Custody). c.sources_out) at.custody
-sources_back words before now end (inr by) = (replays words before now end by).files.given_back.sources_out
+even_alone : (before now : Shelf) → LeavesAlone before now → IsEven before.custody now.custody
+even_alone before now files = record {
+  sources_out = ap (λ (c : Custody). c.sources_out) files.custody;
+  sinks_out = ap (λ (c : Custody). c.sinks_out) files.custody;
+  sinks_back = ap (λ (c : Custody). c.sinks_back) files.custody;
+}
+
+even_read : (name : List ℕ) (before now : Shelf) → ReadsOnly name before now → IsEven before.custody now.custody
+even_read name before now files = record { sources_out = files.given_back.sources_out; sinks_out = files.given_back.sinks_out; sinks_back = files.given_back.sinks_back }
+
+even_by : (bench_word : Bool) (word : List ℕ) (before now : Shelf) → MatchBool bench_word (LeavesAlone before now) (ReadsOnly word before now) → IsEven before.custody now.custody
+even_by true word before now files = even_alone before now files
+even_by false word before now files = even_read word before now files
+
+even_over : (before between now : Custody) → IsEven before between → IsEven between now → IsEven before now
+even_over before between now first then = record {
+  sources_out = then.sources_out ∙ first.sources_out;
+  sinks_out = then.sinks_out ∙ first.sinks_out;
+  sinks_back = then.sinks_back ∙ first.sinks_back;
+}
+
+even_of : (command : Command) (before now : Shelf) (end : End) → LeavesFiles command before now end → IsEven before.custody now.custody
+even_of (Check word) before now end files = even_by (is_bench word) word before now files
+even_of (Replay word name) before now end files =
+    even_over before.custody files.between.custody now.custody (even_by (is_bench word) word before files.between files.plant) (even_read name files.between now files.script)
+
+even : (words : List (List ℕ)) (before now : World) (end : End) → Cause words before now end → IsEven before.custody now.custody
+even words before now end (inl at) = even_alone (shelf before) (shelf now) at.files
+even words before now end (inr by) = even_of by.command (shelf before) (shelf now) end by.files
 
 pub given_back : (words : List (List ℕ)) (before now : World) (status : ℕ) → RunEnds words before now status → now.custody.sources_out ≡ before.custody.sources_out
-given_back words before now status run = sources_back words before now run.end run.cause
-
-sinks : (words : List (List ℕ)) (before now : World) (end : End) → Cause words before now end
-    → (now.custody.sinks_out ≡ before.custody.sinks_out) × (now.custody.sinks_back ≡ before.custody.sinks_back)
-sinks words before now end (inl at) = (ap (λ (c : Custody). c.sinks_out) at.custody, ap (λ (c : Custody). c.sinks_back) at.custody)
-sinks words before now end (inr by) = let back = (replays words before now end by).files.given_back in (back.sinks_out, back.sinks_back)
+given_back words before now status run = (even words before now run.end run.cause).sources_out
 
 pub no_sink : (words : List (List ℕ)) (before now : World) (status : ℕ) → RunEnds words before now status
     → (now.custody.sinks_out ≡ before.custody.sinks_out) × (now.custody.sinks_back ≡ before.custody.sinks_back)
-no_sink words before now status run = sinks words before now run.end run.cause
+no_sink words before now status run = let e = even words before now run.end run.cause in (e.sinks_out, e.sinks_back)
 
-others_of : (words : List (List ℕ)) (before now : World) (end : End) (name : List ℕ) → Cause words before now end → ((plant : PlantData) → AskReplay words plant name → ⊥) → Stays (before.held name) (now.held name)
-others_of words before now end name (inl at) other = at.names name
-others_of words before now end name (inr by) other =
-    let r = replays words before now end by in
-    r.files.others name (λ same. other r.plant (subst (λ (n : List ℕ). AskReplay words r.plant n) (sym same) r.asks))
+-- what is held
 
-pub others_stay : (words : List (List ℕ)) (before now : World) (status : ℕ) (name : List ℕ) → RunEnds words before now status → ((plant : PlantData) → AskReplay words plant name → ⊥)
+stays_over : (before between now : ℕ → Held) → Stays before between → Stays between now → Stays before now
+stays_over before between now first then opening = then opening ∙ first opening
+
+plant_stays : (bench_word : Bool) (word name : List ℕ) (before now : Shelf) → (bench_word ≡ false → name ≢ word) → MatchBool bench_word (LeavesAlone before now) (ReadsOnly word before now)
     → Stays (before.held name) (now.held name)
+plant_stays true word name before now differs files = files.names name
+plant_stays false word name before now differs files = files.others name (differs refl)
+
+-- a name that isn't the plant file's of a command isn't the command's word
+no_word : (words : List (List ℕ)) (name : List ℕ) (command : Command) → Ask words command → (AskFile words name → ⊥) → is_bench (plant_word command) ≡ false → name ≢ plant_word command
+no_word words name command ask other is same =
+    other (record { command = command; ask = ask; name_is = same; is_file = ap is_bench same ∙ is })
+
+others_by : (words : List (List ℕ)) (before now : World) (end : End) (name : List ℕ) (command : Command) → Ask words command → LeavesFiles command (shelf before) (shelf now) end → (NamesFile words name → ⊥)
+    → Stays (before.held name) (now.held name)
+others_by words before now end name (Check word) ask files other =
+    plant_stays (is_bench word) word name (shelf before) (shelf now) (no_word words name (Check word) ask (λ a. other (inl a))) files
+others_by words before now end name (Replay word script) ask files other =
+    stays_over (before.held name) (files.between.held name) (now.held name)
+    (plant_stays (is_bench word) word name (shelf before) files.between (no_word words name (Replay word script) ask (λ a. other (inl a))) files.plant)
+    (files.script.others name (λ same. other (inr (word, subst (λ (n : List ℕ). Ask words (Replay word n)) (sym same) ask))))
+
+others_of : (words : List (List ℕ)) (before now : World) (end : End) (name : List ℕ) → Cause words before now end → (NamesFile words name → ⊥) → Stays (before.held name) (now.held name)
+others_of words before now end name (inl at) other = at.files.names name
+others_of words before now end name (inr by) other = others_by words before now end name by.command by.ask by.files other
+
+pub others_stay : (words : List (List ℕ)) (before now : World) (status : ℕ) (name : List ℕ) → RunEnds words before now status → (NamesFile words name → ⊥) → Stays (before.held name) (now.held name)
 others_stay words before now status name run other = others_of words before now run.end name run.cause other
+
+-- no script is opened where the plant is refused
+
+unopened_by : (words : List (List ℕ)) (before now : World) (end : End) (name : List ℕ) (command : Command) → status_of end ≡ 4 → Ask words command → LeavesFiles command (shelf before) (shelf now) end
+    → (AskFile words name → ⊥) → Stays (before.held name) (now.held name)
+unopened_by words before now end name (Check word) four ask files other =
+    plant_stays (is_bench word) word name (shelf before) (shelf now) (no_word words name (Check word) ask other) files
+unopened_by words before now end name (Replay word script) four ask files other =
+    stays_over (before.held name) (files.between.held name) (now.held name)
+    (plant_stays (is_bench word) word name (shelf before) files.between (no_word words name (Replay word script) ask other) files.plant)
+    ((files.unopened four).names name)
+
+unopened_of : (words : List (List ℕ)) (before now : World) (end : End) (name : List ℕ) → status_of end ≡ 4 → Cause words before now end → (AskFile words name → ⊥) → Stays (before.held name) (now.held name)
+unopened_of words before now end name four (inl at) other = at.files.names name
+unopened_of words before now end name four (inr by) other = unopened_by words before now end name by.command four by.ask by.files other
+
+pub no_script_opened : (words : List (List ℕ)) (before now : World) (name : List ℕ) → RunEnds words before now 4 → (AskFile words name → ⊥) → Stays (before.held name) (now.held name)
+no_script_opened words before now name run other =
+    let written = is_written run.end before now 4 (λ h. omega arith) run.output in
+    unopened_of words before now run.end name (sym written.status_is) run.cause other
+
+-- the files' count of faults
 
 no_file_fault : (end : End) → status_of end ≢ 3 → is_file_fault end ≡ false
 no_file_fault (Done output) other = refl
@@ -44,6 +114,9 @@ no_file_fault NoMemory other = refl
 no_file_fault Usage other = refl
 no_file_fault (FileMissing name) other = refl
 no_file_fault (FileFault name) other = absurd (other refl)
+no_file_fault (PlantRefused fault) other = refl
+no_file_fault PlantTooLong other = refl
+no_file_fault NotBuilt other = refl
 no_file_fault (LineRefused number) other = refl
 no_file_fault ScriptTooLong other = refl
 

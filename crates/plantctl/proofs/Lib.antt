@@ -1,6 +1,12 @@
 pub mod StopLemmas
+pub mod OpensLemmas
+pub mod CheckLemmas
+pub mod CommandLemmas
 pub mod ReplayEndsLemmas
 pub mod CauseLemmas
 pub mod StatusesLemmas
+pub mod ScriptLemmas
+pub mod AskedLemmas
+pub mod AlwaysLemmas
 pub mod RunEndsLemmas
 pub mod FilesLeftLemmas

@@ -2,7 +2,7 @@
 use Rattle.std.proofs.Common.{◌≡◌, ℕ, ◌≤◌, ◌<◌, List, [], length, Option, Result, Ok, Err, refl, sym, ◌∙◌, subst}
 use Rattle.std.specs.Prelude.{IsErrAnd}
 use Rattle.std.specs.Borrow.{Bor}
-use Rattle.ctl_io.specs.Held.{Held, Unshown, NoFile, Holds, IfHeld, MayBeMissing}
+use Rattle.ctl_io.specs.Held.{Held, IfHeld, MayBeMissing}
 use Rattle.ctl_io.specs.declared.whole_file.FileFault.{FileFault}
 use Rattle.ctl_io.specs.declared.whole_file.FileFault.TheVariants as files
 use Rattle.ctl_io.proofs.SinkLemmas.{appended-nil}
@@ -15,13 +15,8 @@ use Rattle.plantctl.specs.declared.stop.Stop.{Stop}
 use Rattle.plantctl.specs.declared.stop.Stop.TheVariants as stops
 use Rattle.plantctl.specs.End.{End, Done, NoMemory, FileMissing, FileFault as FileFailed, LineRefused, ScriptTooLong}
 use Rattle.plantctl.specs.Replay.{longest_script, IfFits, ReplayEnds}
+use Rattle.plantctl.proofs.OpensLemmas.{if_held}
 use Rattle.plantctl.specs.StopInside.{stop_of_file, stop_of_replay, StopsFor}
-
--- what holds of what is held, weaker
-pub if_held : {P Q : List ℕ → Type 0} (held : Held) → ((bytes : List ℕ) → P bytes → Q bytes) → IfHeld held P → IfHeld held Q
-if_held Unshown weaker p = tt
-if_held NoFile weaker p = p
-if_held (Holds bytes) weaker p = weaker bytes p
 
 -- an error that a `?` hands on
 pub err_stop : {T : Type 0} (result : Result T Stop) (stop : Stop) (Cause : End → Type 0) (before now : Option (List ℕ)) → IsErrAnd result (λ found. found ≡ stop)
@@ -42,7 +37,7 @@ memory_stop plant name held before now there same = record {
 -- the file was not read
 pub file_stop : {T A : Type 0} (fault : FileFault) (name : Bor (List ℕ)) (plant : PlantData) (held : Held) (written : Option (List ℕ)) (read : Result A FileFault) → read ≡ Err fault
     → (read ≡ Err files.Missing → MayBeMissing held) → (read ≡ Err files.TooLong → IfHeld held (λ bytes. longest_script < length bytes))
-    → (read ≡ Err files.NoMemory → IfHeld held (λ bytes. Unit {0})) → StopsFor {T = T} (Err (stop_of_file fault name)) (ReplayEnds plant name.now held) written written
+    → (read ≡ Err files.NoMemory → IfHeld held (λ bytes. Unit {0})) → StopsFor {T = T} (Err (stop_of_file fault name stops.ScriptTooLong)) (ReplayEnds plant name.now held) written written
 file_stop files.NoMemory name plant held written read is missing too_long no_memory = memory_stop plant name.now held written written (no_memory is) refl
 file_stop files.Missing name plant held written read is missing too_long no_memory = record {
   end = FileMissing name.now;

@@ -1,26 +1,29 @@
 -- Which statuses there are, and what each tells of the output.
-use Rattle.std.proofs.Common.{◌≡◌, ◌≢◌, ◌⊎◌, inl, inr, ℕ, List, refl, sym, subst, arith}
+use Rattle.std.proofs.Common.{◌≡◌, ◌≢◌, inl, inr, ℕ, List, refl, sym, subst, arith}
 use Rattle.ctl_io.specs.Faults.{one_more}
 use Rattle.plantctl.specs.World.{World}
-use Rattle.plantctl.specs.End.{End, Done, NoMemory, Usage, FileMissing, FileFault, LineRefused, ScriptTooLong, status_of}
+use Rattle.plantctl.specs.End.{End, Done, NoMemory, Usage, FileMissing, FileFault, PlantRefused, PlantTooLong, NotBuilt, LineRefused, ScriptTooLong, status_of}
 use Rattle.plantctl.specs.Run.{RunEnds}
+use Rattle.plantctl.specs.Statuses.{IsKnown}
 use Rattle.plantctl.proofs.CauseLemmas.{is_written, status_or_7}
 
--- the six statuses
-six : (end : End) → (status_of end ≡ 0) ⊎ (status_of end ≡ 1) ⊎ (status_of end ≡ 2) ⊎ (status_of end ≡ 3) ⊎ (status_of end ≡ 5) ⊎ (status_of end ≡ 7)
-six (Done output) = inl refl
-six NoMemory = inr (inl refl)
-six Usage = inr (inr (inl refl))
-six (FileMissing name) = inr (inr (inr (inl refl)))
-six (FileFault name) = inr (inr (inr (inl refl)))
-six (LineRefused number) = inr (inr (inr (inr (inl refl))))
-six ScriptTooLong = inr (inr (inr (inr (inl refl))))
+-- the seven statuses
+seven : (end : End) → IsKnown (status_of end)
+seven (Done output) = inl refl
+seven NoMemory = inr (inl refl)
+seven Usage = inr (inr (inl refl))
+seven (FileMissing name) = inr (inr (inr (inl refl)))
+seven (FileFault name) = inr (inr (inr (inl refl)))
+seven (PlantRefused fault) = inr (inr (inr (inr (inl refl))))
+seven PlantTooLong = inr (inr (inr (inr (inl refl))))
+seven NotBuilt = inr (inr (inr (inr (inl refl))))
+seven (LineRefused number) = inr (inr (inr (inr (inr (inl refl)))))
+seven ScriptTooLong = inr (inr (inr (inr (inr (inl refl)))))
 
-pub six_statuses : (words : List (List ℕ)) (before now : World) (status : ℕ) → RunEnds words before now status
-    → (status ≡ 0) ⊎ (status ≡ 1) ⊎ (status ≡ 2) ⊎ (status ≡ 3) ⊎ (status ≡ 5) ⊎ (status ≡ 7)
-six_statuses words before now status run = elim (status_or_7 run.end before now status run.output) [
-  | inl same ↦ subst (λ (s : ℕ). (s ≡ 0) ⊎ (s ≡ 1) ⊎ (s ≡ 2) ⊎ (s ≡ 3) ⊎ (s ≡ 5) ⊎ (s ≡ 7)) (sym same) (six run.end)
-  | inr failed ↦ inr (inr (inr (inr (inr failed.0))))
+pub seven_statuses : (words : List (List ℕ)) (before now : World) (status : ℕ) → RunEnds words before now status → IsKnown status
+seven_statuses words before now status run = elim (status_or_7 run.end before now status run.output) [
+  | inl same ↦ subst IsKnown (sym same) (seven run.end)
+  | inr failed ↦ inr (inr (inr (inr (inr (inr failed.0)))))
 ]
 
 -- no end of its own has status 7
@@ -30,6 +33,9 @@ not_7 NoMemory is = omega arith
 not_7 Usage is = omega arith
 not_7 (FileMissing name) is = omega arith
 not_7 (FileFault name) is = omega arith
+not_7 (PlantRefused fault) is = omega arith
+not_7 PlantTooLong is = omega arith
+not_7 NotBuilt is = omega arith
 not_7 (LineRefused number) is = omega arith
 not_7 ScriptTooLong is = omega arith
 

@@ -1,81 +1,135 @@
 -- What the end of a run tells by its status.
-use Rattle.std.proofs.Common.{◌≡◌, ◌≢◌, ◌⊎◌, inl, inr, ℕ, List, refl, sym, ◌∙◌, ap, subst, arith}
+use Rattle.std.proofs.Common.{◌≡◌, ◌⊎◌, inl, inr, ℕ, Bool, true, false, List, Ok, Err, refl, ◌∙◌, ap, subst, arith}
+use Rattle.std.specs.Prelude.{MatchBool}
 use Rattle.ctl_io.specs.Sink.{appended}
-use Rattle.ctl_io.specs.Faults.{counted}
-use Rattle.ctl_io.specs.Held.{Held, Holds, NoFile}
+use Rattle.ctl_io.specs.Faults.{one_more, counted}
+use Rattle.ctl_io.specs.Held.{Held, MayBeHere}
+use Rattle.plant_file.specs.declared.fault.PlantFault.{PlantFault}
+use Rattle.plant_file.specs.PlantFile.{fault_text}
 use Rattle.plant_config.specs.Plant.{PlantData}
-use Rattle.record_replay.specs.Replay.{IsReplay}
-use Rattle.record_replay.proofs.IsReplayLemmas.{apart}
+use Rattle.plant_config.specs.Bench.{bench}
 use Rattle.plantctl.specs.World.{World}
-use Rattle.plantctl.specs.End.{End, Done, NoMemory, Usage, FileMissing, FileFault, LineRefused, ScriptTooLong, status_of, text_of, is_file_fault}
-use Rattle.plantctl.specs.Lines.{usage, file_missing, file_fault}
-use Rattle.plantctl.specs.Words.{Replay, HasNoForm}
-use Rattle.plantctl.specs.Replay.{IfFits, ReplayEnds}
+use Rattle.plantctl.specs.End.{End, Done, NoMemory, Usage, FileMissing, FileFault, PlantRefused, PlantTooLong, NotBuilt, LineRefused, ScriptTooLong, status_of, text_of, is_file_fault}
+use Rattle.plantctl.specs.Lines.{no_memory, usage, file_missing, file_fault, plant_refused, plant_too_long, not_built}
+use Rattle.plantctl.specs.Words.{Command, Check, Replay, plant_word, Ask, HasNoForm}
+use Rattle.plantctl.specs.OpensPlant.{is_bench, OpensBench, OpensFile, OpensPlant, Reads}
+use Rattle.plantctl.specs.Asked.{AskFile}
 use Rattle.plantctl.specs.Run.{IsWritten, RunEnds}
-use Rattle.plantctl.proofs.ReplayEndsLemmas.{if_held}
-use Rattle.plantctl.specs.Statuses.{AskReplay, WasReplayed, RanOutOfMemory, WasMissing, HadFileFault, RefusedLine, RefusedLength, IsAccepted, IsRefused, WasKept}
-use Rattle.plantctl.proofs.CauseLemmas.{Cause, replays, by_command, is_written, status_or_7}
+use Rattle.plantctl.specs.Statuses.{WasChecked, WasReplayed, RanOutOfMemory, WasMissing, HadFileFault, HadPlantFault, WasTooLong, WasNotBuilt}
+use Rattle.plantctl.proofs.OpensLemmas.{if_held, opened_file}
+use Rattle.plantctl.proofs.CauseLemmas.{Came, at_words, at_plant, in_check, at_remotes, in_replay, came, is_written, status_or_7}
 
-done_of : (words : List (List ℕ)) (before now : World) (end : End) → Cause words before now end → IsWritten end before now 0 → WasReplayed words before now
-done_of words before now (Done output) cause written =
-    let r = by_command words before now (Done output) (λ h. cc) cause in
-    record {
-      plant = r.plant;
-      name = r.name;
-      asks = r.asks;
-      output = output;
-      within = if_held (before.held r.name 0) (λ bytes h. h.0) r.ends;
-      replay = if_held (before.held r.name 0) (λ bytes h. h.1) r.ends;
-      appends = written.appends;
-    }
-done_of words before now NoMemory cause written = absurd (let h = written.status_is in omega arith)
-done_of words before now Usage cause written = absurd (let h = written.status_is in omega arith)
-done_of words before now (FileMissing name) cause written = absurd (let h = written.status_is in omega arith)
-done_of words before now (FileFault name) cause written = absurd (let h = written.status_is in omega arith)
-done_of words before now (LineRefused number) cause written = absurd (let h = written.status_is in omega arith)
-done_of words before now ScriptTooLong cause written = absurd (let h = written.status_is in omega arith)
+-- no plant's word leads to an end that neither the bench plant nor a plant file has
+pub nowhere : (word : List ℕ) (held : Held) (end : End) → (OpensBench (Err end) → ⊥) → (OpensFile word held (Err end) → ⊥) → OpensPlant word held (Err end) → ⊥
+nowhere word held end no_bench no_file opens = no_file (opened_file word held end no_bench opens).1
 
-pub done : (words : List (List ℕ)) (before now : World) → RunEnds words before now 0 → WasReplayed words before now
-done words before now run = done_of words before now run.end run.cause (is_written run.end before now 0 (λ h. omega arith) run.output)
+-- the plant file that a command asks for, where its word leads to an end of its own
+file_asked : (words : List (List ℕ)) (command : Command) → Ask words command → is_bench (plant_word command) ≡ false → AskFile words (plant_word command)
+file_asked words command ask is = record { command = command; ask = ask; name_is = refl; is_file = is }
 
-memory_of : (words : List (List ℕ)) (before now : World) (end : End) → Cause words before now end → IsWritten end before now 1 → RanOutOfMemory words before now
-memory_of words before now NoMemory cause written =
-    let r = by_command words before now NoMemory (λ h. cc) cause in
-    record {
-      plant = r.plant;
-      name = r.name;
-      asks = r.asks;
-      there = r.ends;
-      appends = written.appends;
-    }
-memory_of words before now (Done output) cause written = absurd (let h = written.status_is in omega arith)
-memory_of words before now Usage cause written = absurd (let h = written.status_is in omega arith)
-memory_of words before now (FileMissing name) cause written = absurd (let h = written.status_is in omega arith)
-memory_of words before now (FileFault name) cause written = absurd (let h = written.status_is in omega arith)
-memory_of words before now (LineRefused number) cause written = absurd (let h = written.status_is in omega arith)
-memory_of words before now ScriptTooLong cause written = absurd (let h = written.status_is in omega arith)
+-- status 0
+
+done_at : (words : List (List ℕ)) (before now : World) (output : List ℕ) → Came words before (Done output) → now.written ≡ appended before.written output → WasChecked words before now ⊎ WasReplayed words before now
+done_at words before now output (at_words none is) appends = absurd (cc)
+done_at words before now output (at_plant command ask opens) appends =
+    absurd (nowhere (plant_word command) (before.held (plant_word command) 0) (Done output) (λ h. h) (λ h. h) opens)
+done_at words before now output (in_check plant asks ends) appends = inl (record { plant = plant; asks = asks; appends = appends ∙ ap (appended before.written) ends })
+done_at words before now output (at_remotes plant name on is) appends = absurd (cc)
+done_at words before now output (in_replay plant name held asks ends) appends = inr (record {
+  plant = plant;
+  name = name;
+  held = held;
+  asks = asks;
+  output = output;
+  within = if_held held (λ bytes h. h.0) ends;
+  replay = if_held held (λ bytes h. h.1) ends;
+  appends = appends;
+})
+
+done_of : (words : List (List ℕ)) (before now : World) (end : End) → Came words before end → IsWritten end before now 0 → WasChecked words before now ⊎ WasReplayed words before now
+done_of words before now (Done output) from written = done_at words before now output from written.appends
+done_of words before now NoMemory from written = absurd (let h = written.status_is in omega arith)
+done_of words before now Usage from written = absurd (let h = written.status_is in omega arith)
+done_of words before now (FileMissing name) from written = absurd (let h = written.status_is in omega arith)
+done_of words before now (FileFault name) from written = absurd (let h = written.status_is in omega arith)
+done_of words before now (PlantRefused fault) from written = absurd (let h = written.status_is in omega arith)
+done_of words before now PlantTooLong from written = absurd (let h = written.status_is in omega arith)
+done_of words before now NotBuilt from written = absurd (let h = written.status_is in omega arith)
+done_of words before now (LineRefused number) from written = absurd (let h = written.status_is in omega arith)
+done_of words before now ScriptTooLong from written = absurd (let h = written.status_is in omega arith)
+
+pub done : (words : List (List ℕ)) (before now : World) → RunEnds words before now 0 → WasChecked words before now ⊎ WasReplayed words before now
+done words before now run =
+    done_of words before now run.end (came words before now run.end run.cause) (is_written run.end before now 0 (λ h. omega arith) run.output)
+
+-- status 1
+
+either : (P Q : Type 0) (b : Bool) → MatchBool b P Q → (b ≡ true) ⊎ Q
+either P Q true chosen = inl refl
+either P Q false chosen = inr chosen
+
+-- a plant's word that leads to a plant is that of the bench plant, or its file may be there
+led : (word : List ℕ) (held : Held) (plant : PlantData) → OpensPlant word held (Ok plant) → (is_bench word ≡ true) ⊎ MayBeHere held
+led word held plant leads = elim (either (plant ≡ bench) (Reads held (Ok plant)) (is_bench word) leads) [
+  | inl is ↦ inl is
+  | inr reads ↦ inr (if_held held (λ bytes h. tt) reads)
+]
+
+memory_at : (words : List (List ℕ)) (before now : World) → Came words before NoMemory → now.written ≡ appended before.written no_memory → RanOutOfMemory words before now
+memory_at words before now (at_words none is) appends = absurd (cc)
+memory_at words before now (at_plant command ask opens) appends = record {
+  command = command;
+  ask = ask;
+  there = either (OpensBench (Err NoMemory)) (MayBeHere (before.held (plant_word command) 0)) (is_bench (plant_word command)) opens;
+  appends = appends;
+}
+memory_at words before now (in_check plant asks ends) appends =
+    record { command = Check asks.word; ask = asks.ask; there = led asks.word (before.held asks.word 0) plant asks.leads; appends = appends }
+memory_at words before now (at_remotes plant name on is) appends = absurd (cc)
+memory_at words before now (in_replay plant name held asks ends) appends =
+    record { command = Replay asks.on.word name; ask = asks.on.ask; there = led asks.on.word (before.held asks.on.word 0) plant asks.on.leads; appends = appends }
+
+memory_of : (words : List (List ℕ)) (before now : World) (end : End) → Came words before end → IsWritten end before now 1 → RanOutOfMemory words before now
+memory_of words before now NoMemory from written = memory_at words before now from written.appends
+memory_of words before now (Done output) from written = absurd (let h = written.status_is in omega arith)
+memory_of words before now Usage from written = absurd (let h = written.status_is in omega arith)
+memory_of words before now (FileMissing name) from written = absurd (let h = written.status_is in omega arith)
+memory_of words before now (FileFault name) from written = absurd (let h = written.status_is in omega arith)
+memory_of words before now (PlantRefused fault) from written = absurd (let h = written.status_is in omega arith)
+memory_of words before now PlantTooLong from written = absurd (let h = written.status_is in omega arith)
+memory_of words before now NotBuilt from written = absurd (let h = written.status_is in omega arith)
+memory_of words before now (LineRefused number) from written = absurd (let h = written.status_is in omega arith)
+memory_of words before now ScriptTooLong from written = absurd (let h = written.status_is in omega arith)
 
 pub ran_out : (words : List (List ℕ)) (before now : World) → RunEnds words before now 1 → RanOutOfMemory words before now
-ran_out words before now run = memory_of words before now run.end run.cause (is_written run.end before now 1 (λ h. omega arith) run.output)
+ran_out words before now run =
+    memory_of words before now run.end (came words before now run.end run.cause) (is_written run.end before now 1 (λ h. omega arith) run.output)
 
--- the end of status 2 is that of words without a form
+-- status 2
+
 usage_of : (end : End) → 2 ≡ status_of end → end ≡ Usage
 usage_of Usage is = refl
 usage_of (Done output) is = absurd (omega arith)
 usage_of NoMemory is = absurd (omega arith)
 usage_of (FileMissing name) is = absurd (omega arith)
 usage_of (FileFault name) is = absurd (omega arith)
+usage_of (PlantRefused fault) is = absurd (omega arith)
+usage_of PlantTooLong is = absurd (omega arith)
+usage_of NotBuilt is = absurd (omega arith)
 usage_of (LineRefused number) is = absurd (omega arith)
 usage_of ScriptTooLong is = absurd (omega arith)
 
-usage_cause : (words : List (List ℕ)) (before now : World) → Cause words before now Usage → HasNoForm words
-usage_cause words before now (inl at) = at.no_form
-usage_cause words before now (inr by) = absurd (replays words before now Usage by).ends
+usage_at : (words : List (List ℕ)) (before : World) → Came words before Usage → HasNoForm words
+usage_at words before (at_words none is) = none
+usage_at words before (at_plant command ask opens) = absurd (nowhere (plant_word command) (before.held (plant_word command) 0) Usage (λ h. h) (λ h. h) opens)
+usage_at words before (in_check plant asks ends) = absurd ends
+usage_at words before (at_remotes plant name on is) = absurd (cc)
+usage_at words before (in_replay plant name held asks ends) = absurd ends
 
 pub usage_no_form : (words : List (List ℕ)) (before now : World) → RunEnds words before now 2 → HasNoForm words
 usage_no_form words before now run =
     let written = is_written run.end before now 2 (λ h. omega arith) run.output in
-    usage_cause words before now (subst (λ (e : End). Cause words before now e) (usage_of run.end written.status_is) run.cause)
+    usage_at words before (subst (λ (e : End). Came words before e) (usage_of run.end written.status_is) (came words before now run.end run.cause))
 
 pub usage_line : (words : List (List ℕ)) (before now : World) → RunEnds words before now 2 → now.written ≡ appended before.written usage
 usage_line words before now run =
@@ -83,164 +137,125 @@ usage_line words before now run =
     written.appends ∙ ap (λ (e : End). appended before.written (text_of e)) (usage_of run.end written.status_is)
 
 -- words without a form end at them
-no_form_end : (words : List (List ℕ)) (before now : World) (end : End) → HasNoForm words → Cause words before now end → end ≡ Usage
-no_form_end words before now end none (inl at) = at.end_is
-no_form_end words before now end none (inr by) = absurd (none by.command by.ask)
+no_form_end : (words : List (List ℕ)) (before : World) (end : End) → HasNoForm words → Came words before end → end ≡ Usage
+no_form_end words before end none (at_words without is) = is
+no_form_end words before end none (at_plant command ask opens) = absurd (none command ask)
+no_form_end words before end none (in_check plant asks ends) = absurd (none (Check asks.word) asks.ask)
+no_form_end words before end none (at_remotes plant name on is) = absurd (none (Replay on.word name) on.ask)
+no_form_end words before end none (in_replay plant name held asks ends) = absurd (none (Replay asks.on.word name) asks.on.ask)
 
 pub usage_always : (words : List (List ℕ)) (before now : World) (status : ℕ) → HasNoForm words → RunEnds words before now status → (status ≡ 2) ⊎ (status ≡ 7)
 usage_always words before now status none run = elim (status_or_7 run.end before now status run.output) [
-  | inl is ↦ inl (is ∙ ap status_of (no_form_end words before now run.end none run.cause))
+  | inl is ↦ inl (is ∙ ap status_of (no_form_end words before run.end none (came words before now run.end run.cause)))
   | inr failed ↦ inr failed.0
 ]
 
-file_of : (words : List (List ℕ)) (before now : World) (end : End) → Cause words before now end → IsWritten end before now 3 → now.file_faults ≡ counted (is_file_fault end) before.file_faults
-    → WasMissing words before now ⊎ HadFileFault words before now
-file_of words before now (FileMissing name) cause written count =
-    let r = by_command words before now (FileMissing name) (λ h. cc) cause in
-    inl (record {
-      plant = r.plant;
-      name = r.name;
-      asks = r.asks;
-      missing = r.ends.1;
+-- status 3
+
+missing_at : (words : List (List ℕ)) (before now : World) (name : List ℕ) → Came words before (FileMissing name) → now.file_faults ≡ before.file_faults
+    → now.written ≡ appended before.written (file_missing name) → WasMissing words before now
+missing_at words before now name (at_words none is) count appends = absurd (cc)
+missing_at words before now name (at_plant command ask opens) count appends =
+    let o = opened_file (plant_word command) (before.held (plant_word command) 0) (FileMissing name) (λ h. h) opens in
+    record {
+      name = plant_word command;
+      held = before.held (plant_word command) 0;
+      wants = inl (file_asked words command ask o.0, refl);
+      missing = o.1.1;
       no_fault = count;
-      appends = written.appends ∙ ap (λ (n : List ℕ). appended before.written (file_missing n)) r.ends.0;
-    })
-file_of words before now (FileFault name) cause written count =
-    let r = by_command words before now (FileFault name) (λ h. cc) cause in
-    inr (record {
-      plant = r.plant;
-      name = r.name;
-      asks = r.asks;
+      appends = appends ∙ ap (λ (n : List ℕ). appended before.written (file_missing n)) o.1.0;
+    }
+missing_at words before now name (in_check plant asks ends) count appends = absurd ends
+missing_at words before now name (at_remotes plant script on is) count appends = absurd (cc)
+missing_at words before now name (in_replay plant script held asks ends) count appends = record {
+  name = script;
+  held = held;
+  wants = inr (plant, asks);
+  missing = ends.1;
+  no_fault = count;
+  appends = appends ∙ ap (λ (n : List ℕ). appended before.written (file_missing n)) ends.0;
+}
+
+fault_at : (words : List (List ℕ)) (before now : World) (name : List ℕ) → Came words before (FileFault name) → now.file_faults ≡ one_more before.file_faults
+    → now.written ≡ appended before.written (file_fault name) → HadFileFault words before now
+fault_at words before now name (at_words none is) count appends = absurd (cc)
+fault_at words before now name (at_plant command ask opens) count appends =
+    let o = opened_file (plant_word command) (before.held (plant_word command) 0) (FileFault name) (λ h. h) opens in
+    record {
+      name = plant_word command;
+      held = before.held (plant_word command) 0;
+      wants = inl (file_asked words command ask o.0, refl);
       fault = count;
-      appends = written.appends ∙ ap (λ (n : List ℕ). appended before.written (file_fault n)) r.ends;
-    })
-file_of words before now (Done output) cause written count = absurd (let h = written.status_is in omega arith)
-file_of words before now NoMemory cause written count = absurd (let h = written.status_is in omega arith)
-file_of words before now Usage cause written count = absurd (let h = written.status_is in omega arith)
-file_of words before now (LineRefused number) cause written count = absurd (let h = written.status_is in omega arith)
-file_of words before now ScriptTooLong cause written count = absurd (let h = written.status_is in omega arith)
+      appends = appends ∙ ap (λ (n : List ℕ). appended before.written (file_fault n)) o.1;
+    }
+fault_at words before now name (in_check plant asks ends) count appends = absurd ends
+fault_at words before now name (at_remotes plant script on is) count appends = absurd (cc)
+fault_at words before now name (in_replay plant script held asks ends) count appends = record {
+  name = script;
+  held = held;
+  wants = inr (plant, asks);
+  fault = count;
+  appends = appends ∙ ap (λ (n : List ℕ). appended before.written (file_fault n)) ends;
+}
+
+file_of : (words : List (List ℕ)) (before now : World) (end : End) → Came words before end → IsWritten end before now 3 → now.file_faults ≡ counted (is_file_fault end) before.file_faults
+    → WasMissing words before now ⊎ HadFileFault words before now
+file_of words before now (FileMissing name) from written count = inl (missing_at words before now name from count written.appends)
+file_of words before now (FileFault name) from written count = inr (fault_at words before now name from count written.appends)
+file_of words before now (Done output) from written count = absurd (let h = written.status_is in omega arith)
+file_of words before now NoMemory from written count = absurd (let h = written.status_is in omega arith)
+file_of words before now Usage from written count = absurd (let h = written.status_is in omega arith)
+file_of words before now (PlantRefused fault) from written count = absurd (let h = written.status_is in omega arith)
+file_of words before now PlantTooLong from written count = absurd (let h = written.status_is in omega arith)
+file_of words before now NotBuilt from written count = absurd (let h = written.status_is in omega arith)
+file_of words before now (LineRefused number) from written count = absurd (let h = written.status_is in omega arith)
+file_of words before now ScriptTooLong from written count = absurd (let h = written.status_is in omega arith)
 
 pub file_cause : (words : List (List ℕ)) (before now : World) → RunEnds words before now 3 → WasMissing words before now ⊎ HadFileFault words before now
-file_cause words before now run = file_of words before now run.end run.cause (is_written run.end before now 3 (λ h. omega arith) run.output) run.file_faults
+file_cause words before now run =
+    file_of words before now run.end (came words before now run.end run.cause) (is_written run.end before now 3 (λ h. omega arith) run.output) run.file_faults
 
-script_of : (words : List (List ℕ)) (before now : World) (end : End) → Cause words before now end → IsWritten end before now 5 → RefusedLine words before now ⊎ RefusedLength words before now
-script_of words before now (LineRefused number) cause written =
-    let r = by_command words before now (LineRefused number) (λ h. cc) cause in
-    inl (record {
-      plant = r.plant;
-      name = r.name;
-      asks = r.asks;
-      number = number;
-      within = if_held (before.held r.name 0) (λ bytes h. h.0) r.ends;
-      first_bad = if_held (before.held r.name 0) (λ bytes h. h.1) r.ends;
-      appends = written.appends;
-    })
-script_of words before now ScriptTooLong cause written =
-    let r = by_command words before now ScriptTooLong (λ h. cc) cause in
-    inr (record { plant = r.plant; name = r.name; asks = r.asks; too_long = r.ends; appends = written.appends })
-script_of words before now (Done output) cause written = absurd (let h = written.status_is in omega arith)
-script_of words before now NoMemory cause written = absurd (let h = written.status_is in omega arith)
-script_of words before now Usage cause written = absurd (let h = written.status_is in omega arith)
-script_of words before now (FileMissing name) cause written = absurd (let h = written.status_is in omega arith)
-script_of words before now (FileFault name) cause written = absurd (let h = written.status_is in omega arith)
+-- status 4
 
-pub script_cause : (words : List (List ℕ)) (before now : World) → RunEnds words before now 5 → RefusedLine words before now ⊎ RefusedLength words before now
-script_cause words before now run = script_of words before now run.end run.cause (is_written run.end before now 5 (λ h. omega arith) run.output)
+plant_fault_at : (words : List (List ℕ)) (before now : World) (fault : PlantFault) → Came words before (PlantRefused fault) → now.written ≡ appended before.written (plant_refused (fault_text fault))
+    → HadPlantFault words before now
+plant_fault_at words before now fault (at_words none is) appends = absurd (cc)
+plant_fault_at words before now fault (at_plant command ask opens) appends =
+    let o = opened_file (plant_word command) (before.held (plant_word command) 0) (PlantRefused fault) (λ h. h) opens in
+    record { name = plant_word command; asks = file_asked words command ask o.0; fault = fault; reads = o.1; appends = appends }
+plant_fault_at words before now fault (in_check plant asks ends) appends = absurd ends
+plant_fault_at words before now fault (at_remotes plant script on is) appends = absurd (cc)
+plant_fault_at words before now fault (in_replay plant script held asks ends) appends = absurd ends
 
--- words ask for one script, on one plant
-same_name : (words : List (List ℕ)) (plant plant' : PlantData) (name name' : List ℕ) → AskReplay words plant name → AskReplay words plant' name' → name ≡ name'
-same_name words plant plant' name name' a b = let same = sym a.ask.form ∙ b.ask.form in cc
+too_long_at : (words : List (List ℕ)) (before now : World) → Came words before PlantTooLong → now.written ≡ appended before.written plant_too_long → WasTooLong words before now
+too_long_at words before now (at_words none is) appends = absurd (cc)
+too_long_at words before now (at_plant command ask opens) appends =
+    let o = opened_file (plant_word command) (before.held (plant_word command) 0) PlantTooLong (λ h. h) opens in
+    record { name = plant_word command; asks = file_asked words command ask o.0; too_long = o.1; appends = appends }
+too_long_at words before now (in_check plant asks ends) appends = absurd ends
+too_long_at words before now (at_remotes plant script on is) appends = absurd (cc)
+too_long_at words before now (in_replay plant script held asks ends) appends = absurd ends
 
-same_plant : (words : List (List ℕ)) (plant plant' : PlantData) (name name' : List ℕ) → AskReplay words plant name → AskReplay words plant' name' → plant ≡ plant'
-same_plant words plant plant' name name' a b = a.leads.plant_is ∙ sym b.leads.plant_is
+not_built_at : (words : List (List ℕ)) (before now : World) → Came words before NotBuilt → now.written ≡ appended before.written not_built → WasNotBuilt words before now
+not_built_at words before now (at_words none is) appends = absurd (cc)
+not_built_at words before now (at_plant command ask opens) appends = absurd (nowhere (plant_word command) (before.held (plant_word command) 0) NotBuilt (λ h. h) (λ h. h) opens)
+not_built_at words before now (in_check plant asks ends) appends = absurd ends
+not_built_at words before now (at_remotes plant name on is) appends = record { plant = plant; name = name; asks = on; appends = appends }
+not_built_at words before now (in_replay plant script held asks ends) appends = absurd ends
 
--- the end of the replay of this script on this plant, where the files hold so
-ends_of : (words : List (List ℕ)) (before now : World) (end : End) (plant : PlantData) (name : List ℕ) (held : Held) → AskReplay words plant name → before.held name 0 ≡ held → end ≢ Usage
-    → Cause words before now end → ReplayEnds plant name held end
-ends_of words before now end plant name held asks is other cause =
-    let r = by_command words before now end other cause in
-    subst (λ (h : Held). ReplayEnds plant name h end) is
-    (subst (λ (p : PlantData). ReplayEnds p name (before.held name 0) end) (same_plant words r.plant plant r.name name r.asks asks)
-    (subst (λ (n : List ℕ). ReplayEnds r.plant n (before.held n 0) end) (same_name words r.plant plant r.name name r.asks asks) r.ends))
+plant_of : (words : List (List ℕ)) (before now : World) (end : End) → Came words before end → IsWritten end before now 4
+    → HadPlantFault words before now ⊎ WasTooLong words before now ⊎ WasNotBuilt words before now
+plant_of words before now (PlantRefused fault) from written = inl (plant_fault_at words before now fault from written.appends)
+plant_of words before now PlantTooLong from written = inr (inl (too_long_at words before now from written.appends))
+plant_of words before now NotBuilt from written = inr (inr (not_built_at words before now from written.appends))
+plant_of words before now (Done output) from written = absurd (let h = written.status_is in omega arith)
+plant_of words before now NoMemory from written = absurd (let h = written.status_is in omega arith)
+plant_of words before now Usage from written = absurd (let h = written.status_is in omega arith)
+plant_of words before now (FileMissing name) from written = absurd (let h = written.status_is in omega arith)
+plant_of words before now (FileFault name) from written = absurd (let h = written.status_is in omega arith)
+plant_of words before now (LineRefused number) from written = absurd (let h = written.status_is in omega arith)
+plant_of words before now ScriptTooLong from written = absurd (let h = written.status_is in omega arith)
 
--- words that ask for a replay have a form
-not_usage : (words : List (List ℕ)) (before now : World) (plant : PlantData) (name : List ℕ) → AskReplay words plant name → Cause words before now Usage → ⊥
-not_usage words before now plant name asks (inl at) = at.no_form (Replay asks.word name) asks.ask
-not_usage words before now plant name asks (inr by) = (replays words before now Usage by).ends
-
--- a missing file
-missing_of : (words : List (List ℕ)) (before now : World) (end : End) (plant : PlantData) (name : List ℕ) → AskReplay words plant name → before.held name 0 ≡ NoFile → Cause words before now end → status_of end ≡ 3
-missing_of words before now (FileMissing missing) plant name asks is cause = refl
-missing_of words before now (FileFault failed) plant name asks is cause = refl
-missing_of words before now Usage plant name asks is cause = absurd (not_usage words before now plant name asks cause)
-missing_of words before now (Done output) plant name asks is cause =
-    absurd (ends_of words before now (Done output) plant name NoFile asks is (λ h. cc) cause)
-missing_of words before now NoMemory plant name asks is cause =
-    absurd (ends_of words before now NoMemory plant name NoFile asks is (λ h. cc) cause)
-missing_of words before now (LineRefused number) plant name asks is cause =
-    absurd (ends_of words before now (LineRefused number) plant name NoFile asks is (λ h. cc) cause)
-missing_of words before now ScriptTooLong plant name asks is cause =
-    absurd (ends_of words before now ScriptTooLong plant name NoFile asks is (λ h. cc) cause)
-
-pub missing_always : (words : List (List ℕ)) (before now : World) (status : ℕ) (plant : PlantData) (name : List ℕ) → AskReplay words plant name → before.held name 0 ≡ NoFile
-    → RunEnds words before now status → (status ≡ 3) ⊎ (status ≡ 7)
-missing_always words before now status plant name asks is run = elim (status_or_7 run.end before now status run.output) [
-  | inl same ↦ inl (same ∙ missing_of words before now run.end plant name asks is run.cause)
-  | inr failed ↦ inr failed.0
-]
-
--- what a script that is held makes of an end: its status, or why the run was kept from it
-
-accepted_of : (words : List (List ℕ)) (before now : World) (end : End) (plant : PlantData) (name script : List ℕ) → AskReplay words plant name → before.held name 0 ≡ Holds script → IsAccepted plant script
-    → Cause words before now end → now.file_faults ≡ counted (is_file_fault end) before.file_faults → (status_of end ≡ 0) ⊎ WasKept before now (status_of end)
-accepted_of words before now (Done output) plant name script asks is accepted cause count = inl refl
-accepted_of words before now NoMemory plant name script asks is accepted cause count = inr (inl refl)
-accepted_of words before now (FileFault failed) plant name script asks is accepted cause count = inr (inr (inl (refl, count)))
-accepted_of words before now Usage plant name script asks is accepted cause count = absurd (not_usage words before now plant name asks cause)
-accepted_of words before now (FileMissing missing) plant name script asks is accepted cause count =
-    absurd (ends_of words before now (FileMissing missing) plant name (Holds script) asks is (λ h. cc) cause).1
-accepted_of words before now (LineRefused number) plant name script asks is accepted cause count =
-    let bad = ends_of words before now (LineRefused number) plant name (Holds script) asks is (λ h. cc) cause in
-    absurd (apart plant script accepted.1.0 number accepted.1.1 bad.1)
-accepted_of words before now ScriptTooLong plant name script asks is accepted cause count =
-    let long = ends_of words before now ScriptTooLong plant name (Holds script) asks is (λ h. cc) cause in
-    absurd (omega (arith, long))
-
-refused_script : (plant : PlantData) (script output : List ℕ) → IsRefused plant script → IfFits script (IsReplay plant script output) → ⊥
-refused_script plant script output (inl long) fits = omega (arith, fits.0)
-refused_script plant script output (inr bad) fits = apart plant script output bad.0 fits.1 bad.1
-
-refused_of : (words : List (List ℕ)) (before now : World) (end : End) (plant : PlantData) (name script : List ℕ) → AskReplay words plant name → before.held name 0 ≡ Holds script → IsRefused plant script
-    → Cause words before now end → now.file_faults ≡ counted (is_file_fault end) before.file_faults → (status_of end ≡ 5) ⊎ WasKept before now (status_of end)
-refused_of words before now (Done output) plant name script asks is refused cause count =
-    absurd (refused_script plant script output refused (ends_of words before now (Done output) plant name (Holds script) asks is (λ h. cc) cause))
-refused_of words before now NoMemory plant name script asks is refused cause count = inr (inl refl)
-refused_of words before now (FileFault failed) plant name script asks is refused cause count = inr (inr (inl (refl, count)))
-refused_of words before now Usage plant name script asks is refused cause count = absurd (not_usage words before now plant name asks cause)
-refused_of words before now (FileMissing missing) plant name script asks is refused cause count =
-    absurd (ends_of words before now (FileMissing missing) plant name (Holds script) asks is (λ h. cc) cause).1
-refused_of words before now (LineRefused number) plant name script asks is refused cause count = inl refl
-refused_of words before now ScriptTooLong plant name script asks is refused cause count = inl refl
-
-kept : (before now : World) (status status' : ℕ) → status ≡ status' → WasKept before now status' → WasKept before now status
-kept before now status status' is was = subst (WasKept before now) (sym is) was
-
-pub accepted_always : (words : List (List ℕ)) (before now : World) (status : ℕ) (plant : PlantData) (name script : List ℕ) → AskReplay words plant name → before.held name 0 ≡ Holds script → IsAccepted plant script
-    → RunEnds words before now status → (status ≡ 0) ⊎ WasKept before now status
-accepted_always words before now status plant name script asks is accepted run = elim (status_or_7 run.end before now status run.output) [
-  | inl same ↦ elim (accepted_of words before now run.end plant name script asks is accepted run.cause run.file_faults) [
-    | inl done ↦ inl (same ∙ done)
-    | inr was ↦ inr (kept before now status (status_of run.end) same was)
-  ]
-  | inr failed ↦ inr (inr (inr failed))
-]
-
-pub refused_always : (words : List (List ℕ)) (before now : World) (status : ℕ) (plant : PlantData) (name script : List ℕ) → AskReplay words plant name → before.held name 0 ≡ Holds script → IsRefused plant script
-    → RunEnds words before now status → (status ≡ 5) ⊎ WasKept before now status
-refused_always words before now status plant name script asks is refused run = elim (status_or_7 run.end before now status run.output) [
-  | inl same ↦ elim (refused_of words before now run.end plant name script asks is refused run.cause run.file_faults) [
-    | inl done ↦ inl (same ∙ done)
-    | inr was ↦ inr (kept before now status (status_of run.end) same was)
-  ]
-  | inr failed ↦ inr (inr (inr failed))
-]
+pub plant_cause : (words : List (List ℕ)) (before now : World) → RunEnds words before now 4 → HadPlantFault words before now ⊎ WasTooLong words before now ⊎ WasNotBuilt words before now
+plant_cause words before now run =
+    plant_of words before now run.end (came words before now run.end run.cause) (is_written run.end before now 4 (λ h. omega arith) run.output)

@@ -11,10 +11,9 @@ use Rattle.ctl_io.proofs.SinkLemmas.{appended-nil, appended-appended}
 use Rattle.plantctl.specs.declared.stop.Stop.{Stop}
 use Rattle.plantctl.specs.declared.stop.Stop.TheVariants as stops
 use Rattle.plantctl.specs.World.{World}
-use Rattle.plantctl.specs.Lines.{line_refused}
+use Rattle.plantctl.specs.Lines.{plant_refused, line_refused}
 use Rattle.plantctl.specs.End.{End, text_of, status_of}
-use Rattle.plantctl.specs.Words.{Command, Replay}
-use Rattle.plantctl.specs.Run.{LeavesFiles, EndsAtWords, EndsByCommand, IsWritten, IsCutShort, RunEnds}
+use Rattle.plantctl.specs.Run.{EndsAtWords, EndsByCommand, IsWritten, IsCutShort, RunEnds}
 use Rattle.plantctl.specs.StopInside.{line_of, stop_status, stopped_by_output, IsFrontOf, ComesTo, Reports, RunStops}
 
 -- a shorter front of what comes behind a front is a shorter front
@@ -49,6 +48,12 @@ refused-all true number digits before now is all =
     ∙ ap (λ (d : List ℕ). appended before (codes "script line " ++ d ++ codes " refused\n")) is
     ∙ ap (appended before) (sym (append_assoc (codes "script line " ++ decimal number) (codes " refused") (10 ∷ [])))
 
+-- the line of a refused plant, by its parts
+pub plant-all : (done : Bool) (why text : List ℕ) (before now : Option (List ℕ)) → text ≡ why → OnTrue done (now ≡ appended before (codes "plant refused: " ++ text ++ codes "\n"))
+    → OnTrue done (now ≡ appended before (plant_refused why))
+plant-all false why text before now is all = all
+plant-all true why text before now is all = all ∙ ap (λ (t : List ℕ). appended before (codes "plant refused: " ++ t ++ codes "\n")) is
+
 -- nothing has no shorter front
 pub no-part : {P : Type 0} (before now : Option (List ℕ)) → AppendsPart [] before now → P
 no-part before now part = absurd (omega (arith, part.shorter))
@@ -57,14 +62,10 @@ no-part before now part = absurd (omega (arith, part.shorter))
 abbrev moved : World → Option (List ℕ) → ℕ → World
 moved mid written faults = record mid { written = written; output_faults = faults }
 
-moved-files : (command : Command) (before mid : World) (written : Option (List ℕ)) (faults : ℕ) → LeavesFiles command before mid → LeavesFiles command before (moved mid written faults)
-moved-files (Replay plant script) before mid written faults files = record { given_back = files.given_back; opened = files.opened; others = files.others }
-
 moved-cause : (words : List (List ℕ)) (before mid : World) (end : End) (written : Option (List ℕ)) (faults : ℕ) → EndsAtWords words before mid end ⊎ EndsByCommand words before mid end
     → EndsAtWords words before (moved mid written faults) end ⊎ EndsByCommand words before (moved mid written faults) end
-moved-cause words before mid end written faults (inl at) = inl (record { no_form = at.no_form; end_is = at.end_is; custody = at.custody; names = at.names })
-moved-cause words before mid end written faults (inr by) =
-    inr (record { command = by.command; ask = by.ask; ends = by.ends; files = moved-files by.command before mid written faults by.files })
+moved-cause words before mid end written faults (inl at) = inl (record { no_form = at.no_form; end_is = at.end_is; files = at.files })
+moved-cause words before mid end written faults (inr by) = inr (record { command = by.command; ask = by.ask; ends = by.ends; files = by.files })
 
 -- What the output of a run came to.
 abbrev IsOutput : End → Option (List ℕ) → ℕ → Option (List ℕ) → ℕ → ℕ → Type 0
@@ -95,6 +96,9 @@ output_of (Err stops.NoMemory) end before mid now fb fm fn status comes kept rep
 output_of (Err stops.Usage) end before mid now fb fm fn status comes kept reports = left_line stops.Usage end before mid now fb fm fn status comes kept reports
 output_of (Err (stops.FileMissing name)) end before mid now fb fm fn status comes kept reports = left_line (stops.FileMissing name) end before mid now fb fm fn status comes kept reports
 output_of (Err (stops.FileFault name)) end before mid now fb fm fn status comes kept reports = left_line (stops.FileFault name) end before mid now fb fm fn status comes kept reports
+output_of (Err (stops.PlantRefused why)) end before mid now fb fm fn status comes kept reports = left_line (stops.PlantRefused why) end before mid now fb fm fn status comes kept reports
+output_of (Err stops.PlantTooLong) end before mid now fb fm fn status comes kept reports = left_line stops.PlantTooLong end before mid now fb fm fn status comes kept reports
+output_of (Err stops.NotBuilt) end before mid now fb fm fn status comes kept reports = left_line stops.NotBuilt end before mid now fb fm fn status comes kept reports
 output_of (Err (stops.LineRefused number)) end before mid now fb fm fn status comes kept reports = left_line (stops.LineRefused number) end before mid now fb fm fn status comes kept reports
 output_of (Err stops.ScriptTooLong) end before mid now fb fm fn status comes kept reports = left_line stops.ScriptTooLong end before mid now fb fm fn status comes kept reports
 output_of (Err stops.OutputFault) end before mid now fb fm fn status comes kept (inl reported) =

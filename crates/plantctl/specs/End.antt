@@ -1,14 +1,20 @@
 -- How a run may end, with its exit status and its text.
 use Rattle.std.specs.Prelude.{ℕ, Bool, true, false, List}
-use Rattle.plantctl.specs.Lines.{usage, no_memory, file_missing, file_fault, line_refused, script_too_long}
+use Rattle.plant_file.specs.declared.fault.PlantFault.{PlantFault}
+use Rattle.plant_file.specs.PlantFile.{fault_text}
+use Rattle.plantctl.specs.Lines.{usage, no_memory, file_missing, file_fault, plant_refused, plant_too_long, not_built, line_refused, script_too_long}
 
--- An end, with what its text names: the output of what was done, the name of a file, the number of a line.
+-- An end, with what its text names: the output of what was done, the name of a file, a plant file's fault, the number of a
+-- line. A plant isn't built where it has what the program can't serve yet.
 pub data End : Type 0 where
   Done : (output : List ℕ) → End
   NoMemory : End
   Usage : End
   FileMissing : (name : List ℕ) → End
   FileFault : (name : List ℕ) → End
+  PlantRefused : (fault : PlantFault) → End
+  PlantTooLong : End
+  NotBuilt : End
   LineRefused : (number : ℕ) → End
   ScriptTooLong : End
 
@@ -19,6 +25,9 @@ status_of NoMemory = 1
 status_of Usage = 2
 status_of (FileMissing name) = 3
 status_of (FileFault name) = 3
+status_of (PlantRefused fault) = 4
+status_of PlantTooLong = 4
+status_of NotBuilt = 4
 status_of (LineRefused number) = 5
 status_of ScriptTooLong = 5
 
@@ -33,6 +42,9 @@ text_of NoMemory = no_memory
 text_of Usage = usage
 text_of (FileMissing name) = file_missing name
 text_of (FileFault name) = file_fault name
+text_of (PlantRefused fault) = plant_refused (fault_text fault)
+text_of PlantTooLong = plant_too_long
+text_of NotBuilt = not_built
 text_of (LineRefused number) = line_refused number
 text_of ScriptTooLong = script_too_long
 
@@ -43,5 +55,8 @@ is_file_fault NoMemory = false
 is_file_fault Usage = false
 is_file_fault (FileMissing name) = false
 is_file_fault (FileFault name) = true
+is_file_fault (PlantRefused fault) = false
+is_file_fault PlantTooLong = false
+is_file_fault NotBuilt = false
 is_file_fault (LineRefused number) = false
 is_file_fault ScriptTooLong = false

@@ -2,7 +2,10 @@ pub mod World
 pub mod Words
 pub mod Lines
 pub mod End
+pub mod OpensPlant
+pub mod Check
 pub mod Replay
 pub mod Run
+pub mod Asked
 pub mod Statuses
 pub mod StopInside

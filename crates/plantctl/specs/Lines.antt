@@ -18,6 +18,15 @@ file_missing name = line (codes "file " ++ name ++ codes " missing")
 abbrev pub file_fault : List ℕ → List ℕ
 file_fault name = line (codes "file " ++ name ++ codes " fault")
 
+abbrev pub plant_refused : List ℕ → List ℕ
+plant_refused why = line (codes "plant refused: " ++ why)
+
+abbrev pub plant_too_long : List ℕ
+plant_too_long = plant_refused (codes "too long")
+
+abbrev pub not_built : List ℕ
+not_built = plant_refused (codes "NotBuilt at remote 0 entries")
+
 abbrev pub line_refused : ℕ → List ℕ
 line_refused number = line (codes "script line " ++ decimal number ++ codes " refused")
 

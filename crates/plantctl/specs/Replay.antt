@@ -1,10 +1,11 @@
 -- The command `replay`: how it may end, and why.
-use Rattle.std.specs.Prelude.{◌≡◌, ℕ, ◌<◌, ◌≤◌, List, length}
+use Rattle.std.specs.Prelude.{◌≡◌, ℕ, ◌<◌, ◌≤◌, Bool, is_some, MatchBool, List, length}
+use Rattle.std.specs.List.{list_any}
 use Rattle.ctl_io.specs.Held.{Held, IfHeld, MayBeMissing}
 use Rattle.plant_config.specs.Plant.{PlantData}
 use Rattle.record_replay.specs.Script.{IsFirstBad}
 use Rattle.record_replay.specs.Replay.{IsReplay}
-use Rattle.plantctl.specs.End.{End, Done, NoMemory, Usage, FileMissing, FileFault, LineRefused, ScriptTooLong}
+use Rattle.plantctl.specs.End.{End, Done, NoMemory, Usage, FileMissing, FileFault, PlantRefused, PlantTooLong, NotBuilt, LineRefused, ScriptTooLong}
 
 -- the most bytes of a script, 64 MiB
 abbrev pub longest_script : ℕ
@@ -22,5 +23,16 @@ ReplayEnds plant name held NoMemory = IfHeld held (λ script. Unit {0})
 ReplayEnds plant name held Usage = ⊥
 ReplayEnds plant name held (FileMissing missing) = (missing ≡ name) × MayBeMissing held
 ReplayEnds plant name held (FileFault failed) = failed ≡ name
+ReplayEnds plant name held (PlantRefused fault) = ⊥
+ReplayEnds plant name held PlantTooLong = ⊥
+ReplayEnds plant name held NotBuilt = ⊥
 ReplayEnds plant name held (LineRefused number) = IfHeld held (λ script. IfFits script (IsFirstBad plant script number))
 ReplayEnds plant name held ScriptTooLong = IfHeld held (λ script. longest_script < length script)
+
+-- whether a plant has a remote source
+abbrev pub has_remotes : PlantData → Bool
+has_remotes plant = list_any (λ source. is_some source.pool) plant.sources
+
+-- No script is replayed on a plant with remote sources yet, and such a plant says so.
+abbrev pub BuiltReplayEnds : PlantData → List ℕ → Held → End → Type 0
+BuiltReplayEnds plant name held end = MatchBool (has_remotes plant) (end ≡ NotBuilt) (ReplayEnds plant name held end)

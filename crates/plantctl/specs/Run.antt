@@ -1,47 +1,69 @@
 -- How a run ends: its cause, what it wrote, and what it left of the files.
-use Rattle.std.specs.Prelude.{◌≡◌, ◌≢◌, ◌⊎◌, ℕ, List}
+use Rattle.std.specs.Prelude.{◌≡◌, ◌⊎◌, ℕ, List, MatchBool, Result}
 use Rattle.ctl_io.specs.Faults.{one_more, counted}
 use Rattle.ctl_io.specs.Sink.{appended, AppendsPart}
-use Rattle.ctl_io.specs.Held.{Stays, CountsOn}
+use Rattle.ctl_io.specs.Held.{Stays, CountsOn, OthersStay}
 use Rattle.ctl_io.specs.WholeFile.{IsGivenBack}
 use Rattle.plant_config.specs.Plant.{PlantData}
-use Rattle.plantctl.specs.World.{World}
+use Rattle.plantctl.specs.World.{World, Shelf, shelf}
 use Rattle.plantctl.specs.End.{End, Usage, status_of, output_failed, text_of, is_file_fault}
-use Rattle.plantctl.specs.Words.{Command, Replay, LeadsTo, Ask, HasNoForm}
-use Rattle.plantctl.specs.Replay.{ReplayEnds}
+use Rattle.plantctl.specs.Words.{Command, Check, Replay, Ask, HasNoForm}
+use Rattle.plantctl.specs.OpensPlant.{is_bench, OpensPlant, GoesOn, next_opening}
+use Rattle.plantctl.specs.Check.{CheckEnds}
+use Rattle.plantctl.specs.Replay.{BuiltReplayEnds}
 
--- A command ends so, in a world that is so before it.
+-- A command ends so, in a world that is so before it: its plant's word leads to a plant with which it goes on, or to the end.
 abbrev pub CommandEnds : Command → World → End → Type 0
-CommandEnds (Replay plant script) before end =
-    (found : PlantData) × LeadsTo plant found × ReplayEnds found script (before.held script 0) end
+CommandEnds (Check word) before end =
+    (opened : Result PlantData End) × OpensPlant word (before.held word 0) opened × GoesOn CheckEnds opened end
+CommandEnds (Replay word name) before end =
+    (opened : Result PlantData End)
+    × OpensPlant word (before.held word 0) opened
+    × GoesOn (λ plant. BuiltReplayEnds plant name (before.held name (next_opening word name))) opened end
+
+-- The files were left alone.
+pub record LeavesAlone (before now : Shelf) : Type 0 where
+  pub custody : now.custody ≡ before.custody
+  pub names : (name : List ℕ) → Stays (before.held name) (now.held name)
 
 -- This file was opened at most once: each opening finds what it would have found before, or the next one is gone.
-abbrev pub OpensAtMostOnce : List ℕ → World → World → Type 0
+abbrev pub OpensAtMostOnce : List ℕ → Shelf → Shelf → Type 0
 OpensAtMostOnce name before now = Stays (before.held name) (now.held name) ⊎ CountsOn (before.held name) (now.held name)
 
 -- At most this file was opened, once, and given back, and no sink was made. What the files hold of other names stays.
-pub record ReadsOnly (name : List ℕ) (before now : World) : Type 0 where
+pub record ReadsOnly (name : List ℕ) (before now : Shelf) : Type 0 where
   pub given_back : IsGivenBack name before.custody now.custody
   pub opened : OpensAtMostOnce name before now
-  pub others : (other : List ℕ) → other ≢ name → Stays (before.held other) (now.held other)
+  pub others : OthersStay name before.held now.held
 
--- the files that a command leaves
-abbrev pub LeavesFiles : Command → World → World → Type 0
-LeavesFiles (Replay plant script) before now = ReadsOnly script before now
+-- what a plant's word leaves of the files: no file is opened for the bench plant
+abbrev pub LeavesPlant : List ℕ → Shelf → Shelf → Type 0
+LeavesPlant word before now = MatchBool (is_bench word) (LeavesAlone before now) (ReadsOnly word before now)
+
+-- The plant's file was read only, and behind it the script's, which isn't opened where the plant is refused.
+pub record ReadsBoth (word name : List ℕ) (before now : Shelf) (end : End) : Type 0 where
+  pub between : Shelf
+  pub plant : LeavesPlant word before between
+  pub script : ReadsOnly name between now
+  pub unopened : status_of end ≡ 4 → LeavesAlone between now
+
+-- the files that a command leaves where it ends so
+abbrev pub LeavesFiles : Command → Shelf → Shelf → End → Type 0
+LeavesFiles (Check word) before now end = LeavesPlant word before now
+LeavesFiles (Replay word name) before now end = ReadsBoth word name before now end
 
 -- The words have no form, the run says so, and leaves the files alone.
 pub record EndsAtWords (words : List (List ℕ)) (before now : World) (end : End) : Type 0 where
   pub no_form : HasNoForm words
   pub end_is : end ≡ Usage
-  pub custody : now.custody ≡ before.custody
-  pub names : (name : List ℕ) → Stays (before.held name) (now.held name)
+  pub files : LeavesAlone (shelf before) (shelf now)
 
 -- The words ask for a command, which ends so.
 pub record EndsByCommand (words : List (List ℕ)) (before now : World) (end : End) : Type 0 where
   pub command : Command
   pub ask : Ask words command
   pub ends : CommandEnds command before end
-  pub files : LeavesFiles command before now
+  pub files : LeavesFiles command (shelf before) (shelf now) end
 
 -- The end's text was appended, and the status is the end's.
 pub record IsWritten (end : End) (before now : World) (status : ℕ) : Type 0 where

@@ -1,27 +1,29 @@
 -- How a run stops in the code, before its end is written out.
-use Rattle.std.specs.Prelude.{◌≡◌, ◌⊎◌, ℕ, Bool, true, false, List, [], ◌++◌, Option, Result, Ok, Err}
+use Rattle.std.specs.Prelude.{◌≡◌, ◌≢◌, ◌⊎◌, ℕ, Bool, true, false, List, [], ◌++◌, string_bytes, Option, Result, Ok, Err}
 use Rattle.std.specs.Borrow.{Bor}
 use Rattle.ctl_io.specs.Faults.{one_more, counted}
+use Rattle.ctl_io.specs.Held.{Held}
 use Rattle.ctl_io.specs.declared.whole_file.FileFault.{FileFault}
 use Rattle.ctl_io.specs.declared.whole_file.FileFault.TheVariants as files
 use Rattle.ctl_io.specs.Sink.{appended, AppendsPart}
+use Rattle.plant_file.specs.declared.fault.PlantFault.{PlantFault}
+use Rattle.plant_file.specs.declared.fault.PlantFault.TheVariants as plants
+use Rattle.plant_file.specs.PlantFile.{fault_text}
 use Rattle.plant_config.specs.Plant.{PlantData}
-use Rattle.plant_config.specs.Bench.{bench}
 use Rattle.record_replay.specs.declared.replay.ReplayFault.{ReplayFault}
 use Rattle.record_replay.specs.declared.replay.ReplayFault.TheVariants as replays
-use Rattle.plantctl.specs.declared.plant.PlantWord.{PlantWord}
-use Rattle.plantctl.specs.declared.plant.PlantWord.TheVariants as plant_words
 use Rattle.plantctl.specs.declared.stop.Stop.{Stop}
 use Rattle.plantctl.specs.declared.stop.Stop.TheVariants as stops
 use Rattle.plantctl.specs.declared.stop.Status.{Status}
 use Rattle.plantctl.specs.declared.stop.Status.TheVariants as statuses
 use Rattle.plantctl.specs.declared.words.Command as code
 use Rattle.plantctl.specs.declared.words.Command.TheVariants as commands
-use Rattle.plantctl.specs.Lines.{usage, no_memory, file_missing, file_fault, line_refused, script_too_long}
+use Rattle.plantctl.specs.Lines.{usage, no_memory, file_missing, file_fault, plant_refused, plant_too_long, not_built, line_refused, script_too_long}
 use Rattle.plantctl.specs.End.{End, status_of, output_failed, text_of, is_file_fault}
-use Rattle.plantctl.specs.World.{World}
-use Rattle.plantctl.specs.Words.{Replay, LeadsTo, Ask}
-use Rattle.plantctl.specs.Run.{EndsAtWords, EndsByCommand}
+use Rattle.plantctl.specs.World.{World, shelf}
+use Rattle.plantctl.specs.Words.{Command, Check, Replay}
+use Rattle.plantctl.specs.OpensPlant.{next_opening}
+use Rattle.plantctl.specs.Run.{CommandEnds, LeavesFiles, EndsAtWords, EndsByCommand}
 
 -- the number of a status
 abbrev pub number_of : Status → ℕ
@@ -29,6 +31,7 @@ number_of statuses.Done = 0
 number_of statuses.NoMemory = 1
 number_of statuses.Usage = 2
 number_of statuses.File = 3
+number_of statuses.Plant = 4
 number_of statuses.Script = 5
 number_of statuses.Output = 7
 
@@ -38,6 +41,9 @@ line_of stops.NoMemory = no_memory
 line_of stops.Usage = usage
 line_of (stops.FileMissing name) = file_missing name.now
 line_of (stops.FileFault name) = file_fault name.now
+line_of (stops.PlantRefused why) = plant_refused (string_bytes why)
+line_of stops.PlantTooLong = plant_too_long
+line_of stops.NotBuilt = not_built
 line_of (stops.LineRefused number) = line_refused number
 line_of stops.ScriptTooLong = script_too_long
 line_of stops.OutputFault = []
@@ -48,30 +54,45 @@ stop_status stops.NoMemory = 1
 stop_status stops.Usage = 2
 stop_status (stops.FileMissing name) = 3
 stop_status (stops.FileFault name) = 3
+stop_status (stops.PlantRefused why) = 4
+stop_status stops.PlantTooLong = 4
+stop_status stops.NotBuilt = 4
 stop_status (stops.LineRefused number) = 5
 stop_status stops.ScriptTooLong = 5
 stop_status stops.OutputFault = 7
 
 -- Whether a write failed, and whether the files did, before the report.
+abbrev pub is_by_output : Stop → Bool
+is_by_output stops.NoMemory = false
+is_by_output stops.Usage = false
+is_by_output (stops.FileMissing name) = false
+is_by_output (stops.FileFault name) = false
+is_by_output (stops.PlantRefused why) = false
+is_by_output stops.PlantTooLong = false
+is_by_output stops.NotBuilt = false
+is_by_output (stops.LineRefused number) = false
+is_by_output stops.ScriptTooLong = false
+is_by_output stops.OutputFault = true
+
+abbrev pub is_by_files : Stop → Bool
+is_by_files stops.NoMemory = false
+is_by_files stops.Usage = false
+is_by_files (stops.FileMissing name) = false
+is_by_files (stops.FileFault name) = true
+is_by_files (stops.PlantRefused why) = false
+is_by_files stops.PlantTooLong = false
+is_by_files stops.NotBuilt = false
+is_by_files (stops.LineRefused number) = false
+is_by_files stops.ScriptTooLong = false
+is_by_files stops.OutputFault = false
+
 abbrev pub stopped_by_output : {T : Type 0} → Result T Stop → Bool
 stopped_by_output (Ok done) = false
-stopped_by_output (Err stops.NoMemory) = false
-stopped_by_output (Err stops.Usage) = false
-stopped_by_output (Err (stops.FileMissing name)) = false
-stopped_by_output (Err (stops.FileFault name)) = false
-stopped_by_output (Err (stops.LineRefused number)) = false
-stopped_by_output (Err stops.ScriptTooLong) = false
-stopped_by_output (Err stops.OutputFault) = true
+stopped_by_output (Err stop) = is_by_output stop
 
 abbrev pub stopped_by_files : {T : Type 0} → Result T Stop → Bool
 stopped_by_files (Ok done) = false
-stopped_by_files (Err stops.NoMemory) = false
-stopped_by_files (Err stops.Usage) = false
-stopped_by_files (Err (stops.FileMissing name)) = false
-stopped_by_files (Err (stops.FileFault name)) = true
-stopped_by_files (Err (stops.LineRefused number)) = false
-stopped_by_files (Err stops.ScriptTooLong) = false
-stopped_by_files (Err stops.OutputFault) = false
+stopped_by_files (Err stop) = is_by_files stop
 
 -- With the line of this stop, what was written is the text of the end, and the stop has the end's status.
 pub record IsFrontOf (stop : Stop) (end : End) (before now : Option (List ℕ)) : Type 0 where
@@ -86,6 +107,9 @@ StopComesTo stops.NoMemory end before now = IsFrontOf stops.NoMemory end before 
 StopComesTo stops.Usage end before now = IsFrontOf stops.Usage end before now
 StopComesTo (stops.FileMissing name) end before now = IsFrontOf (stops.FileMissing name) end before now
 StopComesTo (stops.FileFault name) end before now = IsFrontOf (stops.FileFault name) end before now
+StopComesTo (stops.PlantRefused why) end before now = IsFrontOf (stops.PlantRefused why) end before now
+StopComesTo stops.PlantTooLong end before now = IsFrontOf stops.PlantTooLong end before now
+StopComesTo stops.NotBuilt end before now = IsFrontOf stops.NotBuilt end before now
 StopComesTo (stops.LineRefused number) end before now = IsFrontOf (stops.LineRefused number) end before now
 StopComesTo stops.ScriptTooLong end before now = IsFrontOf stops.ScriptTooLong end before now
 StopComesTo stops.OutputFault end before now = AppendsPart (text_of end) before now
@@ -117,25 +141,61 @@ Reports result status before now faults_before faults_now =
     ((status ≡ number_of_end result) × (now ≡ appended before (rest_of result)) × (faults_now ≡ faults_before))
     ⊎ ((status ≡ output_failed) × AppendsPart (rest_of result) before now × (faults_now ≡ one_more faults_before))
 
--- the plant of a word
-abbrev pub plant_of : PlantWord → PlantData
-plant_of plant_words.Bench = bench
+-- A stop has yet to write all of this end's text: it has the end's status, line and fault, and no write failed.
+pub record IsStopOf (stop : Stop) (end : End) : Type 0 where
+  pub status_is : status_of end ≡ stop_status stop
+  pub text_is : text_of end ≡ line_of stop
+  pub fault : is_file_fault end ≡ is_by_files stop
+  pub output : is_by_output stop ≡ false
 
--- the stops for the faults of a file and of a replay
-abbrev pub stop_of_file : FileFault → Bor (List ℕ) → Stop
-stop_of_file files.NoMemory name = stops.NoMemory
-stop_of_file files.Missing name = stops.FileMissing name
-stop_of_file files.Failed name = stops.FileFault name
-stop_of_file files.TooLong name = stops.ScriptTooLong
+-- What opening a plant's word answers in the code is a plant, or a stop of an end, to which the word leads.
+abbrev pub OpensAs : (Result PlantData End → Type 0) → Result PlantData Stop → Type 0
+OpensAs Opens (Ok plant) = Opens (Ok plant)
+OpensAs Opens (Err stop) = (end : End) × Opens (Err end) × IsStopOf stop end
+
+-- Once a plant's word has led to a plant, the next opening of a name finds this.
+abbrev pub AreNext : List ℕ → (List ℕ → ℕ → Held) → (List ℕ → ℕ → Held) → Type 0
+AreNext word before now = (name : List ℕ) → now name 0 ≡ before name (next_opening word name)
+
+-- the stop for a fault of a file, which is this one where the file is too long, and for a fault of a replay
+abbrev pub stop_of_file : FileFault → Bor (List ℕ) → Stop → Stop
+stop_of_file files.NoMemory name too_long = stops.NoMemory
+stop_of_file files.Missing name too_long = stops.FileMissing name
+stop_of_file files.Failed name too_long = stops.FileFault name
+stop_of_file files.TooLong name too_long = too_long
 
 abbrev pub stop_of_replay : ReplayFault → Stop
 stop_of_replay replays.NoMemory = stops.NoMemory
 stop_of_replay (replays.BadLine number) = stops.LineRefused number
 stop_of_replay replays.OutputFault = stops.OutputFault
 
--- The words ask for what the code calls this command.
-abbrev pub AsksFor : List (List ℕ) → code.Command → Type 0
-AsksFor words (commands.Replay plant script) = (word : List ℕ) × LeadsTo word (plant_of plant) × Ask words (Replay word script.now)
+-- A stop says this fault of a plant file's text, or that memory ran out.
+abbrev pub SaysFault : PlantFault → Stop → Type 0
+SaysFault fault stops.NoMemory = Unit {0}
+SaysFault fault (stops.PlantRefused why) = (string_bytes why ≡ fault_text fault) × (fault ≢ plants.NoMemory)
+SaysFault fault stops.Usage = ⊥
+SaysFault fault (stops.FileMissing name) = ⊥
+SaysFault fault (stops.FileFault name) = ⊥
+SaysFault fault stops.PlantTooLong = ⊥
+SaysFault fault stops.NotBuilt = ⊥
+SaysFault fault (stops.LineRefused number) = ⊥
+SaysFault fault stops.ScriptTooLong = ⊥
+SaysFault fault stops.OutputFault = ⊥
+
+-- what the code calls this command
+abbrev pub asked : code.Command → Command
+asked (commands.Check plant) = Check plant.now
+asked (commands.Replay plant script) = Replay plant.now script.now
+
+-- A command came to the report.
+pub record CommandStops {T : Type 0} (command : Command) (before now : World) (result : Result T Stop) : Type 0 where
+  pub end : End
+  pub ends : CommandEnds command before end
+  pub files : LeavesFiles command (shelf before) (shelf now) end
+  pub comes : ComesTo result end before.written now.written
+  pub fault : is_file_fault end ≡ stopped_by_files result
+  pub file_faults : now.file_faults ≡ counted (stopped_by_files result) before.file_faults
+  pub output_faults : now.output_faults ≡ counted (stopped_by_output result) before.output_faults
 
 -- A run came to its report.
 pub record RunStops {T : Type 0} (words : List (List ℕ)) (before now : World) (result : Result T Stop) : Type 0 where

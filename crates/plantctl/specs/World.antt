@@ -23,3 +23,16 @@ world held custody file_faults written output_faults files out = record {
   written = written out;
   output_faults = output_faults out;
 }
+
+-- What files show at a moment: what they hold of each name, and what they handed out and took back.
+pub record Shelf : Type 0 where
+  pub held : List ℕ → ℕ → Held
+  pub custody : Custody
+
+-- the files of a world
+abbrev pub shelf : World → Shelf
+shelf world = record { held = world.held; custody = world.custody }
+
+-- what files show by what their type says of them
+abbrev pub shelf_of : {F : Type 0} → (F → List ℕ → ℕ → Held) → (F → Custody) → F → Shelf
+shelf_of held custody files = record { held = held files; custody = custody files }

@@ -1,10 +1,12 @@
 //! What the exit statuses tell of a run, each as a law over the ends of runs.
 
-ghost use Rattle.plantctl.specs.Statuses.{StatusesAreKnown, ZeroHasReplayed, OneRanOutOfMemory};
+ghost use Rattle.plantctl.specs.Statuses.{StatusesAreKnown, ZeroHasDone, OneRanOutOfMemory};
 ghost use Rattle.plantctl.specs.Statuses.{TwoHasNoForm, TwoTellsUsage, NoFormEndsWithTwo};
-ghost use Rattle.plantctl.specs.Statuses.{ThreeHasCause, MissingEndsWithThree};
+ghost use Rattle.plantctl.specs.Statuses.{ThreeHasCause, NoPlantEndsWithThree, NoScriptEndsWithThree};
+ghost use Rattle.plantctl.specs.Statuses.{FourHasCause, RefusedPlantEndsWithFour, NotBuiltEndsWithFour};
+ghost use Rattle.plantctl.specs.Statuses.{FourOpensNoScript};
 ghost use Rattle.plantctl.specs.Statuses.{FiveHasCause, RefusedEndsWithFive, AcceptedEndsWithZero};
-ghost use Rattle.plantctl.specs.Statuses.{SevenHasCause, OthersWriteAll};
+ghost use Rattle.plantctl.specs.Statuses.{PlantEndsWithZero, SevenHasCause, OthersWriteAll};
 ghost use Rattle.plantctl.specs.Statuses.{SourcesComeBack, NoSinkIsMade, OtherNamesStay, FileFaultsStay, FileFaultsRiseOnce};
 
 /// No other status is answered.
@@ -12,9 +14,10 @@ pub fn statuses()
     ensures { StatusesAreKnown }
 {}
 
-/// Status 0: exactly the script's replay text was appended. Status 1: memory ran out.
-pub fn replayed()
-    ensures done { ZeroHasReplayed }
+/// Status 0: exactly the plant's ten lines or the script's replay text was appended. Status 1: memory ran out.
+pub fn done()
+    ensures done { ZeroHasDone }
+    ensures checked { PlantEndsWithZero }
     ensures no_memory { OneRanOutOfMemory }
 {}
 
@@ -25,11 +28,21 @@ pub fn usage_told()
     ensures always { NoFormEndsWithTwo }
 {}
 
-/// Status 3: the script's file is missing, or the files had a fault. A missing file always ends so, unless the
-/// line could not be written.
+/// Status 3: a file that the words ask for is missing, or the files had a fault. A missing plant file always ends
+/// so, unless the line could not be written, and a missing script, unless memory runs out or the output fails.
 pub fn file_refused()
     ensures cause { ThreeHasCause }
-    ensures missing { MissingEndsWithThree }
+    ensures no_plant { NoPlantEndsWithThree }
+    ensures no_script { NoScriptEndsWithThree }
+{}
+
+/// Status 4: the plant file's first fault, or its length, or a plant that isn't built. Such a plant ends the run
+/// before the script is opened.
+pub fn plant_refused()
+    ensures cause { FourHasCause }
+    ensures refused { RefusedPlantEndsWithFour }
+    ensures not_built { NotBuiltEndsWithFour }
+    ensures unopened { FourOpensNoScript }
 {}
 
 /// Status 5: the first line without a form, or the script's length. A script that is refused is never replayed,
@@ -47,8 +60,8 @@ pub fn output_fault()
 {}
 
 /// Whatever the status, each source was given back and no sink was made, the files hold what they held of each
-/// name but the script's, and their count of faults stayed, unless the status is 3 or 7, where it may have risen
-/// by one.
+/// name that the words don't name, and their count of faults stayed, unless the status is 3 or 7, where it may have
+/// risen by one.
 pub fn files_stay()
     ensures given_back { SourcesComeBack }
     ensures no_sink { NoSinkIsMade }

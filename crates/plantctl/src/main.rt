@@ -3,6 +3,7 @@
 //! exit statuses tell are the laws of `laws`.
 #![tactic(auto)]
 
+mod check;
 mod laws;
 mod plant;
 mod replay;
@@ -11,7 +12,8 @@ mod stop;
 mod words;
 
 pub use laws::{
-    file_refused, files_stay, output_fault, replayed, script_refused, statuses, usage_told,
+    done, file_refused, files_stay, output_fault, plant_refused, script_refused, statuses,
+    usage_told,
 };
 pub use run::run_quiet;
 

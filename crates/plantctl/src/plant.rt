@@ -1,38 +1,66 @@
 //! The plant that a word of the command line leads to.
 
-ghost use Rattle.std.specs.Prelude.{◌≡◌, IfOk, MatchOption};
-ghost use Rattle.plant_config.specs.Plant.{PlantData};
-ghost use Rattle.plantctl.specs.Words.{LeadsTo};
-ghost use Rattle.plantctl.specs.StopInside.{plant_of};
+ghost use Rattle.std.specs.Prelude.{◌≡◌, OnOk};
+ghost use Rattle.ctl_io.specs.Faults.{counted};
+ghost use Rattle.ctl_io.specs.Held.{CountsOn};
+ghost use Rattle.plantctl.specs.World.{shelf_of};
+ghost use Rattle.plantctl.specs.OpensPlant.{is_bench, OpensPlant, OpensFile};
+ghost use Rattle.plantctl.specs.Run.{LeavesPlant, ReadsOnly};
+ghost use Rattle.plantctl.specs.StopInside.{OpensAs, AreNext, stopped_by_files};
 
+use crate::stop::Stop;
+use ctl_io::{Files, read_file};
 use plant_config::Plant;
-use std::alloc::{AllocError, Global};
+use std::alloc::Global;
 
-/// A word that leads to a plant.
-#[derive(Clone, Copy, Debug, PartialEq, Eq)]
-pub(crate) enum PlantWord {
-    Bench,
+// The most bytes of a plant file, 4 MiB.
+const MAX_PLANT: usize = 4 << 20;
+
+// The plant that a word leads to. For `bench` no file is opened.
+pub(crate) fn open_plant<'a, F: Files>(
+    alloc: Global,
+    word: &'a str,
+    files: &mut F,
+) -> Result<Plant, Stop<'a>>
+    ensures opens { OpensAs (OpensPlant word.now (F.held files.old word.now 0)) result }
+    ensures files { LeavesPlant word.now
+        (shelf_of F.held F.custody files.old) (shelf_of F.held F.custody files.new) }
+    ensures next { OnOk result (AreNext word.now (F.held files.old) (F.held files.new)) }
+    ensures count { F.faults files.new
+        ≡ counted (stopped_by_files result) (F.faults files.old) }
+{
+    if is_bench(word) {
+        match Plant::bench(alloc) {
+            Ok(plant) => Ok(plant),
+            Err(_) => Err(Stop::NoMemory),
+        }
+    } else {
+        read_plant(alloc, word, files)
+    }
 }
 
-impl PlantWord {
-    // `None` where the word leads to no plant.
-    pub(crate) fn read(word: &str) -> Option<PlantWord>
-        ensures { MatchOption result
-            ((plant : PlantData) → LeadsTo word.now plant → ⊥)
-            (λ found. LeadsTo word.now (plant_of found)) }
-    {
-        match word {
-            "bench" => Some(PlantWord::Bench),
-            _ => None,
-        }
-    }
+// Whether a word is that of the bench plant.
+fn is_bench(word: &str) -> bool
+    ensures { result ≡ is_bench word.now }
+{
+    word == "bench"
+}
 
-    // The plant.
-    pub(crate) fn open(self, alloc: Global) -> Result<Plant, AllocError>
-        ensures { IfOk result (λ plant. plant ≡ plant_of self) }
-    {
-        match self {
-            PlantWord::Bench => Plant::bench(alloc),
-        }
+// The plant of the file of this name.
+fn read_plant<'a, F: Files>(alloc: Global, name: &'a str, files: &mut F) -> Result<Plant, Stop<'a>>
+    ensures opens { OpensAs (OpensFile name.now (F.held files.old name.now 0)) result }
+    ensures files { ReadsOnly name.now
+        (shelf_of F.held F.custody files.old) (shelf_of F.held F.custody files.new) }
+    ensures next { OnOk result (CountsOn (F.held files.old name.now) (F.held files.new name.now)) }
+    ensures count { F.faults files.new
+        ≡ counted (stopped_by_files result) (F.faults files.old) }
+{
+    let text = match read_file(alloc, files, name, MAX_PLANT) {
+        Ok(text) => text,
+        Err(fault) => return Err(Stop::of_file(fault, name, Stop::PlantTooLong)),
+    };
+    match Plant::from_toml(alloc, text.as_slice()) {
+        Ok(plant) => Ok(plant),
+        Err(fault) => Err(Stop::of_fault(alloc, fault)),
     }
 }

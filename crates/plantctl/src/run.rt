@@ -1,11 +1,13 @@
 //! The top call.
 
 ghost use Rattle.plantctl.specs.World.{world};
-ghost use Rattle.plantctl.specs.Words.{texts};
+ghost use Rattle.plantctl.specs.Words.{Check, Replay, texts};
 ghost use Rattle.plantctl.specs.Run.{RunEnds};
-ghost use Rattle.plantctl.specs.StopInside.{RunStops};
+ghost use Rattle.plantctl.specs.StopInside.{CommandStops, RunStops};
 
-use crate::replay::replay;
+use crate::check::check;
+use crate::plant::open_plant;
+use crate::replay::{has_remotes, replay};
 use crate::stop::{Stop, report};
 use crate::words::{Command, read_words};
 use ctl_io::{Files, Sink};
@@ -13,8 +15,9 @@ use std::alloc::Global;
 
 /// Does what the words ask, and answers the exit status. It waits for nobody.
 ///
-/// The words have one form, `replay bench SCRIPT`: the script of that name is replayed on the bench plant. Where
-/// one thing is wrong the run ends there, in this order: the words, the script's file, its lines.
+/// The words have two forms: `check PLANT` says what a plant has, and `replay PLANT SCRIPT` replays the script of
+/// that name on it. PLANT is the name of a plant file, or `bench`. Where one thing is wrong the run ends there, in
+/// this order: the words, the plant's file, the script's file, its lines.
 pub fn run_quiet<F: Files, K: Sink>(
     alloc: Global,
     words: &[String],
@@ -43,7 +46,50 @@ fn run<'a, F: Files, K: Sink>(
         result }
 {
     match read_words(words) {
-        Some(Command::Replay { plant, script }) => replay(alloc, plant, script, files, out),
+        Some(Command::Check { plant }) => run_check(alloc, plant, files, out),
+        Some(Command::Replay { plant, script }) => run_replay(alloc, plant, script, files, out),
         None => Err(Stop::Usage),
     }
+}
+
+// Says what the plant of this word has.
+fn run_check<'a, F: Files, K: Sink>(
+    alloc: Global,
+    word: &'a str,
+    files: &mut F,
+    out: &mut K,
+) -> Result<(), Stop<'a>>
+    ensures { CommandStops (Check word.now)
+        (world F.held F.custody F.faults K.written K.faults files.old out.old)
+        (world F.held F.custody F.faults K.written K.faults files.new out.new)
+        result }
+{
+    let plant = match open_plant(alloc, word, files) {
+        Ok(plant) => plant,
+        Err(stop) => return Err(stop),
+    };
+    check(alloc, &plant, out)
+}
+
+// Replays the script of this name on the plant of this word.
+fn run_replay<'a, F: Files, K: Sink>(
+    alloc: Global,
+    word: &'a str,
+    script: &'a str,
+    files: &mut F,
+    out: &mut K,
+) -> Result<(), Stop<'a>>
+    ensures { CommandStops (Replay word.now script.now)
+        (world F.held F.custody F.faults K.written K.faults files.old out.old)
+        (world F.held F.custody F.faults K.written K.faults files.new out.new)
+        result }
+{
+    let plant = match open_plant(alloc, word, files) {
+        Ok(plant) => plant,
+        Err(stop) => return Err(stop),
+    };
+    if has_remotes(&plant) {
+        return Err(Stop::NotBuilt);
+    }
+    replay(alloc, &plant, script, files, out)
 }

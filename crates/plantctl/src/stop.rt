@@ -6,12 +6,14 @@ ghost use Rattle.ctl_io.specs.Faults.{counted};
 ghost use Rattle.ctl_io.specs.Sink.{appended, AppendsPart};
 ghost use Rattle.record_replay.specs.declared.replay.ReplayFault.TheVariants as faults;
 ghost use Rattle.plantctl.specs.declared.stop.Stop.TheVariants.{NoMemory};
-ghost use Rattle.plantctl.specs.StopInside.{number_of, line_of, stop_status, stop_of_file, stop_of_replay, Reports};
+ghost use Rattle.plantctl.specs.StopInside.{number_of, line_of, stop_status, stop_of_file, stop_of_replay};
+ghost use Rattle.plantctl.specs.StopInside.{SaysFault, Reports};
 
 use ctl_io::{FileFault, Sink, write_all};
 use itoa::Buffer;
+use plant_config::PlantFault;
 use record_replay::ReplayFault;
-use std::alloc::AllocError;
+use std::alloc::{AllocError, Global};
 
 const USAGE: &[u8] =
     b"usage: plantctl check PLANT, replay PLANT SCRIPT, audit PLANT TRACE.., serve PLANT [PREFIX], drill NUMBER PANELS MESSAGES\n";
@@ -25,6 +27,8 @@ pub(crate) enum Status {
     Usage = 2,
     /// A file is missing, or the files had a fault.
     File = 3,
+    /// The plant file has a fault or is too long, or the plant isn't built.
+    Plant = 4,
     /// A line of the script has no form, or the script is too long.
     Script = 5,
     /// A write of the output failed.
@@ -41,7 +45,7 @@ impl Status {
 }
 
 /// Why a run stops before all was done.
-#[derive(Clone, Copy, Debug, PartialEq, Eq)]
+#[derive(Debug, Drop)]
 pub(crate) enum Stop<'a> {
     NoMemory,
     /// The words have no form.
@@ -50,6 +54,11 @@ pub(crate) enum Stop<'a> {
     FileMissing(&'a str),
     /// The files failed, or a read of this file did.
     FileFault(&'a str),
+    /// The plant file has this fault.
+    PlantRefused(String),
+    PlantTooLong,
+    /// The plant has what can't be served yet.
+    NotBuilt,
     /// The line of this number, counted from 1, has no form.
     LineRefused(u64),
     ScriptTooLong,
@@ -78,15 +87,28 @@ impl From<ReplayFault> for Stop<'_> {
 }
 
 impl<'a> Stop<'a> {
-    // The stop for a fault of the script of this name.
-    pub(crate) fn of_script(fault: FileFault, name: &'a str) -> Stop<'a>
-        ensures { result ≡ stop_of_file fault name.entry }
+    // The stop for a fault of the file of this name, which is `too_long` where the file is that.
+    pub(crate) fn of_file(fault: FileFault, name: &'a str, too_long: Stop<'a>) -> Stop<'a>
+        ensures { result ≡ stop_of_file fault name.entry too_long.entry }
     {
         match fault {
             FileFault::NoMemory => Stop::NoMemory,
             FileFault::Missing => Stop::FileMissing(name),
             FileFault::Failed => Stop::FileFault(name),
-            FileFault::TooLong => Stop::ScriptTooLong,
+            FileFault::TooLong => too_long,
+        }
+    }
+
+    // The stop for a fault of a plant file's text.
+    pub(crate) fn of_fault(alloc: Global, fault: PlantFault) -> Stop<'a>
+        ensures { SaysFault fault result }
+    {
+        if fault == PlantFault::NoMemory {
+            return Stop::NoMemory;
+        }
+        match fault.text(alloc) {
+            Ok(why) => Stop::PlantRefused(why),
+            Err(_) => Stop::NoMemory,
         }
     }
 
@@ -98,6 +120,7 @@ impl<'a> Stop<'a> {
             Stop::NoMemory => Status::NoMemory,
             Stop::Usage => Status::Usage,
             Stop::FileMissing(_) | Stop::FileFault(_) => Status::File,
+            Stop::PlantRefused(_) | Stop::PlantTooLong | Stop::NotBuilt => Status::Plant,
             Stop::LineRefused(_) | Stop::ScriptTooLong => Status::Script,
             Stop::OutputFault => Status::Output,
         }
@@ -116,6 +139,12 @@ impl<'a> Stop<'a> {
             Stop::Usage => write_all(out, USAGE),
             Stop::FileMissing(name) => write_parts(out, b"file ", name.as_bytes(), b" missing\n"),
             Stop::FileFault(name) => write_parts(out, b"file ", name.as_bytes(), b" fault\n"),
+            Stop::PlantRefused(why) => {
+                let text = why.as_str().as_bytes();
+                write_parts(out, b"plant refused: ", text, b"\n")
+            }
+            Stop::PlantTooLong => write_all(out, b"plant refused: too long\n"),
+            Stop::NotBuilt => write_all(out, b"plant refused: NotBuilt at remote 0 entries\n"),
             Stop::LineRefused(number) => {
                 let mut buffer = Buffer::new();
                 let digits = buffer.format(*number).as_bytes();

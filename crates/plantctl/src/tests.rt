@@ -3,6 +3,7 @@
 mod ends;
 mod frames;
 mod limits;
+mod plants;
 mod replays;
 mod sessions;
 mod words;
@@ -45,12 +46,29 @@ fn outcome(
     script: Vec<u8>,
     failing: Failing,
 ) -> Result<(u8, MemSink), AllocError> {
+    let mut files = files_with(alloc, script, failing.read)?;
+    let mut out = MemSink::new(alloc, 1000, vec![in alloc; failing.write]?)?;
+    let status = run_quiet(alloc, &owned(alloc, words)?, &mut files, &mut out);
+    Ok((status, out))
+}
+
+// Files with these texts, each under its name.
+fn files_of(alloc: Global, texts: &[(&str, &str)]) -> Result<MemFiles, AllocError> {
+    let mut files = Vec::new(alloc);
+    for (name, text) in texts {
+        files.push(NamedSource {
+            name: Bytes::of(name.as_bytes().to_vec(alloc)?),
+            source: MemSource::new(alloc, text.as_bytes().to_vec(alloc)?, Vec::new(alloc))?,
+        })?;
+    }
+    MemFiles::new(alloc, files, Vec::new(alloc), 2, Vec::new(alloc))
+}
+
+// The words as the program has them.
+fn owned(alloc: Global, words: &[&str]) -> Result<Vec<String>, AllocError> {
     let mut owned = Vec::new(alloc);
     for word in words {
         owned.push(String::from_str(alloc, word)?)?;
     }
-    let mut files = files_with(alloc, script, failing.read)?;
-    let mut out = MemSink::new(alloc, 1000, vec![in alloc; failing.write]?)?;
-    let status = run_quiet(alloc, &owned, &mut files, &mut out);
-    Ok((status, out))
+    Ok(owned)
 }

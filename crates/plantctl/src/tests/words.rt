@@ -6,13 +6,20 @@ use std::test::Fail;
 const USAGE: &str =
     "usage: plantctl check PLANT, replay PLANT SCRIPT, audit PLANT TRACE.., serve PLANT [PREFIX], drill NUMBER PANELS MESSAGES\n";
 
-const WITHOUT_FORM: [&[&str]; 7] = [
+const WITHOUT_FORM: [&[&str]; 14] = [
     &[],
+    &["check"],
+    &["check", ""],
+    &["check", "-plant"],
+    &["check", "bench", "bench"],
+    &["checks", "bench"],
     &["replay", "bench"],
     &["replay", "bench", "script", "script"],
     &["replay", "bench", ""],
     &["replay", "bench", "-script"],
-    &["replay", "studio", "script"],
+    &["replay", "", "script"],
+    &["replay", "-", "script"],
+    &["", "bench"],
     &["serve", "bench"],
 ];
 

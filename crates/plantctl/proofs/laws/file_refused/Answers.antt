@@ -1,8 +1,12 @@
-use Rattle.plantctl.proofs.StatusesLemmas.{file_cause, missing_always}
+use Rattle.plantctl.proofs.StatusesLemmas.{file_cause}
+use Rattle.plantctl.proofs.AlwaysLemmas.{no_plant, no_script}
 use Rattle.plantctl.proofs.laws.file_refused.Goals as goal
 
 pub returns-clause-cause : goal.returns-clause-cause
 returns-clause-cause c = file_cause
 
-pub returns-clause-missing : goal.returns-clause-missing
-returns-clause-missing c = missing_always
+pub returns-clause-no_plant : goal.returns-clause-no_plant
+returns-clause-no_plant c = no_plant
+
+pub returns-clause-no_script : goal.returns-clause-no_script
+returns-clause-no_script c = no_script

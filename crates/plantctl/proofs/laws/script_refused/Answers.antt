@@ -1,4 +1,5 @@
-use Rattle.plantctl.proofs.StatusesLemmas.{script_cause, refused_always, accepted_always}
+use Rattle.plantctl.proofs.ScriptLemmas.{script_cause}
+use Rattle.plantctl.proofs.AlwaysLemmas.{refused_always, accepted_always}
 use Rattle.plantctl.proofs.laws.script_refused.Goals as goal
 
 pub returns-clause-cause : goal.returns-clause-cause

@@ -1,5 +1,5 @@
 use Rattle.std.proofs.Common.{◌∙◌}
-use Rattle.plantctl.proofs.StopLemmas.{refused-all}
+use Rattle.plantctl.proofs.StopLemmas.{refused-all, plant-all}
 use Rattle.plantctl.proofs.stop.Stop.write.Goals as goal
 
 pub returns-in-LineRefused-clause-all : goal.returns-in-LineRefused-clause-all
@@ -10,3 +10,15 @@ returns-in-LineRefused-clause-all g c =
 
 pub returns-in-ScriptTooLong-clause-all : goal.returns-in-ScriptTooLong-clause-all
 returns-in-ScriptTooLong-clause-all g c = rw c.in-ScriptTooLong.is c.write_all-in-ScriptTooLong.ensures.all
+
+pub returns-in-PlantRefused-clause-all : goal.returns-in-PlantRefused-clause-all
+returns-in-PlantRefused-clause-all g c =
+    rw c.in-PlantRefused.is
+    (plant-all c.write_parts-in-PlantRefused.result _ c.as_bytes-text.result.now _ _ (c.as_bytes-text.ensures.value ∙ c.as_str.ensures.value)
+    c.write_parts-in-PlantRefused.ensures.all)
+
+pub returns-in-PlantTooLong-clause-all : goal.returns-in-PlantTooLong-clause-all
+returns-in-PlantTooLong-clause-all g c = rw c.in-PlantTooLong.is c.write_all-in-PlantTooLong.ensures.all
+
+pub returns-in-NotBuilt-clause-all : goal.returns-in-NotBuilt-clause-all
+returns-in-NotBuilt-clause-all g c = rw c.in-NotBuilt.is c.write_all-in-NotBuilt.ensures.all

@@ -1,8 +1,12 @@
 use Rattle.plantctl.proofs.StatusesLemmas.{done, ran_out}
-use Rattle.plantctl.proofs.laws.replayed.Goals as goal
+use Rattle.plantctl.proofs.AlwaysLemmas.{check_always}
+use Rattle.plantctl.proofs.laws.done.Goals as goal
 
 pub returns-clause-done : goal.returns-clause-done
 returns-clause-done c = done
+
+pub returns-clause-checked : goal.returns-clause-checked
+returns-clause-checked c = check_always
 
 pub returns-clause-no_memory : goal.returns-clause-no_memory
 returns-clause-no_memory c = ran_out
