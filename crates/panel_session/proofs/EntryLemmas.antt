@@ -14,7 +14,7 @@ use Rattle.panel_session.specs.declared.asked.Asked.{Asked}
 use Rattle.panel_session.specs.declared.asked.Asked.TheVariants.{Nothing, Repeat, Refused, Noted, Sent}
 use Rattle.panel_session.specs.Entry.{PlantEntry}
 use Rattle.panel_session.specs.Asked.{AllAsk, sent_to_plant}
-use Rattle.panel_session.specs.Text.{polled_by, polled_at, is_told_at, told_at}
+use Rattle.panel_session.specs.Text.{frames_of, polled_by, polled_at, is_told_at, told_at}
 use Rattle.panel_session.specs.StandsInside.{IsTold, AllTold, NoneFrom}
 use Rattle.panel_session.proofs.OutputLemmas.{SayTheSame}
 
@@ -42,14 +42,14 @@ told_at-new k (first ∷ entries) entry told none =
     ]) none
 
 -- The polls behind an item, with one entry more.
-pub polled_at-more : (k : ℕ) (entries : List PlantEntry) (entry : PlantEntry) → polled_at k (entries ++ entry ∷ []) ≡ polled_at k entries ++ polled_by k entry.request entry.answers
+pub polled_at-more : (k : ℕ) (entries : List PlantEntry) (entry : PlantEntry) → polled_at k (entries ++ entry ∷ []) ≡ polled_at k entries ++ frames_of (polled_by k entry.request entry.answers)
 polled_at-more k entries entry =
-    flat_map-append (λ (entry : PlantEntry). polled_by k entry.request entry.answers) entries (entry ∷ [])
-    ∙ ap (λ (more : List Answer). polled_at k entries ++ more) (append-nil (polled_by k entry.request entry.answers))
+    flat_map-append (λ (entry : PlantEntry). frames_of (polled_by k entry.request entry.answers)) entries (entry ∷ [])
+    ∙ ap (λ (more : List (List ℕ)). polled_at k entries ++ more) (append-nil (frames_of (polled_by k entry.request entry.answers)))
 
 pub polled_at-same : (k : ℕ) (entries : List PlantEntry) (entry : PlantEntry) → polled_by k entry.request entry.answers ≡ [] → polled_at k (entries ++ entry ∷ []) ≡ polled_at k entries
 polled_at-same k entries entry none =
-    polled_at-more k entries entry ∙ ap (λ (more : List Answer). polled_at k entries ++ more) none ∙ append-nil (polled_at k entries)
+    polled_at-more k entries entry ∙ ap (λ (more : List Answer). polled_at k entries ++ frames_of more) none ∙ append-nil (polled_at k entries)
 
 -- items ask as many things as they are
 pub length-ask : (xs : List (Item (List ℕ))) (asked : List Asked) → AllAsk xs asked → length asked ≡ length xs
@@ -109,10 +109,10 @@ says_poll n panel turn entries entry is = record {
       (ap (λ (request : Request). polled_by k request entry.answers) is ∙ ap (λ (test : Bool). cond test entry.answers []) (ne_eqb n k (omega arith)));
 }
 
-pub polled_at-poll : (n : ℕ) (panel turn : ℕ) (entries : List PlantEntry) (entry : PlantEntry) → entry.request ≡ Poll panel n turn → polled_at n (entries ++ entry ∷ []) ≡ polled_at n entries ++ entry.answers
+pub polled_at-poll : (n : ℕ) (panel turn : ℕ) (entries : List PlantEntry) (entry : PlantEntry) → entry.request ≡ Poll panel n turn → polled_at n (entries ++ entry ∷ []) ≡ polled_at n entries ++ frames_of entry.answers
 polled_at-poll n panel turn entries entry is =
     polled_at-more n entries entry
-    ∙ ap (λ (more : List Answer). polled_at n entries ++ more)
+    ∙ ap (λ (more : List Answer). polled_at n entries ++ frames_of more)
     (ap (λ (request : Request). polled_by n request entry.answers) is ∙ ap (λ (test : Bool). cond test entry.answers []) (eq-eqb n n refl))
 
 pub told_at-told : (n : ℕ) (panel : ℕ) (message : Message) (entries : List PlantEntry) (entry : PlantEntry) → entry.request ≡ Told panel n message → told_at n entries ≡ None → told_at n (entries ++ entry ∷ []) ≡ Some entry.answers

@@ -178,7 +178,7 @@ keeps_polled_to stage panel count turns polls seat output past answers unsent k 
     let Told_all : List PlantEntry → Type 0 = λ entries. AllTold 0 (k.before ++ k.asked) entries in
     let NoneIn : List PlantEntry → Type 0 = λ entries. NoneFrom n entries in
     let now : output_from 0 (k.before ++ k.asked) (E ++ entry ∷ []) nothing_sent ≡ behind past.sent (with_frames (frames_of answers) (emptied output)) =
-    output_later (k.before ++ k.asked) 0 n E (E ++ entry ∷ []) answers nothing_sent there k.stage.2 says (polled_at-poll n panel turns E entry is)
+    output_later (k.before ++ k.asked) 0 n E (E ++ entry ∷ []) (frames_of answers) nothing_sent there k.stage.2 says (polled_at-poll n panel turns E entry is)
     ∙ ap (with_frames (frames_of answers)) k.output
     ∙ frames-behind (frames_of answers) past.sent (emptied output) in
     let OutputIn : List PlantEntry → Type 0 = λ entries. output_from 0 (k.before ++ k.asked) entries nothing_sent

@@ -42,7 +42,7 @@ read-more past bytes = append_assoc (bytes_of past.turns) past.now.piece bytes
 
 -- where no item is behind, polls there give nothing
 pub no_polls : (n : ℕ) (entries : List PlantEntry) (output : Output) → polled_at n entries ≡ [] → with_polls n entries output ≡ output
-no_polls n entries output none = ap (λ (answers : List Answer). with_frames (frames_of answers) output) none
+no_polls n entries output none = ap (λ (frames : List (List ℕ)). with_frames frames output) none
 
 -- What an item makes of what was sent before it.
 pub item_output : (a : Asked) (n : ℕ) (entries : List PlantEntry) (before : List ℕ) (output : Output) → NoneFrom n entries

@@ -7,6 +7,7 @@ pub mod StandsLemmas
 pub mod ActsLemmas
 pub mod SessionLemmas
 pub mod FrameRoom
+pub mod AddLemmas
 pub mod LeftLemmas
 pub mod RunLemmas
 pub mod TurnOnce

@@ -4,10 +4,7 @@ use Rattle.std.specs.Prelude.{IsSome}
 use Rattle.std.proofs.lemmas.Bool.{false≢true}
 use Rattle.std.proofs.lemmas.List.{append-nil, append_assoc}
 use Rattle.dle_framing.specs.Numbers.{ack, nak}
-use Rattle.dle_framing.specs.Frame.{frame}
-use Rattle.swp08_messages.specs.Text.{text}
 use Rattle.plant_core.specs.declared.answer.Answer.{Answer}
-use Rattle.plant_core.specs.declared.answer.Answer.TheVariants.{Say, Dumped}
 use Rattle.panel_session.specs.declared.asked.Asked.{Asked}
 use Rattle.panel_session.specs.declared.asked.Asked.TheVariants.{Nothing, Repeat, Refused, Noted, Sent}
 use Rattle.panel_session.specs.Entry.{PlantEntry}
@@ -78,36 +75,29 @@ pub with_frames-append : (one other : List (List ℕ)) (output : Output) → wit
 with_frames-append [] other output = refl
 with_frames-append (sent ∷ one) other output = with_frames-append one other (with_frame sent output)
 
-pub frames_of-append : (one other : List Answer) → frames_of (one ++ other) ≡ frames_of one ++ frames_of other
-frames_of-append [] other = refl
-frames_of-append (Say message ∷ one) other = ap (λ (frames : List (List ℕ)). frame (text message) ∷ frames) (frames_of-append one other)
-frames_of-append (Dumped matrix level dest source ∷ one) other = frames_of-append one other
-
 -- the polls made behind an item, where others are among them
 same_polls : (item : ℕ) (entries others : List PlantEntry) (output : Output) → polled_at item others ≡ polled_at item entries → with_polls item others output ≡ with_polls item entries output
-same_polls item entries others output same = ap (λ (answers : List Answer). with_frames (frames_of answers) output) same
+same_polls item entries others output same = ap (λ (frames : List (List ℕ)). with_frames frames output) same
 
-sent_later : (told told_then : Option (List Answer)) → told_then ≡ told → IsSome told → (xs : List Asked) (item : ℕ) (entries others : List PlantEntry) (more : List Answer) (output : Output)
-    → ((output : Output) → output_from (item + 1) xs others output ≡ with_frames (frames_of more) (output_from (item + 1) xs entries output))
+sent_later : (told told_then : Option (List Answer)) → told_then ≡ told → IsSome told → (xs : List Asked) (item : ℕ) (entries others : List PlantEntry) (more : List (List ℕ)) (output : Output)
+    → ((output : Output) → output_from (item + 1) xs others output ≡ with_frames more (output_from (item + 1) xs entries output))
     → (elim told_then [ None ↦ output | (Some answers) ↦ output_from (item + 1) xs others (with_frames (frames_of answers) output) ])
-    ≡ with_frames (frames_of more) (elim told [ None ↦ output | (Some answers) ↦ output_from (item + 1) xs entries (with_frames (frames_of answers) output) ])
+    ≡ with_frames more (elim told [ None ↦ output | (Some answers) ↦ output_from (item + 1) xs entries (with_frames (frames_of answers) output) ])
 sent_later None told_then same told xs item entries others more output later = absurd (false≢true told)
 sent_later (Some answers) told_then same told xs item entries others more output later =
     let P : Option (List Answer) → Type 0 = λ told_then.
     (elim told_then [ None ↦ output | (Some answers) ↦ output_from (item + 1) xs others (with_frames (frames_of answers) output) ])
-    ≡ with_frames (frames_of more) (output_from (item + 1) xs entries (with_frames (frames_of answers) output)) in
+    ≡ with_frames more (output_from (item + 1) xs entries (with_frames (frames_of answers) output)) in
     subst P (sym same) (later (with_frames (frames_of answers) output))
 
--- Other entries, which have these answers more of polls behind all items.
-pub output_later : (xs : List Asked) (item n : ℕ) (entries others : List PlantEntry) (more : List Answer) (output : Output) → n ≡ item + length xs → AllTold item xs entries → SayTheSame item n entries others
+-- Other entries, which have these frames more of polls behind all items.
+pub output_later : (xs : List Asked) (item n : ℕ) (entries others : List PlantEntry) (more : List (List ℕ)) (output : Output) → n ≡ item + length xs → AllTold item xs entries → SayTheSame item n entries others
     → polled_at n others ≡ polled_at n entries ++ more
-    → output_from item xs others output ≡ with_frames (frames_of more) (output_from item xs entries output)
+    → output_from item xs others output ≡ with_frames more (output_from item xs entries output)
 output_later [] item n entries others more output is told same polls =
     let P : ℕ → Type 0 = λ k. polled_at k others ≡ polled_at k entries ++ more in
     let here : n ≡ item = omega arith in
-    ap (λ (answers : List Answer). with_frames (frames_of answers) output) (subst P here polls)
-    ∙ ap (λ (frames : List (List ℕ)). with_frames frames output) (frames_of-append (polled_at item entries) more)
-    ∙ with_frames-append (frames_of (polled_at item entries)) (frames_of more) output
+    ap (λ (frames : List (List ℕ)). with_frames frames output) (subst P here polls) ∙ with_frames-append (polled_at item entries) more output
 output_later (Nothing ∷ xs) item n entries others more output is told same polls =
     ap (λ (output : Output). output_from (item + 1) xs others output) (same_polls item entries others output (same.polled item (omega arith) (omega arith)))
     ∙ output_later xs (item + 1) n entries others more (with_polls item entries output) (omega arith) told.1 (same_later item n entries others same) polls

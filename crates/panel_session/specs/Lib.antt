@@ -6,6 +6,7 @@ pub mod Text
 pub mod MostAnswers
 pub mod OutgoingInside
 pub mod OutgoingKept
+pub mod PageKept
 pub mod SoFar
 pub mod TakenInside
 pub mod Counted

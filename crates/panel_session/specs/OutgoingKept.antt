@@ -1,15 +1,20 @@
 -- How what is sent next is kept.
 use Rattle.std.specs.Prelude.{ℕ, ◌*◌, ◌≤◌, List, [], ◌∷◌, length, Option, None, Some, vec_capacity}
+use Rattle.swp08_messages.specs.Dump.{max_dump_len}
 use Rattle.panel_session.specs.MostAnswers.{most_answers}
 use Rattle.panel_session.specs.Text.{Output}
 use Rattle.panel_session.specs.declared.outgoing.Outgoing.TheInside.{Inside}
 
--- the most bytes of a message's DATA, and of its frame
-abbrev pub most_text : ℕ
-most_text = 8
-
+-- the most bytes of a message's frame, and of that of a message or a page
 abbrev pub most_message_frame : ℕ
 most_message_frame = 24
+
+abbrev pub most_frame : ℕ
+most_frame = 274
+
+-- the bytes that so many answers may take
+abbrev pub room_of : ℕ → ℕ
+room_of answers = most_message_frame * answers
 
 -- a frame is never empty: no bytes stand for none
 abbrev pub some_frame : List ℕ → Option (List ℕ)
@@ -21,8 +26,8 @@ output_of outgoing = record { bytes = outgoing.bytes.items; last = some_frame ou
 
 -- There is room for what may be sent.
 pub record IsKept (outgoing : Inside) : Type 0 where
-  pub bytes : most_answers * most_message_frame ≤ vec_capacity outgoing.bytes
-  pub last : most_message_frame ≤ vec_capacity outgoing.last
-  pub last_within : length outgoing.last.items ≤ most_message_frame
+  pub bytes : room_of most_answers ≤ vec_capacity outgoing.bytes
+  pub last : most_frame ≤ vec_capacity outgoing.last
+  pub last_within : length outgoing.last.items ≤ most_frame
   pub repeats : outgoing.repeats ≤ 5
-  pub spelled : most_text ≤ vec_capacity outgoing.spelled
+  pub spelled : max_dump_len ≤ vec_capacity outgoing.spelled

@@ -1,11 +1,12 @@
 -- What a session sends.
-use Rattle.std.specs.Prelude.{◌≡◌, ℕ, ◌+◌, ◌==◌, nat_lt, Bool, false, if◌then◌else◌, List, [], ◌∷◌, ◌++◌, find, Option, None, Some}
+use Rattle.std.specs.Prelude.{◌≡◌, ℕ, ◌+◌, ◌==◌, nat_lt, Bool, ◌&&◌, false, if◌then◌else◌, List, [], ◌∷◌, ◌++◌, length, find, Option, None, Some}
 use Rattle.std.specs.Option.{option_map}
 use Rattle.std.specs.List.{flat_map}
 use Rattle.dle_framing.specs.Numbers.{ack, nak}
 use Rattle.dle_framing.specs.declared.item.Item.{Item}
 use Rattle.dle_framing.specs.Frame.{frame}
 use Rattle.swp08_messages.specs.Text.{text}
+use Rattle.swp08_messages.specs.Dump.{Page, page_text, page_dests}
 use Rattle.plant_config.specs.Plant.{PlantData}
 use Rattle.plant_core.specs.declared.request.Request.{Request}
 use Rattle.plant_core.specs.declared.request.Request.TheVariants.{Told, Poll, Leave}
@@ -16,11 +17,39 @@ use Rattle.panel_session.specs.declared.asked.Asked.{Asked}
 use Rattle.panel_session.specs.declared.asked.Asked.TheVariants.{Nothing, Repeat, Refused, Noted, Sent}
 use Rattle.panel_session.specs.Asked.{AllAsk}
 
--- The message frames of answers, in order. What a dump tells is not sent yet.
+-- a page that is to begin with this destination, and has none yet
+abbrev pub page_at : ℕ → ℕ → ℕ → Page
+page_at matrix level dest = record { matrix = matrix; level = level; first = dest; sources = [] }
+
+-- a page of nothing
+abbrev pub no_page : Page
+no_page = page_at 0 0 0
+
+-- A page goes on with a destination: it is the next one of the page's level, and the page has fewer than 64.
+abbrev pub goes_on : Page → ℕ → ℕ → ℕ → Bool
+goes_on page matrix level dest =
+    page.matrix == matrix && page.level == level && page.first + length page.sources == dest && nat_lt (length page.sources) page_dests
+
+-- the page with the source of one destination more
+abbrev pub with_source : Option ℕ → Page → Page
+with_source source page = record page { sources = page.sources ++ source ∷ [] }
+
+-- the frame of a page, none where it has no destination
+abbrev pub page_frames : Page → List (List ℕ)
+page_frames page = if length page.sources == 0 then [] else frame (page_text page) ∷ []
+
+-- The message frames of answers that come behind what this page already has. What is said has a frame of its own. What a
+-- dump tells is gathered in pages: a page is sent once it doesn't go on with what comes next, or nothing does.
+abbrev pub frames_behind : Page → List Answer → List (List ℕ)
+frames_behind page [] = page_frames page
+frames_behind page (Say message ∷ others) = page_frames page ++ frame (text message) ∷ frames_behind no_page others
+frames_behind page (Dumped matrix level dest source ∷ others) =
+    if goes_on page matrix level dest then frames_behind (with_source source page) others
+    else page_frames page ++ frames_behind (with_source source (page_at matrix level dest)) others
+
+-- the message frames of the answers to one request, in order
 abbrev pub frames_of : List Answer → List (List ℕ)
-frames_of [] = []
-frames_of (Say message ∷ others) = frame (text message) ∷ frames_of others
-frames_of (Dumped matrix level dest source ∷ others) = frames_of others
+frames_of answers = frames_behind no_page answers
 
 -- What was sent so far: the bytes, the last message frame that was newly sent, and how often it was sent again.
 pub record Output : Type 0 where
@@ -56,9 +85,9 @@ polled_by item (Poll panel at turn) answers = if at == item then answers else []
 polled_by item (Told panel at message) answers = []
 polled_by item (Leave panel) answers = []
 
--- the answers of the polls that were made behind so many items, in order
-abbrev pub polled_at : ℕ → List PlantEntry → List Answer
-polled_at item entries = flat_map (λ entry. polled_by item entry.request entry.answers) entries
+-- the message frames of the polls that were made behind so many items, in order: those of each poll by themselves
+abbrev pub polled_at : ℕ → List PlantEntry → List (List ℕ)
+polled_at item entries = flat_map (λ entry. frames_of (polled_by item entry.request entry.answers)) entries
 
 -- a request is what the item of this number sent to the plant
 abbrev pub is_told_at : ℕ → Request → Bool
@@ -72,7 +101,7 @@ told_at item entries = option_map (λ entry. entry.answers) (find (λ entry. is_
 
 -- the output once the polls that were made behind so many items were answered
 abbrev pub with_polls : ℕ → List PlantEntry → Output → Output
-with_polls item entries output = with_frames (frames_of (polled_at item entries)) output
+with_polls item entries output = with_frames (polled_at item entries) output
 
 -- The output of a session on items that ask so, the first of this number: before each item stand the notices that were
 -- polled there. A bad frame is answered by NAK, an ACK by nothing, a NAK by the last message frame, and a good frame by ACK

@@ -6,10 +6,12 @@
 mod act;
 mod asked;
 mod counts;
+mod dump_page;
 mod laws;
 mod outgoing;
 mod outlet;
 mod session;
+mod spell;
 mod stage;
 mod turn;
 

@@ -1,16 +1,21 @@
 //! The bytes that a session sends next, and the frame that it may send again.
 
-ghost use Rattle.std.specs.Prelude.{◌≡◌, ◌≢◌, ◌≤◌, ◌*◌, true, false, IfOk, [], ◌∷◌, ◌++◌, length, All, None, vec_len, vec_capacity, ◌+◌};
+ghost use Rattle.std.specs.Prelude.{◌≡◌, ◌≢◌, ◌<◌, ◌≤◌, true, false, IfOk, [], ◌++◌, length, All, ◌+◌};
 ghost use Rattle.dle_framing.specs.Numbers.{ack, nak};
 ghost use Rattle.plant_core.specs.Answer.{IsSayable};
+ghost use Rattle.plant_core.specs.declared.answer.Answer.TheVariants.{Say, Dumped};
 ghost use Rattle.swp08_messages.specs.Text.{InRange, text};
 ghost use Rattle.dle_framing.specs.Frame.{frame};
-ghost use Rattle.panel_session.specs.Text.{frames_of, with_frame, with_frames, with_control, repeated, nothing_sent};
-ghost use Rattle.panel_session.specs.OutgoingInside.{emptied};
-ghost use Rattle.panel_session.specs.OutgoingKept.{most_text, most_message_frame};
+ghost use Rattle.swp08_messages.specs.Dump.{page_dests, page_text};
+ghost use Rattle.swp08_messages.specs.Field.{levels, dests};
+ghost use Rattle.panel_session.specs.Text.{no_page, page_at, goes_on, page_frames, frames_of, with_frame, with_frames, with_control, repeated, nothing_sent};
+ghost use Rattle.panel_session.specs.OutgoingInside.{emptied, Adds};
+ghost use Rattle.panel_session.specs.OutgoingKept.{most_message_frame, room_of};
 ghost use Rattle.panel_session.specs.MostAnswers.{most_answers};
 
-use dle_framing::{append_ack, append_nak, encode_frame};
+use crate::dump_page::DumpPage;
+use crate::spell::{append, send, spell_frame, spell_page};
+use dle_framing::{append_ack, append_nak};
 use plant_core::Answer;
 use std::alloc::{AllocError, Global};
 use std::marker::Model;
@@ -25,8 +30,14 @@ const MOST_REPEATS: u32 = 5;
 // The most bytes of a message's frame: those of its DATA, their length and the check byte may all be doubled.
 const MAX_MESSAGE_FRAME: usize = 2 * (Message::MAX_LEN + 2) + 4;
 
+// The most bytes of the DATA of a page, which are more than those of a message, and of its frame.
+const MAX_PAGE: usize = 133;
+
+const MAX_FRAME: usize = 2 * (MAX_PAGE + 2) + 4;
+
 // What is sent next, the last message frame, and how often that was sent again. It has room for an ACK or a NAK, and for
-// the frames of the most answers of a step. Only `new` takes memory.
+// the frames of the most answers of a step: no page is longer than the messages of as many answers. Only `new` takes
+// memory.
 #[derive(Drop)]
 pub(crate) struct Outgoing {
     bytes: Vec<u8>,
@@ -54,9 +65,9 @@ impl Outgoing {
     {
         Ok(Outgoing {
             bytes: Vec::with_capacity(alloc, MOST_ANSWERS * MAX_MESSAGE_FRAME)?,
-            last: Vec::with_capacity(alloc, MAX_MESSAGE_FRAME)?,
+            last: Vec::with_capacity(alloc, MAX_FRAME)?,
             repeats: 0,
-            spelled: Vec::with_capacity(alloc, Message::MAX_LEN)?,
+            spelled: Vec::with_capacity(alloc, MAX_PAGE)?,
         })
     }
 
@@ -117,31 +128,130 @@ impl Outgoing {
         ensures none { result ≡ false → self.new.bytes ≡ [] }
     {
         self.bytes.clear();
+        let mut page = DumpPage::new();
         for answer in answers {
-            self.send(answer);
+            self.add(&mut page, answer);
         }
+        self.end_page(&mut page);
         !self.bytes.is_empty()
     }
 
-    // The frames of this answer are to be sent too. What a dump tells is not sent yet.
-    fn send(&mut self, answer: &Answer)
+    // This answer comes behind what the page has: the page may go on with it, or is to be sent before it.
+    fn add(&mut self, page: &mut DumpPage, answer: &Answer)
         requires sayable { IsSayable answer.now }
-        requires room { length self.old.bytes + most_message_frame
-            ≤ most_answers * most_message_frame }
-        ensures output { self.new ≡ with_frames (frames_of (answer.now ∷ [])) self.old }
-        ensures most { length self.new.bytes ≤ length self.old.bytes + most_message_frame }
+        requires room { length self.old.bytes + room_of (length page.old.sources + 1)
+            ≤ room_of most_answers }
+        ensures output { Adds answer.now page.old self.old page.new self.new }
+        ensures most { length self.new.bytes + room_of (length page.new.sources)
+            ≤ length self.old.bytes + room_of (length page.old.sources + 1) }
     {
-        match answer {
-            Answer::Say(message) => self.say(*message),
-            Answer::Dumped { .. } => {}
+        match *answer {
+            Answer::Say(message) => self.add_said(page, message),
+            Answer::Dumped {
+                matrix,
+                level,
+                dest,
+                source,
+            } => self.add_dumped(page, matrix, level, dest, source),
         }
+    }
+
+    // This message comes behind the page.
+    fn add_said(&mut self, page: &mut DumpPage, message: Message)
+        requires in_range { InRange message }
+        requires room { length self.old.bytes + room_of (length page.old.sources + 1)
+            ≤ room_of most_answers }
+        ensures output { Adds (Say message) page.old self.old page.new self.new }
+        ensures most { length self.new.bytes + room_of (length page.new.sources)
+            ≤ length self.old.bytes + room_of (length page.old.sources + 1) }
+    {
+        self.end_page(page);
+        self.say(message);
+    }
+
+    // This destination comes behind those of the page.
+    fn add_dumped(
+        &mut self,
+        page: &mut DumpPage,
+        matrix: u8,
+        level: u8,
+        dest: u16,
+        source: Option<u16>,
+    )
+        requires sayable { IsSayable (Dumped matrix level dest source) }
+        requires room { length self.old.bytes + room_of (length page.old.sources + 1)
+            ≤ room_of most_answers }
+        ensures output { Adds (Dumped matrix level dest source) page.old self.old
+            page.new self.new }
+        ensures most { length self.new.bytes + room_of (length page.new.sources)
+            ≤ length self.old.bytes + room_of (length page.old.sources + 1) }
+    {
+        self.turn_page(page, matrix, level, dest);
+        page.push(source);
+    }
+
+    // The page is to be sent too unless it goes on with this destination. Then another begins there.
+    fn turn_page(&mut self, page: &mut DumpPage, matrix: u8, level: u8, dest: u16)
+        requires matrix { matrix < levels }
+        requires level { level < levels }
+        requires dest { dest < dests }
+        requires room { length self.old.bytes + room_of (length page.old.sources)
+            ≤ room_of most_answers }
+        ensures same_page { goes_on page.old matrix level dest ≡ true → page.new ≡ page.old }
+        ensures same { goes_on page.old matrix level dest ≡ true → self.new ≡ self.old }
+        ensures new_page { goes_on page.old matrix level dest ≡ false
+            → page.new ≡ page_at matrix level dest }
+        ensures sent { goes_on page.old matrix level dest ≡ false
+            → self.new ≡ with_frames (page_frames page.old) self.old }
+        ensures next { page.new.first + length page.new.sources ≡ dest }
+        ensures few { length page.new.sources < page_dests }
+        ensures most { length self.new.bytes + room_of (length page.new.sources)
+            ≤ length self.old.bytes + room_of (length page.old.sources) }
+    {
+        if !page.goes_on(matrix, level, dest) {
+            self.end_page(page);
+            *page = DumpPage::at(matrix, level, dest);
+        }
+    }
+
+    // The page is to be sent too, if it has destinations, and is empty then.
+    fn end_page(&mut self, page: &mut DumpPage)
+        requires room { length self.old.bytes + room_of (length page.old.sources)
+            ≤ room_of most_answers }
+        ensures output { self.new ≡ with_frames (page_frames page.old) self.old }
+        ensures page { page.new ≡ no_page }
+        ensures most { length self.new.bytes
+            ≤ length self.old.bytes + room_of (length page.old.sources) }
+    {
+        if !page.is_empty() {
+            self.send_page(page);
+        }
+        *page = DumpPage::new();
+    }
+
+    // The frame of this page is to be sent too.
+    fn send_page(&mut self, page: &DumpPage)
+        requires some { 1 ≤ length page.now.sources }
+        requires room { length self.old.bytes + room_of (length page.now.sources)
+            ≤ room_of most_answers }
+        ensures output { self.new ≡ with_frame (frame (page_text page.now)) self.old }
+        ensures most { length self.new.bytes
+            ≤ length self.old.bytes + room_of (length page.now.sources) }
+    {
+        let Outgoing {
+            bytes,
+            last,
+            repeats,
+            spelled,
+        } = self;
+        spell_page(page, spelled, last);
+        send(last, bytes, repeats);
     }
 
     // The frame of this message is to be sent too.
     fn say(&mut self, message: Message)
         requires in_range { InRange message }
-        requires room { length self.old.bytes + most_message_frame
-            ≤ most_answers * most_message_frame }
+        requires room { length self.old.bytes + most_message_frame ≤ room_of most_answers }
         ensures output { self.new ≡ with_frame (frame (text message)) self.old }
         ensures most { length self.new.bytes ≤ length self.old.bytes + most_message_frame }
     {
@@ -152,34 +262,6 @@ impl Outgoing {
             spelled,
         } = self;
         spell_frame(message, spelled, last);
-        append(bytes, last);
-        *repeats = 0;
-    }
-}
-
-// The frame of a message, and its DATA, in place of what there was.
-fn spell_frame(message: Message, spelled: &mut Vec<u8>, sent: &mut Vec<u8>)
-    requires in_range { InRange message }
-    requires room { most_text ≤ vec_capacity spelled.old }
-    requires frame_room { most_message_frame ≤ vec_capacity sent.old }
-    ensures frame { sent.new.items ≡ frame (text message) }
-    ensures most { length sent.new.items ≤ most_message_frame }
-    ensures room { vec_capacity spelled.new ≡ vec_capacity spelled.old }
-    ensures frame_room { vec_capacity sent.new ≡ vec_capacity sent.old }
-{
-    spelled.clear();
-    message.write(spelled);
-    sent.clear();
-    encode_frame(spelled, sent);
-}
-
-// Appends bytes for which there is room.
-fn append(bytes: &mut Vec<u8>, more: &[u8])
-    requires { vec_len bytes.old + length more.now ≤ vec_capacity bytes.old }
-    ensures bytes { bytes.new.items ≡ bytes.old.items ++ more.now }
-    ensures room { vec_capacity bytes.new ≡ vec_capacity bytes.old }
-{
-    for byte in more {
-        bytes.push_reserved(*byte);
+        send(last, bytes, repeats);
     }
 }

@@ -25,7 +25,7 @@ fn turn(
         match act {
             Act::Send => sent.extend_from_slice(session.outgoing())?,
             Act::Ask(request) => {
-                let mut answers = OutBox::new(alloc, 1)?;
+                let mut answers = OutBox::new(alloc, 130)?;
                 board.step(&request, &mut answers);
                 *session.outbox() = answers;
                 session.answered();
@@ -125,8 +125,13 @@ const FRAMES: &[Line] = &[
     (0, "10 02 07 01 F8 10 03", "10 06"),
     (0, "10 02 02 00 00 05 04 F5 10 03", "10 06"),
     (0, PARKED_5, "10 06"),
-    // What asks for a dump or for names is acknowledged.
-    (0, "10 02 15 00 02 E9 10 03", "10 06"),
+    // A dump of four parked destinations is one page.
+    (
+        0,
+        "10 02 15 01 02 E8 10 03",
+        "10 06 10 02 17 01 04 00 00 03 FF 03 FF 03 FF 03 FF 0D CF 10 03",
+    ),
+    // What asks for names is acknowledged.
     (0, "10 02 64 00 01 03 98 10 03", "10 06"),
     // Noise, ACKs and idle turns are answered by nothing.
     (0, "00 10 41 10 06 10 06", ""),
@@ -191,6 +196,31 @@ const NOTICES: &[Line] = &[
 #[test]
 fn notices_come_behind_the_answers(rt: HostRuntime) -> Result<(), Fail> {
     assert_eq!(rt; play(rt.alloc(), NOTICES)?, None);
+    Ok(())
+}
+
+// A level of 130 destinations comes in pages of 64, 64 and 2, and a NAK repeats the last one.
+const PAGES_OF_130: &str = "10 02 15 02 02 E7 10 03";
+
+const LAST_PAGE: &str = "10 02 17 02 02 00 80 03 FF 03 FF 09 58 10 03";
+
+#[test]
+fn a_dump_comes_in_pages_of_64(rt: HostRuntime) -> Result<(), Fail> {
+    let alloc = rt.alloc();
+    let plant = Plant::bench(alloc)?;
+    let mut session = Session::start(alloc, &plant, PanelNo::of(0))?;
+    let mut board = Board::new();
+    let asked = bytes_of(alloc, PAGES_OF_130)?;
+    let sent = turn(alloc, &mut session, &mut board, &asked)?;
+    let last = bytes_of(alloc, LAST_PAGE)?;
+    // The ACK, and each page: 5 bytes and 2 for each destination, their length and check byte, and 4 of the frame.
+    assert_eq!(rt; sent.len(), 295);
+    assert_eq!(rt; sent.as_slice().ends_with(&last), true);
+    let nak = bytes_of(alloc, "10 15")?;
+    assert_eq!(rt;
+        turn(alloc, &mut session, &mut board, &nak)?.as_slice(),
+        last.as_slice()
+    );
     Ok(())
 }
 

@@ -1,46 +1,73 @@
 -- What a session sends for its items, one after the other.
 use Rattle.std.proofs.Common.{◌≡◌, ℕ, ◌+◌, ◌⊎◌, inl, inr, true, false, if◌then◌else◌, nat_lt, List, [], ◌∷◌, ◌++◌, length, Option, Some, None, refl, sym, ap, ◌∙◌, subst, arith, append_assoc, append-nil}
-use Rattle.std.specs.Prelude.{IsSome}
-use Rattle.std.specs.List.{flat_map}
+use Rattle.std.specs.Prelude.{IsSome, ◌==◌}
+use Rattle.std.specs.List.{AllByRecursion}
 use Rattle.std.proofs.lemmas.Bool.{false≢true}
 use Rattle.dle_framing.specs.Numbers.{ack, nak}
 use Rattle.dle_framing.specs.declared.item.Item.{Item}
 use Rattle.dle_framing.specs.declared.item.Item.TheVariants.{Good, Bad, Ack, Nak}
+use Rattle.dle_framing.specs.Frame.{frame}
 use Rattle.swp08_messages.specs.declared.message.Message.{Message}
+use Rattle.swp08_messages.specs.Dump.{Page, page_text}
+use Rattle.swp08_messages.specs.Text.{text}
 use Rattle.plant_core.specs.declared.answer.Answer.{Answer}
 use Rattle.plant_core.specs.declared.answer.Answer.TheVariants.{Say, Dumped}
 use Rattle.panel_session.specs.Asked.{GoodAsks, Asks, AllAsk}
 use Rattle.panel_session.specs.Entry.{PlantEntry}
 use Rattle.panel_session.specs.StandsInside.{IsTold, AllTold}
-use Rattle.panel_session.specs.Text.{Output, nothing_sent, with_control, with_frame, with_frames, with_polls, repeated, frames_of, polled_at, told_at, output_from}
+use Rattle.panel_session.specs.Text.{Output, nothing_sent, with_control, with_frame, with_frames, with_polls, repeated, no_page, page_at, goes_on, with_source, page_frames, frames_behind, frames_of, polled_by, polled_at, told_at, output_from}
 use Rattle.panel_session.proofs.OutputLemmas.{output_with, told_output, output_more}
-use Rattle.record_replay.specs.Answered.{message_frame, IsAnswered}
+use Rattle.record_replay.specs.Answered.{IsTelling, in_a_row, IsAnswered}
 use Rattle.record_replay.proofs.TurnEntries.{Asked}
 
--- the messages that answers say, and their frames
-abbrev pub messages_of : List Answer → List Message
-messages_of [] = []
-messages_of (Say message ∷ others) = message ∷ messages_of others
-messages_of (Dumped matrix level dest source ∷ others) = messages_of others
-
-abbrev pub told_by : List Answer → List ℕ
-told_by answers = flat_map message_frame (messages_of answers)
-
-pub frames-bytes : (answers : List Answer) (output : Output) → (with_frames (frames_of answers) output).bytes ≡ output.bytes ++ told_by answers
+pub frames-bytes : (frames : List (List ℕ)) (output : Output) → (with_frames frames output).bytes ≡ output.bytes ++ in_a_row frames
 frames-bytes [] output = sym (append-nil output.bytes)
-frames-bytes (Say message ∷ others) output =
-    frames-bytes others (with_frame (message_frame message) output) ∙ append_assoc output.bytes (message_frame message) (told_by others)
-frames-bytes (Dumped matrix level dest source ∷ others) output = frames-bytes others output
+frames-bytes (sent ∷ others) output = frames-bytes others (with_frame sent output) ∙ append_assoc output.bytes sent (in_a_row others)
 
--- What may be sent again is the frame of a message.
+abbrev pub AllTell : List (List ℕ) → Type 0
+AllTell frames = AllByRecursion IsTelling frames
+
+all_tell-append : (one other : List (List ℕ)) → AllTell one → AllTell other → AllTell (one ++ other)
+all_tell-append [] other tell later = later
+all_tell-append (sent ∷ one) other tell later = (tell.0, all_tell-append one other tell.1 later)
+
+-- The frames of answers tell something: messages, and pages.
+page-tells : (page : Page) → AllTell (page_frames page)
+page-tells page = elim (length page.sources == 0) as (λ test. AllTell (if test then [] else frame (page_text page) ∷ [])) [
+  | true ↦ tt
+  | false ↦ (inr (page, refl), tt)
+]
+
+frames_behind-tell : (page : Page) (answers : List Answer) → AllTell (frames_behind page answers)
+frames_behind-tell page [] = page-tells page
+frames_behind-tell page (Say message ∷ others) =
+    all_tell-append (page_frames page) (frame (text message) ∷ frames_behind no_page others) (page-tells page)
+    (inl (message, refl), frames_behind-tell no_page others)
+frames_behind-tell page (Dumped matrix level dest source ∷ others) =
+    let more = frames_behind (with_source source page) others in
+    let anew = frames_behind (with_source source (page_at matrix level dest)) others in
+    elim (goes_on page matrix level dest) as (λ test. AllTell (if test then more else page_frames page ++ anew)) [
+      | true ↦ frames_behind-tell (with_source source page) others
+      | false ↦ all_tell-append (page_frames page) anew (page-tells page) (frames_behind-tell (with_source source (page_at matrix level dest)) others)
+    ]
+
+frames-tell : (answers : List Answer) → AllTell (frames_of answers)
+frames-tell answers = frames_behind-tell no_page answers
+
+pub polled-tell : (k : ℕ) (entries : List PlantEntry) → AllTell (polled_at k entries)
+polled-tell k [] = tt
+polled-tell k (entry ∷ entries) =
+    let answers = polled_by k entry.request entry.answers in
+    all_tell-append (frames_of answers) (polled_at k entries) (frames-tell answers) (polled-tell k entries)
+
+-- What may be sent again tells something.
 abbrev pub IsLast : Option (List ℕ) → Type 0
 IsLast None = Unit {0}
-IsLast (Some sent) = (message : Message) × (sent ≡ message_frame message)
+IsLast (Some sent) = IsTelling sent
 
-pub last-frames : (answers : List Answer) (output : Output) → IsLast output.last → IsLast (with_frames (frames_of answers) output).last
-last-frames [] output last = last
-last-frames (Say message ∷ others) output last = last-frames others (with_frame (message_frame message) output) (message, refl)
-last-frames (Dumped matrix level dest source ∷ others) output last = last-frames others output last
+pub last-frames : (frames : List (List ℕ)) (output : Output) → AllTell frames → IsLast output.last → IsLast (with_frames frames output).last
+last-frames [] output tell last = last
+last-frames (sent ∷ others) output tell last = last-frames others (with_frame sent output) tell.1 tell.0
 
 -- An item is answered behind one output, and this is the next.
 pub record Answers (item : Item (List ℕ)) (before next : Output) : Type 0 where
@@ -79,10 +106,10 @@ module _ (entries : List PlantEntry) where
   answers-told carried n output after (Some answers) last some is = record {
     next = with_frames (frames_of answers) (with_control ack output);
     answers = record {
-      bytes = ack ++ told_by answers;
-      is_answered = (messages_of answers, refl);
-      bytes_are = frames-bytes answers (with_control ack output) ∙ append_assoc output.bytes ack (told_by answers);
-      last = last-frames answers (with_control ack output) last;
+      bytes = ack ++ in_a_row (frames_of answers);
+      is_answered = (frames_of answers, frames-tell answers, refl);
+      bytes_are = frames-bytes (frames_of answers) (with_control ack output) ∙ append_assoc output.bytes ack (in_a_row (frames_of answers));
+      last = last-frames (frames_of answers) (with_control ack output) (frames-tell answers) last;
     };
     after_is = is;
   }
@@ -93,7 +120,7 @@ module _ (entries : List PlantEntry) where
   answers-good carried n output after last = elim [
     | (inl noted) ↦ record {
       next = with_control ack output;
-      answers = record { bytes = ack; is_answered = ([], sym (append-nil ack)); bytes_are = refl; last = last };
+      answers = record { bytes = ack; is_answered = ([], tt, sym (append-nil ack)); bytes_are = refl; last = last };
       after_is = noted;
     }
     | (inr told) ↦ answers-told carried n output after (told_at n entries) last told.1 told.0
@@ -137,11 +164,11 @@ module _ (entries : List PlantEntry) where
       let First : Output → Type 0 = λ after. AnswersFirst item n (output_of front) after in
       subst First (sym (output_more front a 0 n entries nothing_sent is parts.0)) (answers-first item a n (output_of front) asks parts.1.0 last)
 
-  -- behind which what may be sent again is a message frame,
+  -- behind which what may be sent again tells something,
   pub last-next : (item : Item (List ℕ)) (n : ℕ) (before after : Output) → AnswersFirst item n before after → IsLast after.last
   last-next item n before after first =
       let LastOf : Output → Type 0 = λ output. IsLast output.last in
-      subst LastOf (sym first.after_is) (last-frames (polled_at (n + 1) entries) first.next first.answers.last)
+      subst LastOf (sym first.after_is) (last-frames (polled_at (n + 1) entries) first.next (polled-tell (n + 1) entries) first.answers.last)
 
   pub last-items : (asked front : List Asked) (its : List (Item (List ℕ))) → AllAsk its asked → AllTold 0 (front ++ asked) entries → IsLast (output_of front).last
       → IsLast (output_of (front ++ asked)).last

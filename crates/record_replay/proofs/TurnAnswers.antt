@@ -1,11 +1,8 @@
 -- What is sent in a turn answers its items, and then tells notices.
 use Rattle.std.proofs.Common.{◌≡◌, ℕ, ◌+◌, ◌<◌, ◌≤◌, List, [], ◌∷◌, ◌++◌, length, sym, ap, ◌∙◌, subst, arith, append_assoc, append-nil, length-append}
-use Rattle.std.specs.List.{flat_map}
 use Rattle.std.proofs.lemmas.List.{append_cancel_left}
 use Rattle.dle_framing.specs.declared.item.Item.{Item}
 use Rattle.dle_framing.specs.Items.{items}
-use Rattle.swp08_messages.specs.declared.message.Message.{Message}
-use Rattle.plant_core.specs.declared.answer.Answer.{Answer}
 use Rattle.panel_session.specs.Asked.{AllAsk}
 use Rattle.panel_session.specs.Entry.{PlantEntry}
 use Rattle.panel_session.specs.Run.{turned}
@@ -17,23 +14,23 @@ use Rattle.panel_session.specs.Turns.{Turn, bytes_of, entries_in, entries_of, Is
 use Rattle.panel_session.proofs.EntryLemmas.{length-ask, all_ask-append}
 use Rattle.panel_session.proofs.OutputLemmas.{SayTheSame, output_later}
 use Rattle.panel_session.proofs.TurnOnce.{all_ask-one}
-use Rattle.record_replay.specs.Answered.{message_frame, IsAnswered, AreAnswered, AnswersItems}
+use Rattle.record_replay.specs.Answered.{in_a_row, IsAnswered, AreAnswered, AnswersItems}
 use Rattle.record_replay.proofs.SessionsLemmas.{flat_map-push}
 use Rattle.record_replay.proofs.TurnEntries.{Asked, told_at-front, polled_at-append, IsOfTurn, turn_entries}
-use Rattle.record_replay.proofs.AnsweredLemmas.{messages_of, told_by, frames-bytes, IsLast, last-frames, told_front, output_of, answers-next, last-next, last-items}
+use Rattle.record_replay.proofs.AnsweredLemmas.{frames-bytes, polled-tell, IsLast, last-frames, told_front, output_of, answers-next, last-next, last-items}
 
 -- Items are answered, and then notices are told: this leads from one text to another.
-record Answered (its : List (Item (List ℕ))) (notices : List Message) (start end : List ℕ) : Type 0 where
+record Answered (its : List (Item (List ℕ))) (notices : List (List ℕ)) (start end : List ℕ) : Type 0 where
   answers : List (List ℕ)
   are : AreAnswered its answers
-  end_is : end ≡ start ++ (flat_map (λ bytes. bytes) answers ++ flat_map message_frame notices)
+  end_is : end ≡ start ++ (in_a_row answers ++ in_a_row notices)
 
 -- One item before others.
-answered-cons : (item : Item (List ℕ)) (bytes : List ℕ) (its : List (Item (List ℕ))) (notices : List Message) (start end : List ℕ) → IsAnswered item bytes
+answered-cons : (item : Item (List ℕ)) (bytes : List ℕ) (its : List (Item (List ℕ))) (notices : List (List ℕ)) (start end : List ℕ) → IsAnswered item bytes
     → Answered its notices (start ++ bytes) end → Answered (item ∷ its) notices start end
 answered-cons item bytes its notices start end is later =
-    let answers = flat_map (λ (bytes : List ℕ). bytes) later.answers in
-    let told = flat_map message_frame notices in
+    let answers = in_a_row later.answers in
+    let told = in_a_row notices in
     record {
       answers = bytes ∷ later.answers;
       are = (is, later.are);
@@ -44,10 +41,10 @@ answered-cons item bytes its notices start end is later =
 -- polls behind all of them alone, and behind more than `first` only its own entries are polls.
 module _ (entries now : List PlantEntry) (first next : ℕ) (of : IsOfTurn first next now) (polled : (k : ℕ) → first < k → polled_at k entries ≡ polled_at k now) where
   answered : (asked front : List Asked) (its : List (Item (List ℕ))) (n : ℕ) (start : List ℕ) → n ≡ 0 + length front → next ≡ n + length asked → first ≤ n → AllAsk its asked
-      → AllTold 0 (front ++ asked) entries → IsLast (output_of entries front).last → (output_of entries front).bytes ≡ start ++ told_by (polled_at n now)
-      → Answered its (messages_of (polled_at next now)) start (output_of entries (front ++ asked)).bytes
+      → AllTold 0 (front ++ asked) entries → IsLast (output_of entries front).last → (output_of entries front).bytes ≡ start ++ in_a_row (polled_at n now)
+      → Answered its (polled_at next now) start (output_of entries (front ++ asked)).bytes
   answered [] front [] n start is all from ask told last sent =
-      let Ends : ℕ → Type 0 = λ n. (output_of entries front).bytes ≡ start ++ told_by (polled_at n now) in
+      let Ends : ℕ → Type 0 = λ n. (output_of entries front).bytes ≡ start ++ in_a_row (polled_at n now) in
       let here : n ≡ next = omega arith in
       record {
         answers = [];
@@ -62,15 +59,15 @@ module _ (entries now : List PlantEntry) (first next : ℕ) (of : IsOfTurn first
       let one = answers-next entries front asked item a n is ask.0 told last in
       let same = append_assoc front (a ∷ []) asked in
       let ToldOf : List Asked → Type 0 = λ asked. AllTold 0 asked entries in
-      let notices = messages_of (polled_at next now) in
+      let notices = polled_at next now in
       let bytes = one.answers.bytes in
       let AnsweredOf : List Asked → Type 0 = λ asked. Answered its notices (start ++ bytes) (output_of entries asked).bytes in
-      let begun : output.bytes ≡ start = sent ∙ ap (λ (answers : List Answer). start ++ told_by answers) (of.polled n (omega arith)) ∙ append-nil start in
+      let begun : output.bytes ≡ start = sent ∙ ap (λ (frames : List (List ℕ)). start ++ in_a_row frames) (of.polled n (omega arith)) ∙ append-nil start in
       let ended : one.next.bytes ≡ start ++ bytes = one.answers.bytes_are ∙ ap (λ (sent : List ℕ). sent ++ bytes) begun in
-      let sent_then : after.bytes ≡ (start ++ bytes) ++ told_by (polled_at (n + 1) now) =
+      let sent_then : after.bytes ≡ (start ++ bytes) ++ in_a_row (polled_at (n + 1) now) =
       ap (λ (output : Output). output.bytes) one.after_is
       ∙ frames-bytes (polled_at (n + 1) entries) one.next
-      ∙ (λ i. ended i ++ told_by (polled (n + 1) (omega arith) i)) in
+      ∙ (λ i. ended i ++ in_a_row (polled (n + 1) (omega arith) i)) in
       let later = answered asked (front ++ a ∷ []) its (n + 1) (start ++ bytes) (omega (arith, length-append front (a ∷ []))) (omega arith) (omega arith) ask.1
       (subst ToldOf (sym same) told) (last-next entries item n output after one) sent_then in
       answered-cons item bytes its notices start (output_of entries (front ++ a ∷ asked)).bytes one.answers.is_answered (subst AnsweredOf same later)
@@ -130,19 +127,19 @@ turn_answers panel past turn more is settled settled_then =
     omega (arith, ap (length {A = Item (List ℕ)}) is.end_in, length-append (items text) is.ended, length-ask is.ended is.asked is.ask) in
     let same : SayTheSame 0 first old (old ++ now) = record {
       told = λ k from below. told_at-front k old now (of.told k below);
-      polled = λ k from below. polled_at-append k old now ∙ ap (λ (answers : List Answer). polled_at k old ++ answers) (of.polled k (omega arith)) ∙ append-nil (polled_at k old);
+      polled = λ k from below. polled_at-append k old now ∙ ap (λ (frames : List (List ℕ)). polled_at k old ++ frames) (of.polled k (omega arith)) ∙ append-nil (polled_at k old);
     } in
-    let begun : (output_of (old ++ now) so.asked).bytes ≡ past.sent ++ told_by (polled_at first now) =
+    let begun : (output_of (old ++ now) so.asked).bytes ≡ past.sent ++ in_a_row (polled_at first now) =
     ap (λ (output : Output). output.bytes) (output_later so.asked 0 first old (old ++ now) (polled_at first now) nothing_sent here so.told same (polled_at-append first old now))
     ∙ frames-bytes (polled_at first now) (output_of old so.asked)
-    ∙ ap (λ (sent : List ℕ). sent ++ told_by (polled_at first now)) so.bytes in
+    ∙ ap (λ (sent : List ℕ). sent ++ in_a_row (polled_at first now)) so.bytes in
     let polled : (k : ℕ) → first < k → polled_at k (old ++ now) ≡ polled_at k now = λ k from.
-    polled_at-append k old now ∙ ap (λ (answers : List Answer). answers ++ polled_at k now) (so.none.polled k from) in
+    polled_at-append k old now ∙ ap (λ (frames : List (List ℕ)). frames ++ polled_at k now) (so.none.polled k from) in
     let front = told_front (old ++ now) so.asked is.asked told in
     let last : IsLast (output_of (old ++ now) so.asked).last =
-    last-items (old ++ now) so.asked [] (items text) so.ask front (last-frames (polled_at 0 (old ++ now)) nothing_sent tt) in
+    last-items (old ++ now) so.asked [] (items text) so.ask front (last-frames (polled_at 0 (old ++ now)) nothing_sent (polled-tell 0 (old ++ now)) tt) in
     let all = answered (old ++ now) now first next of polled is.asked so.asked is.ended first past.sent here counted (omega arith) is.ask told last begun in
-    let told_in : List ℕ = flat_map (λ (bytes : List ℕ). bytes) all.answers ++ told_by (polled_at next now) in
+    let told_in : List ℕ = in_a_row all.answers ++ in_a_row (polled_at next now) in
     let sent : past.sent ++ more ≡ (output_of (old ++ now) (so.asked ++ is.asked)).bytes = sym then.bytes ∙ (λ i. (output_of (entries i) (asked i)).bytes) in
     let ends : past.sent ++ more ≡ past.sent ++ told_in = ◌∙◌ {c = past.sent ++ told_in} sent all.end_is in
     record {
@@ -150,6 +147,7 @@ turn_answers panel past turn more is settled settled_then =
       end_in = is.end_in;
       answers = all.answers;
       are = all.are;
-      notices = messages_of (polled_at next now);
+      notices = polled_at next now;
+      tell = polled-tell next now;
       sent_is = append_cancel_left past.sent more told_in ends;
     }

@@ -12,7 +12,7 @@ use Rattle.plant_core.specs.declared.request.Request.TheVariants.{Told, Poll, Le
 use Rattle.plant_core.specs.declared.answer.Answer.{Answer}
 use Rattle.panel_session.specs.Asked.{sent_to_plant}
 use Rattle.panel_session.specs.Entry.{PlantEntry}
-use Rattle.panel_session.specs.Text.{polled_by, polled_at, is_told_at, told_at}
+use Rattle.panel_session.specs.Text.{frames_of, polled_by, polled_at, is_told_at, told_at}
 use Rattle.panel_session.specs.Turns.{Turn, bytes_of, entries_in, requests, ArePolls, IsTurn}
 
 -- What an item asks: the type is `panel_session`'s own, and is named here by a function that goes over it.
@@ -69,7 +69,7 @@ late-polled : (first k : ℕ) (entries : List PlantEntry) → find (is_early fir
 late-polled first k [] late = refl
 late-polled first k (entry ∷ entries) late =
     let one = find-none (is_early first) entry.request (requests entries) late in
-    λ i. early_polled first k entry.request entry.answers one.0 i ++ late-polled first k entries one.1 i
+    λ i. frames_of (early_polled first k entry.request entry.answers one.0 i) ++ late-polled first k entries one.1 i
 
 -- Polls tell nothing of any item, and are made behind the turn's items.
 module _ (panel item turn : ℕ) where
@@ -83,8 +83,8 @@ module _ (panel item turn : ℕ) where
   polls-polled : (k : ℕ) (polls : List PlantEntry) → k ≢ item → All IsPoll polls → polled_at k polls ≡ []
   polls-polled k [] apart are = refl
   polls-polled k (entry ∷ polls) apart are =
-      ap (λ (request : Request). polled_by k request entry.answers ++ polled_at k polls) (All-head IsPoll entry polls are)
-      ∙ ap (λ (test : Bool). cond test entry.answers [] ++ polled_at k polls) (ne_eqb item k (λ is. apart (sym is)))
+      ap (λ (request : Request). frames_of (polled_by k request entry.answers) ++ polled_at k polls) (All-head IsPoll entry polls are)
+      ∙ ap (λ (test : Bool). frames_of (cond test entry.answers []) ++ polled_at k polls) (ne_eqb item k (λ is. apart (sym is)))
       ∙ polls-polled k polls apart (All-tail IsPoll entry polls are)
 
   all_polls : (polls : List PlantEntry) → ArePolls (Poll panel item turn) polls → All IsPoll polls
@@ -116,7 +116,7 @@ told_at-front k (entry ∷ entries) more none =
     ]
 
 pub polled_at-append : (k : ℕ) (entries more : List PlantEntry) → polled_at k (entries ++ more) ≡ polled_at k entries ++ polled_at k more
-polled_at-append k entries more = flat_map-append (λ (entry : PlantEntry). polled_by k entry.request entry.answers) entries more
+polled_at-append k entries more = flat_map-append (λ (entry : PlantEntry). frames_of (polled_by k entry.request entry.answers)) entries more
 
 -- The entries of a turn tell nothing of the items before its first, and its polls are all made behind its last.
 pub record IsOfTurn (first next : ℕ) (entries : List PlantEntry) : Type 0 where

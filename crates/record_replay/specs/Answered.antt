@@ -1,25 +1,30 @@
 -- What the items of a piece are answered with.
 use Rattle.std.specs.Prelude.{◌≡◌, ◌⊎◌, ℕ, List, [], ◌∷◌, ◌++◌}
-use Rattle.std.specs.List.{flat_map}
+use Rattle.std.specs.List.{AllByRecursion, flat_map}
 use Rattle.dle_framing.specs.Numbers.{ack, nak}
 use Rattle.dle_framing.specs.Frame.{frame}
 use Rattle.dle_framing.specs.declared.item.Item.{Item}
 use Rattle.dle_framing.specs.declared.item.Item.TheVariants.{Good, Bad, Ack, Nak}
 use Rattle.swp08_messages.specs.declared.message.Message.{Message}
 use Rattle.swp08_messages.specs.Text.{text}
+use Rattle.swp08_messages.specs.Dump.{Page, page_text}
 use Rattle.panel_session.specs.Turns.{EndIn}
 
--- the frame of a message
-abbrev pub message_frame : Message → List ℕ
-message_frame message = frame (text message)
+-- A frame that tells a panel something: that of a message, or of a page of a dump.
+abbrev pub IsTelling : List ℕ → Type 0
+IsTelling bytes = ((message : Message) × (bytes ≡ frame (text message))) ⊎ ((page : Page) × (bytes ≡ frame (page_text page)))
 
--- What an item is answered with: a bad frame with NAK and nothing else; a good one with ACK, and then message frames; an
--- ACK with nothing; a NAK with nothing, or with one message frame.
+-- frames one after the other
+abbrev pub in_a_row : List (List ℕ) → List ℕ
+in_a_row frames = flat_map (λ bytes. bytes) frames
+
+-- What an item is answered with: a bad frame with NAK and nothing else; a good one with ACK, and then frames that tell
+-- something; an ACK with nothing; a NAK with nothing, or with one such frame.
 abbrev pub IsAnswered : Item (List ℕ) → List ℕ → Type 0
-IsAnswered (Good carried) bytes = (messages : List Message) × (bytes ≡ ack ++ flat_map message_frame messages)
+IsAnswered (Good carried) bytes = (frames : List (List ℕ)) × AllByRecursion IsTelling frames × (bytes ≡ ack ++ in_a_row frames)
 IsAnswered Bad bytes = bytes ≡ nak
 IsAnswered Ack bytes = bytes ≡ []
-IsAnswered Nak bytes = (bytes ≡ []) ⊎ ((message : Message) × (bytes ≡ message_frame message))
+IsAnswered Nak bytes = (bytes ≡ []) ⊎ IsTelling bytes
 
 -- Items are answered so, one after the other.
 abbrev pub AreAnswered : List (Item (List ℕ)) → List (List ℕ) → Type 0
@@ -34,5 +39,6 @@ pub record AnswersItems (read piece sent : List ℕ) : Type 0 where
   pub end_in : EndIn read piece ended
   pub answers : List (List ℕ)
   pub are : AreAnswered ended answers
-  pub notices : List Message
-  pub sent_is : sent ≡ flat_map (λ bytes. bytes) answers ++ flat_map message_frame notices
+  pub notices : List (List ℕ)
+  pub tell : AllByRecursion IsTelling notices
+  pub sent_is : sent ≡ in_a_row answers ++ in_a_row notices

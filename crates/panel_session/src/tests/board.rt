@@ -75,19 +75,44 @@ impl Board {
 
     pub(super) fn step(&mut self, request: &Request, out: &mut OutBox<Answer>)
         requires empty { out.old.items ≡ [] }
-        requires place { 0 < out.old.places }
+        requires places { 130 ≤ out.old.places }
         ensures sayable { All IsSayable out.new.items }
-        ensures one { length out.new.items ≤ 1 }
+        ensures most { length out.new.items ≤ 130 }
     {
         let answer = match *request {
+            Request::Told {
+                message: Message::DumpAsk { level, .. },
+                ..
+            } => {
+                dump(level, out);
+                None
+            }
             Request::Told { panel, message, .. } => self.told(panel.get() as usize, message),
             Request::Poll { panel, .. } => self.poll(panel.get() as usize),
             Request::Leave { .. } => None,
         };
         if let Some(message) = answer {
-            if message.in_range() {
+            if message.in_range() && out.items().is_empty() {
                 out.put(Answer::Say(message));
             }
         }
+    }
+}
+
+// The dump of a level whose destinations are parked: 4, or 130 in level 2.
+fn dump(level: u8, out: &mut OutBox<Answer>)
+    requires empty { out.old.items ≡ [] }
+    requires places { 130 ≤ out.old.places }
+    ensures sayable { All IsSayable out.new.items }
+    ensures most { length out.new.items ≤ 130 }
+{
+    let count = if level == 2 { 130 } else { 4 };
+    for dest in 0..count {
+        out.put(Answer::Dumped {
+            matrix: 0,
+            level: level % 16,
+            dest,
+            source: None,
+        });
     }
 }

@@ -6,7 +6,7 @@ pub(super) type Exchange = (&'static str, &'static str);
 // Interrogate 5, which is parked.
 pub(super) const PARKED: Exchange = ("10020100000504F61003", "10061002030007057F056D1003");
 
-pub(super) const SESSIONS: [&[Exchange]; 6] = [
+pub(super) const SESSIONS: [&[Exchange]; 7] = [
     &[PARKED],
     // Connect 5 to 3, and interrogate it before and after. HEX may have spaces.
     &[
@@ -28,5 +28,14 @@ pub(super) const SESSIONS: [&[Exchange]; 6] = [
         ("10020200000503 05F11003", "10061002040000050305EF1003"),
         ("1002020007057F056E1003", "10061002040007057F056C1003"),
         ("10020100000504F61003", "10061002030007057F056D1003"),
+    ],
+    // Connect 5 to 3, and ask for a dump: one page of 32 destinations. The plant has no level 1.
+    &[
+        ("10020200000503 05F11003", "10061002040000050305EF1003"),
+        (
+            "1002150002E91003",
+            "10061002170020000003FF03FF03FF03FF03FF000303FF03FF03FF03FF03FF03FF03FF03FF03FF03FF03FF03FF03FF03FF03FF03FF03FF03FF03FF03FF03FF03FF03FF03FF03FF03FF45431003",
+        ),
+        ("1002150102E81003", "1006"),
     ],
 ];

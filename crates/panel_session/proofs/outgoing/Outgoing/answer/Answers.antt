@@ -1,13 +1,15 @@
-use Rattle.std.proofs.Common.{[], ◌∷◌, ap, ◌∙◌, arith}
-use Rattle.panel_session.specs.OutgoingInside.{emptied}
-use Rattle.panel_session.specs.Text.{frames_of, with_frames}
-use Rattle.panel_session.proofs.FrameRoom.{frames_more}
+use Rattle.std.proofs.Common.{◌≡◌, ◌+◌, List, drop, sym, ap, ◌∙◌, arith}
+use Rattle.std.proofs.lemmas.List.{at_drop_more, drop_all}
+use Rattle.plant_core.specs.declared.answer.Answer.{Answer}
+use Rattle.panel_session.specs.Text.{Output, frames_behind, with_frames}
 use Rattle.panel_session.proofs.outgoing.Outgoing.answer.Goals as goal
 
 pub loop-answer-preserved : goal.loop-answer-preserved
-loop-answer-preserved c = record {
-  output = c.send.ensures.output
-      ∙ ap (with_frames (frames_of (_ ∷ []))) c.loop-answer.invariant.output
-      ∙ frames_more c.args.answers.now c.loop-answer.answer-index _ (emptied c.args.self.now) c.loop-answer-test.true;
-  most = omega (arith, c.send.ensures.most, c.loop-answer.invariant.most);
-}
+loop-answer-preserved c =
+    let Left : List Answer → Output = λ left. with_frames (frames_behind c.loop-answer.page left) c.loop-answer.self in
+    record {
+      output = c.add.ensures.output (drop (c.loop-answer.answer-index + 1) c.args.answers.now)
+          ∙ sym (at_drop_more Left c.args.answers.now c.loop-answer.answer-index _ c.loop-answer-test.true)
+          ∙ c.loop-answer.invariant.output;
+      most = omega (arith, c.add.ensures.most, c.loop-answer.invariant.most);
+    }

@@ -1,5 +1,5 @@
 use Rattle.std.proofs.Common.{◌≡◌, ◌++◌, take, vec_capacity}
-use Rattle.panel_session.proofs.outgoing.append.Given as goal
+use Rattle.panel_session.proofs.spell.append.Given as goal
 
 -- The front of the bytes was appended.
 abbrev pub invariant-loop-byte : goal.invariant-loop-byte

@@ -2,7 +2,7 @@ use Rattle.std.proofs.Common.{◌≡◌, ℕ, List, ◌++◌, length, ap, ◌∙
 use Rattle.dle_framing.specs.Frame.{frame}
 use Rattle.swp08_messages.specs.Text.{text}
 use Rattle.panel_session.proofs.FrameRoom.{message_frame-most}
-use Rattle.panel_session.proofs.outgoing.spell_frame.Goals as goal
+use Rattle.panel_session.proofs.spell.spell_frame.Goals as goal
 
 pub encode_frame-requires-clause-room : goal.encode_frame-requires-clause-room
 encode_frame-requires-clause-room c =

@@ -1,0 +1,66 @@
+//! Frames, spelled and appended to what is sent.
+
+ghost use Rattle.std.specs.Prelude.{◌≡◌, ◌≤◌, ◌++◌, length, vec_len, vec_capacity, ◌+◌};
+ghost use Rattle.dle_framing.specs.Frame.{frame};
+ghost use Rattle.swp08_messages.specs.Dump.{max_dump_len, page_text};
+ghost use Rattle.swp08_messages.specs.Text.{InRange, text};
+ghost use Rattle.panel_session.specs.OutgoingKept.{most_frame, most_message_frame, room_of};
+
+use crate::dump_page::DumpPage;
+use dle_framing::encode_frame;
+use swp08_messages::Message;
+
+// The frame of a message, and its DATA, in place of what there was.
+pub(crate) fn spell_frame(message: Message, spelled: &mut Vec<u8>, sent: &mut Vec<u8>)
+    requires in_range { InRange message }
+    requires room { max_dump_len ≤ vec_capacity spelled.old }
+    requires frame_room { most_frame ≤ vec_capacity sent.old }
+    ensures frame { sent.new.items ≡ frame (text message) }
+    ensures most { length sent.new.items ≤ most_message_frame }
+    ensures room { vec_capacity spelled.new ≡ vec_capacity spelled.old }
+    ensures frame_room { vec_capacity sent.new ≡ vec_capacity sent.old }
+{
+    spelled.clear();
+    message.write(spelled);
+    sent.clear();
+    encode_frame(spelled, sent);
+}
+
+// The frame of a page, and its DATA, in place of what there was.
+pub(crate) fn spell_page(page: &DumpPage, spelled: &mut Vec<u8>, sent: &mut Vec<u8>)
+    requires some { 1 ≤ length page.now.sources }
+    requires room { max_dump_len ≤ vec_capacity spelled.old }
+    requires frame_room { most_frame ≤ vec_capacity sent.old }
+    ensures frame { sent.new.items ≡ frame (page_text page.now) }
+    ensures most { length sent.new.items ≤ room_of (length page.now.sources) }
+    ensures short { length sent.new.items ≤ most_frame }
+    ensures room { vec_capacity spelled.new ≡ vec_capacity spelled.old }
+    ensures frame_room { vec_capacity sent.new ≡ vec_capacity sent.old }
+{
+    spelled.clear();
+    page.write(spelled);
+    sent.clear();
+    encode_frame(spelled, sent);
+}
+
+// A frame is newly sent, for which there is room.
+pub(crate) fn send(sent: &[u8], bytes: &mut Vec<u8>, repeats: &mut u32)
+    requires { vec_len bytes.old + length sent.now ≤ vec_capacity bytes.old }
+    ensures bytes { bytes.new.items ≡ bytes.old.items ++ sent.now }
+    ensures room { vec_capacity bytes.new ≡ vec_capacity bytes.old }
+    ensures repeats { repeats.new ≡ 0 }
+{
+    append(bytes, sent);
+    *repeats = 0;
+}
+
+// Appends bytes for which there is room.
+pub(crate) fn append(bytes: &mut Vec<u8>, more: &[u8])
+    requires { vec_len bytes.old + length more.now ≤ vec_capacity bytes.old }
+    ensures bytes { bytes.new.items ≡ bytes.old.items ++ more.now }
+    ensures room { vec_capacity bytes.new ≡ vec_capacity bytes.old }
+{
+    for byte in more {
+        bytes.push_reserved(*byte);
+    }
+}
