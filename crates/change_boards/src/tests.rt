@@ -94,6 +94,7 @@ fn takes_all(rt: &impl Abort, notices: &mut Notices, panel: PanelNo, takes: Chan
 }
 
 #[test]
+#[tactic(auto, unfolding(plant_config::specs::Bench::bench))]
 fn notices_come_in_their_order(rt: HostRuntime) -> Result<(), Fail> {
     let plant = Plant::bench(rt.alloc())?;
     for (marks, takes) in ROWS {
@@ -132,6 +133,7 @@ fn a_mark_between_takes_finds_its_place(rt: HostRuntime) -> Result<(), Fail> {
 }
 
 #[test]
+#[tactic(auto, unfolding(plant_config::specs::Bench::bench))]
 fn whoever_left_hears_nothing(rt: HostRuntime) -> Result<(), Fail> {
     let plant = Plant::bench(rt.alloc())?;
     let mut notices = Notices::new(rt.alloc(), &plant)?;

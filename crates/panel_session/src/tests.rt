@@ -71,6 +71,7 @@ const CONNECTED_5: &str = "10 02 04 00 00 05 03 05 EF 10 03";
 type Line = (u32, &'static str, &'static str);
 
 // Plays lines in one turn each, and answers the place of the first that was sent something else.
+#[tactic(auto, unfolding(plant_config::specs::Bench::bench))]
 fn play(alloc: Global, lines: &[Line]) -> Result<Option<usize>, Fail> {
     let plant = Plant::bench(alloc)?;
     let mut first = Session::start(alloc, &plant, PanelNo::of(0))?;
@@ -285,6 +286,7 @@ fn a_reset_forgets_all(rt: HostRuntime) -> Result<(), Fail> {
 
 // A panel that always has a notice is told 32 in a turn.
 #[test]
+#[tactic(auto, unfolding(plant_config::specs::Bench::bench))]
 fn a_turn_polls_at_most_32_times(rt: HostRuntime) -> Result<(), Fail> {
     let alloc = rt.alloc();
     let plant = Plant::bench(alloc)?;

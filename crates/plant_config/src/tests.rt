@@ -46,6 +46,7 @@ fn bench_is_one_level_and_two_panels(rt: HostRuntime) -> Result<(), Fail> {
 }
 
 #[test]
+#[tactic(auto, unfolding(crate::specs::Bench::bench))]
 fn places_of_the_bench(rt: HostRuntime) -> Result<(), Fail> {
     let plant = Plant::bench(rt.alloc())?;
     for (matrix, level, number, in_plant) in PLACES {
