@@ -15,7 +15,7 @@ use Rattle.plant_config.specs.Plant.{PlantData}
 use Rattle.plant_core.specs.declared.answer.Answer.{Answer}
 use Rattle.plant_core.specs.declared.request.Request.TheVariants.{Poll}
 use Rattle.panel_session.specs.declared.asked.Asked.{Asked}
-use Rattle.panel_session.specs.declared.asked.Asked.TheVariants.{Nothing, Repeat, Refused, Noted, Sent}
+use Rattle.panel_session.specs.declared.asked.Asked.TheVariants.{Nothing, Repeat, Refused, Noted, Named, Sent}
 use Rattle.panel_session.specs.declared.session.Session.{Session}
 use Rattle.panel_session.specs.declared.stage.Stage.{Stage}
 use Rattle.panel_session.specs.declared.stage.Stage.TheVariants.{Read, Poll as PollStage, End}
@@ -43,10 +43,10 @@ pub stands_polled_last : (plant : PlantData) (panel seat : ℕ) (session : Sessi
     → Stands plant panel (took_answers answers unsent (record session { stage = End; polls = polls }))
     (with_entry (record { seat = seat; request = Poll session.panel session.items session.counts.turns; answers = answers }) past)
 stands_polled_last plant panel seat session past polls answers unsent stands poll none empty some is last =
-    let KeepsOf : Kept → Type 0 = λ kept. Keeps kept past in
+    let KeepsOf : Kept → Type 0 = λ kept. Keeps plant kept past in
     let k = subst KeepsOf (at_stage session PollStage poll none) stands.keeps in
     let later = with_entry (record { seat = seat; request = Poll session.panel session.items session.counts.turns; answers = answers }) past in
-    let KeepsAt : ℕ → Type 0 = λ polls. Keeps (record {
+    let KeepsAt : ℕ → Type 0 = λ polls. Keeps plant (record {
       panel = session.panel;
       stage = End;
       items = session.items;
@@ -56,8 +56,8 @@ stands_polled_last plant panel seat session past polls answers unsent stands pol
       unsent = unsent;
     }) later in
     let full : (answers ≡ []) ⊎ (session.polls + 1 ≡ 32) = elim last [ (inl none) ↦ inl none | (inr full) ↦ inr (sym is ∙ full) ] in
-    stands_with plant panel session (took_answers answers unsent (record session { stage = End; polls = polls })) past later stands refl refl refl refl refl refl refl
-    (subst KeepsAt (sym is) (keeps_polled_last session.panel session.items session.counts.turns session.polls seat session.outgoing past answers unsent k empty full))
+    stands_with plant panel session (took_answers answers unsent (record session { stage = End; polls = polls })) past later stands refl refl refl refl refl refl refl refl
+    (subst KeepsAt (sym is) (keeps_polled_last plant session.panel session.items session.counts.turns session.polls seat session.outgoing past answers unsent k empty full))
     some
 
 -- It answered another.
@@ -68,10 +68,10 @@ pub stands_polled_more : (plant : PlantData) (panel seat : ℕ) (session : Sessi
     → Stands plant panel (took_answers answers unsent (record session { stage = PollStage; polls = polls }))
     (with_entry (record { seat = seat; request = Poll session.panel session.items session.counts.turns; answers = answers }) past)
 stands_polled_more plant panel seat session past polls answers unsent stands poll none empty some is one below =
-    let KeepsOf : Kept → Type 0 = λ kept. Keeps kept past in
+    let KeepsOf : Kept → Type 0 = λ kept. Keeps plant kept past in
     let k = subst KeepsOf (at_stage session PollStage poll none) stands.keeps in
     let later = with_entry (record { seat = seat; request = Poll session.panel session.items session.counts.turns; answers = answers }) past in
-    let KeepsAt : ℕ → Type 0 = λ polls. Keeps (record {
+    let KeepsAt : ℕ → Type 0 = λ polls. Keeps plant (record {
       panel = session.panel;
       stage = PollStage;
       items = session.items;
@@ -80,8 +80,8 @@ stands_polled_more plant panel seat session past polls answers unsent stands pol
       output = with_frames (frames_of answers) (emptied session.outgoing);
       unsent = unsent;
     }) later in
-    stands_with plant panel session (took_answers answers unsent (record session { stage = PollStage; polls = polls })) past later stands refl refl refl refl refl refl refl
-    (subst KeepsAt (sym is) (keeps_polled_more session.panel session.items session.counts.turns session.polls seat session.outgoing past answers unsent k empty one (λ full. below (is ∙ full))))
+    stands_with plant panel session (took_answers answers unsent (record session { stage = PollStage; polls = polls })) past later stands refl refl refl refl refl refl refl refl
+    (subst KeepsAt (sym is) (keeps_polled_more plant session.panel session.items session.counts.turns session.polls seat session.outgoing past answers unsent k empty one (λ full. below (is ∙ full))))
     some
 
 -- a session that polls has polled fewer than 32 times in the turn
@@ -97,37 +97,38 @@ polls_below plant panel session past stands poll =
 pub stands_turn : (plant : PlantData) (panel : ℕ) (session : Session) (past : Past) → Stands plant panel session past → session.stage ≡ End → session.unsent ≡ false → length past.turns < 2 ^ 62
     → IsOver plant panel past × Stands plant panel (ended_turn session) (with_turn past)
 stands_turn plant panel session past stands over none small =
-    let KeepsOf : Kept → Type 0 = λ kept. Keeps kept past in
+    let KeepsOf : Kept → Type 0 = λ kept. Keeps plant kept past in
     let k = subst KeepsOf (at_stage session End over none) stands.keeps in
-    let KeepsThen : Kept → Type 0 = λ kept. Keeps kept (with_turn past) in
+    let KeepsThen : Kept → Type 0 = λ kept. Keeps plant kept (with_turn past) in
     let turns_are : session.counts.turns ≡ length past.turns = k.turns_are in
     let one_more : next session.counts.turns ≡ session.counts.turns + 1 = next-small session.counts.turns (omega arith) in
     let TurnOf : ℕ → Type 0 = λ panel. IsTurn panel past.turns past.now in
     let read : read_so_far (with_turn past) ≡ read_so_far past = append-nil (bytes_of (past.turns ++ past.now ∷ [])) ∙ bytes_of-append past.turns past.now in (
       record {
-        turn = subst TurnOf stands.panel_is (turn_over session.panel session.items session.counts.turns session.polls session.outgoing past k);
+        turn = subst TurnOf stands.panel_is (turn_over plant session.panel session.items session.counts.turns session.polls session.outgoing past k);
         text = keeps_text plant (kept_of session) past none stands.keeps;
       },
-      stands_with plant panel session (ended_turn session) past (with_turn past) stands read refl refl refl refl refl refl
+      stands_with plant panel session (ended_turn session) past (with_turn past) stands read refl refl refl refl refl refl refl
           (subst KeepsThen
           (sym (kept_same session.panel 0 session.outgoing Read Read session.items session.items (next session.counts.turns) (session.counts.turns + 1) session.unsent false refl refl one_more none))
-          (keeps_turn session.panel session.items session.counts.turns session.polls session.outgoing past k))
+          (keeps_turn plant session.panel session.items session.counts.turns session.polls session.outgoing past k))
           stands.some,
     )
 
 -- A session to which nothing happened.
-pub stands_new : (plant : PlantData) (panel : ℕ) (session : Session) → session.plant.now ≡ plant → session.panel ≡ panel → panel < length plant.panels → framer.StandsFor session.framer []
+pub stands_new : (plant : PlantData) (panel : ℕ) (session : Session) → session.plant.now ≡ plant → session.names.now ≡ plant → session.panel ≡ panel → panel < length plant.panels → framer.StandsFor session.framer []
     → kept_of session ≡ reading panel 0 0 0 nothing_sent → session.unsent ≡ false → session.counts.goods ≡ 0 → session.counts.bads ≡ 0 → session.outbox.places ≡ most_answers
     → Stands plant panel session nothing_yet
-stands_new plant panel session plant_is panel_is has_panel fed kept unsent goods bads places =
-    let KeepsOf : Kept → Type 0 = λ kept. Keeps kept nothing_yet in
+stands_new plant panel session plant_is names_are panel_is has_panel fed kept unsent goods bads places =
+    let KeepsOf : Kept → Type 0 = λ kept. Keeps plant kept nothing_yet in
     let none : items [] ≡ [] = ap (λ (reading : Reading). reading.items) (reading-by_start []) in
     record {
       plant_is = plant_is;
+      names_are = names_are;
       panel_is = panel_is;
       has_panel = has_panel;
       framer = fed;
-      keeps = subst KeepsOf (sym kept) (keeps_nothing panel);
+      keeps = subst KeepsOf (sym kept) (keeps_nothing plant panel);
       goods = goods ∙ ap goods_of (sym none);
       bads = bads ∙ ap bads_of (sym none);
       some = λ is. absurd (false≢true (sym unsent ∙ is));
@@ -181,28 +182,29 @@ no_poll_stage Nothing is = cc
 no_poll_stage Repeat is = cc
 no_poll_stage Refused is = cc
 no_poll_stage Noted is = cc
+no_poll_stage (Named message) is = cc
 no_poll_stage (Sent message) is = cc
 
 -- An item was taken, and something is to be sent or not.
 pub has_read_item : (plant : PlantData) (panel : ℕ) (session after : Session) (past : Past) (piece : List ℕ) (used : ℕ) (a : Asked) (framer_then : Framer) (send : Bool) → IsReading plant panel session past
     → length (items (read_so_far past ++ piece)) < 2 ^ 62 → FoundAsks (read_so_far past) piece used (Some a) → framer.StandsFor framer_then (read_so_far past ++ take used piece)
-    → after ≡ took a (record session { framer = framer_then }) → (send ≡ true → sent_by a session.outgoing ≢ []) → (send ≡ true → after.outgoing.bytes ≡ sent_by a session.outgoing)
-    → (send ≡ false → sent_by a session.outgoing ≡ []) → (send ≡ false → after.stage ≡ session.stage)
+    → after ≡ took plant a (record session { framer = framer_then }) → (send ≡ true → sent_by plant a session.outgoing ≢ []) → (send ≡ true → after.outgoing.bytes ≡ sent_by plant a session.outgoing)
+    → (send ≡ false → sent_by plant a session.outgoing ≡ []) → (send ≡ false → after.stage ≡ session.stage)
     → HasRead plant panel (with_bytes (take used piece) past) send after
 has_read_item plant panel session after past piece used a framer_then send reading small found fed is some sent none quiet =
     let now = with_bytes (take used piece) past in
     let one = the_item found.item a found.asks in
     let adds : items (read_so_far past ++ take used piece) ≡ items (read_so_far past) ++ one.0 ∷ [] =
     found.feeds.adds ∙ ap (λ (item : Option (Item (List ℕ))). items (read_so_far past) ++ option_to_list item) one.1 in
-    let At : Session → Type 0 = λ after. Stands plant panel after (with_sent (sent_by a session.outgoing) now) in
-    let stands : Stands plant panel after (with_sent (sent_by a session.outgoing) now) =
+    let At : Session → Type 0 = λ after. Stands plant panel after (with_sent (sent_by plant a session.outgoing) now) in
+    let stands : Stands plant panel after (with_sent (sent_by plant a session.outgoing) now) =
     subst At (sym is) (stands_item plant panel session past (take used piece) one.0 a framer_then reading.stands reading.stage reading.none_unsent adds one.2 fed (front_small (read_so_far past) piece used small)) in
     let SentAt : List ℕ → Type 0 = λ bytes. Stands plant panel after (with_sent bytes now) in
     let empty : after.outbox.items ≡ [] = ap (λ (session : Session). session.outbox.items) is ∙ reading.none_asked in
     let quiet_then : after.unsent ≡ false = ap (λ (session : Session). session.unsent) is ∙ reading.none_unsent in
     let staged : after.stage ≡ taken_stage a = ap (λ (session : Session). session.stage) is ∙ stage-is a session.stage reading.stage in
-    (elim send as (λ send. (send ≡ true → sent_by a session.outgoing ≢ []) → (send ≡ true → after.outgoing.bytes ≡ sent_by a session.outgoing)
-    → (send ≡ false → sent_by a session.outgoing ≡ []) → (send ≡ false → after.stage ≡ session.stage) → HasRead plant panel now send after) [
+    (elim send as (λ send. (send ≡ true → sent_by plant a session.outgoing ≢ []) → (send ≡ true → after.outgoing.bytes ≡ sent_by plant a session.outgoing)
+    → (send ≡ false → sent_by plant a session.outgoing ≡ []) → (send ≡ false → after.stage ≡ session.stage) → HasRead plant panel now send after) [
       | true ↦ λ some sent none quiet. (
         subst SentAt (sym (sent refl)) stands,
         empty,

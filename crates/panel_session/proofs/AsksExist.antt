@@ -3,30 +3,30 @@ use Rattle.std.proofs.Common.{◌≡◌, ℕ, List, inl, inr, refl, ap, ◌∙�
 use Rattle.dle_framing.specs.declared.item.Item.{Item}
 use Rattle.dle_framing.specs.declared.item.Item.TheVariants.{Good, Bad, Ack, Nak}
 use Rattle.swp08_messages.specs.declared.message.MessageKind.{MessageKind}
-use Rattle.swp08_messages.specs.declared.message.MessageKind.TheVariants.{Plant}
+use Rattle.swp08_messages.specs.declared.message.MessageKind.TheVariants.{Plant, Names, Report}
+use Rattle.swp08_messages.specs.declared.message.Message.{Message}
+use Rattle.swp08_messages.specs.Spelled.{Spells}
 use Rattle.swp08_messages.specs.Text.{kind_of}
 use Rattle.swp08_messages.proofs.ReadingLemmas.{one_message}
 use Rattle.swp08_messages.proofs.SpellsLemmas.{spells}
 use Rattle.panel_session.specs.declared.asked.Asked.{Asked}
-use Rattle.panel_session.specs.declared.asked.Asked.TheVariants.{Nothing, Repeat, Refused, Noted, Sent}
+use Rattle.panel_session.specs.declared.asked.Asked.TheVariants.{Nothing, Repeat, Refused, Noted, Named, Sent}
 use Rattle.panel_session.specs.Asked.{GoodAsks, Asks}
 
--- A message is for the plant, or not.
-is_for_plant : (kind : MessageKind) → Dec (kind ≡ Plant)
-is_for_plant Plant = yes refl
-is_for_plant kind = no (λ is. cc)
+-- What DATA asks that spells a message, by its kind.
+by_kind : (carried : List ℕ) (message : Message) → Spells carried message → (kind : MessageKind) → kind_of message ≡ kind → (asked : Asked) × GoodAsks carried asked
+by_kind carried message spelled Plant is = (Sent message, (spelled, is))
+by_kind carried message spelled Names is = (Named message, (spelled, is))
+by_kind carried message spelled Report is = (
+  Noted,
+  (λ other spelled_too. ap kind_of (one_message carried other message spelled_too spelled) ∙ is),
+)
 
 -- DATA asks something.
 good_asks : (carried : List ℕ) → (asked : Asked) × GoodAsks carried asked
 good_asks carried = elim (spells carried) [
-  | (inl so) ↦ elim (is_for_plant (kind_of so.0)) [
-    | (yes plant) ↦ (Sent so.0, (so.1, plant))
-    | (no report) ↦ (
-      Noted,
-      (λ message spelled is. report (ap kind_of (one_message carried so.0 message so.1 spelled) ∙ is)),
-    )
-  ]
-  | (inr none) ↦ (Noted, (λ message spelled is. none message spelled))
+  | (inl so) ↦ by_kind carried so.0 so.1 (kind_of so.0) refl
+  | (inr none) ↦ (Noted, (λ message spelled. absurd (none message spelled)))
 ]
 
 -- An item asks something.

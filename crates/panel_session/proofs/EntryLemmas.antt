@@ -11,7 +11,7 @@ use Rattle.plant_core.specs.declared.answer.Answer.{Answer}
 use Rattle.plant_core.specs.declared.request.Request.{Request}
 use Rattle.plant_core.specs.declared.request.Request.TheVariants.{Told, Poll}
 use Rattle.panel_session.specs.declared.asked.Asked.{Asked}
-use Rattle.panel_session.specs.declared.asked.Asked.TheVariants.{Nothing, Repeat, Refused, Noted, Sent}
+use Rattle.panel_session.specs.declared.asked.Asked.TheVariants.{Nothing, Repeat, Refused, Noted, Named, Sent}
 use Rattle.panel_session.specs.Entry.{PlantEntry}
 use Rattle.panel_session.specs.Asked.{AllAsk, sent_to_plant}
 use Rattle.panel_session.specs.Text.{frames_of, polled_by, polled_at, is_told_at, told_at}
@@ -76,6 +76,7 @@ is_told-same Nothing item entries others same told = told
 is_told-same Repeat item entries others same told = told
 is_told-same Refused item entries others same told = told
 is_told-same Noted item entries others same told = told
+is_told-same (Named message) item entries others same told = told
 is_told-same (Sent message) item entries others same told = let P : Option (List Answer) → Type 0 = λ answers. IsSome answers in subst P (sym same) told
 
 pub all_told-same : (xs : List Asked) (item n : ℕ) (entries others : List PlantEntry) → n ≡ item + length xs → SayTheSame item n entries others → AllTold item xs entries → AllTold item xs others
@@ -92,6 +93,7 @@ sent-append (Nothing ∷ xs) a panel item n is = sent-append xs a panel (item + 
 sent-append (Repeat ∷ xs) a panel item n is = sent-append xs a panel (item + 1) n (omega arith)
 sent-append (Refused ∷ xs) a panel item n is = sent-append xs a panel (item + 1) n (omega arith)
 sent-append (Noted ∷ xs) a panel item n is = sent-append xs a panel (item + 1) n (omega arith)
+sent-append (Named message ∷ xs) a panel item n is = sent-append xs a panel (item + 1) n (omega arith)
 sent-append (Sent message ∷ xs) a panel item n is = ap (λ (sent : List Request). Told panel item message ∷ sent) (sent-append xs a panel (item + 1) n (omega arith))
 
 -- A told entry is of its own item alone, and of no poll.

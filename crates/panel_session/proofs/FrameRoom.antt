@@ -12,7 +12,7 @@ use Rattle.swp08_messages.specs.declared.message.Message.{Message}
 use Rattle.swp08_messages.specs.Text.{text}
 
 -- a frame has at most two bytes for each of its body, and four more
-frame-most : (bytes : List ℕ) → length (frame bytes) ≤ 2 * length bytes + 8
+pub frame-most : (bytes : List ℕ) → length (frame bytes) ≤ 2 * length bytes + 8
 frame-most bytes = omega (arith, length-frame bytes, length-doubled (body bytes), length-body bytes, count_by-le-length (λ (byte : ℕ). byte == dle) (body bytes))
 
 -- Canonical DATA are short, and so is their frame.

@@ -6,6 +6,7 @@ use Rattle.std.proofs.lemmas.List.{append-nil, append_assoc, length-append, map-
 use Rattle.dle_framing.specs.Numbers.{ack}
 use Rattle.dle_framing.specs.Items.{items}
 use Rattle.swp08_messages.specs.declared.message.Message.{Message}
+use Rattle.plant_config.specs.Plant.{PlantData}
 use Rattle.plant_core.specs.declared.answer.Answer.{Answer}
 use Rattle.plant_core.specs.declared.request.Request.{Request}
 use Rattle.plant_core.specs.declared.request.Request.TheVariants.{Told, Poll}
@@ -32,8 +33,8 @@ stage-sent PollStage panel first before asked past sent at = at
 stage-sent End panel first before asked past sent at = at
 
 -- What was to be sent is sent.
-pub keeps_sent : (kept : Kept) (past : Past) → kept.unsent ≡ true → Keeps kept past → Keeps (record kept { unsent = false }) (with_sent kept.output.bytes past)
-keeps_sent kept past is k =
+pub keeps_sent : (plant : PlantData) (kept : Kept) (past : Past) → kept.unsent ≡ true → Keeps plant kept past → Keeps plant (record kept { unsent = false }) (with_sent kept.output.bytes past)
+keeps_sent plant kept past is k =
     let all : pending kept ≡ kept.output = ap (λ (test : Bool). if test then kept.output else emptied kept.output) is in
     record {
       turns = k.turns;
@@ -71,19 +72,19 @@ entries-polled turns told polls entry =
     ∙ sym (append_assoc (entries_of turns) (told ++ polls) (entry ∷ []))
 
 -- The plant answered what an item sent to it.
-pub keeps_told : (panel count turns polls seat : ℕ) (message : Message) (output : Output) (past : Past) (answers : List Answer) (unsent : Bool)
-    → Keeps (record { panel = panel; stage = Tell message; items = count; turns = turns; polls = polls; output = output; unsent = false }) past
+pub keeps_told : (plant : PlantData) (panel count turns polls seat : ℕ) (message : Message) (output : Output) (past : Past) (answers : List Answer) (unsent : Bool)
+    → Keeps plant (record { panel = panel; stage = Tell message; items = count; turns = turns; polls = polls; output = output; unsent = false }) past
     → (unsent ≡ false → (with_frames (frames_of answers) (emptied output)).bytes ≡ [])
-    → Keeps (record { panel = panel; stage = Read; items = count; turns = turns; polls = polls; output = with_frames (frames_of answers) (emptied output); unsent = unsent })
+    → Keeps plant (record { panel = panel; stage = Read; items = count; turns = turns; polls = polls; output = with_frames (frames_of answers) (emptied output); unsent = unsent })
     (with_entry (record { seat = seat; request = Told panel (count - 1) message; answers = answers }) past)
-keeps_told panel count turns polls seat message output past answers unsent k none =
+keeps_told plant panel count turns polls seat message output past answers unsent k none =
     let kept : Kept = record { panel = panel; stage = Tell message; items = count; turns = turns; polls = polls; output = output; unsent = false } in
     let front = k.stage.0 in
     let asked_is : k.asked ≡ front ++ Sent message ∷ [] = k.stage.1 in
     let first = length (items (bytes_of past.turns)) in
     let E = entries_so_far past in
-    let all = length-asked kept past k in
-    let before_all = length-before kept past k in
+    let all = length-asked plant kept past k in
+    let before_all = length-before plant kept past k in
     let n = first + length front in
     let number : count - 1 ≡ n = omega (arith, length-append k.before k.asked, ap (length {A = Asked}) asked_is, length-append front (Sent message ∷ []), k.items_are) in
     let behind_n : n + 1 ≡ length (items (read_so_far past)) = omega (arith, length-append k.before k.asked, ap (length {A = Asked}) asked_is, length-append front (Sent message ∷ [])) in
@@ -105,25 +106,25 @@ keeps_told panel count turns polls seat message output past answers unsent k non
     let NoneOf : ℕ → Type 0 = λ n. NoneFrom n (E ++ entry ∷ []) in
     let none_of : NoneFrom (length (items (read_so_far past))) (E ++ entry ∷ []) = subst NoneOf behind_n (none_from-told n panel message E entry is k.stage.5) in
     let NoneIn : List PlantEntry → Type 0 = λ entries. NoneFrom (length (items (read_so_far past))) entries in
-    let X = output_from 0 (k.before ++ front) E nothing_sent in
+    let X = output_from plant 0 (k.before ++ front) E nothing_sent in
     let was : with_control ack X ≡ behind past.sent (emptied output) =
     ap (λ (told : Option (List Answer)). told_output n E told X) (sym (k.stage.5.told n (omega arith)))
-    ∙ sym (output_more (k.before ++ front) (Sent message) 0 n E nothing_sent there k.stage.4)
-    ∙ ap (λ (asked : List Asked). output_from 0 asked E nothing_sent) (sym joined)
+    ∙ sym (output_more plant (k.before ++ front) (Sent message) 0 n E nothing_sent there k.stage.4)
+    ∙ ap (λ (asked : List Asked). output_from plant 0 asked E nothing_sent) (sym joined)
     ∙ k.output in
-    let same_front : output_from 0 (k.before ++ front) (E ++ entry ∷ []) nothing_sent ≡ X =
-    output_later (k.before ++ front) 0 n E (E ++ entry ∷ []) [] nothing_sent there k.stage.4 says
+    let same_front : output_from plant 0 (k.before ++ front) (E ++ entry ∷ []) nothing_sent ≡ X =
+    output_later plant (k.before ++ front) 0 n E (E ++ entry ∷ []) [] nothing_sent there k.stage.4 says
     (polled_at-same n E entry (ap (λ (request : Request). polled_by n request answers) is) ∙ sym (append-nil (polled_at n E))) in
-    let now : output_from 0 (k.before ++ k.asked) (E ++ entry ∷ []) nothing_sent ≡ behind past.sent (with_frames (frames_of answers) (emptied output)) =
-    ap (λ (asked : List Asked). output_from 0 asked (E ++ entry ∷ []) nothing_sent) joined
-    ∙ output_more (k.before ++ front) (Sent message) 0 n (E ++ entry ∷ []) nothing_sent there (all_told-same (k.before ++ front) 0 n E (E ++ entry ∷ []) there says k.stage.4)
-    ∙ ap (λ (told : Option (List Answer)). told_output n (E ++ entry ∷ []) told (output_from 0 (k.before ++ front) (E ++ entry ∷ []) nothing_sent)) told_there
+    let now : output_from plant 0 (k.before ++ k.asked) (E ++ entry ∷ []) nothing_sent ≡ behind past.sent (with_frames (frames_of answers) (emptied output)) =
+    ap (λ (asked : List Asked). output_from plant 0 asked (E ++ entry ∷ []) nothing_sent) joined
+    ∙ output_more plant (k.before ++ front) (Sent message) 0 n (E ++ entry ∷ []) nothing_sent there (all_told-same (k.before ++ front) 0 n E (E ++ entry ∷ []) there says k.stage.4)
+    ∙ ap (λ (told : Option (List Answer)). told_output n (E ++ entry ∷ []) told (output_from plant 0 (k.before ++ front) (E ++ entry ∷ []) nothing_sent)) told_there
     ∙ ap (told_output n (E ++ entry ∷ []) (Some answers)) same_front
     ∙ no_polls (n + 1) (E ++ entry ∷ []) (with_frames (frames_of answers) (with_control ack X))
     (polled_at-same (n + 1) E entry (ap (λ (request : Request). polled_by (n + 1) request answers) is) ∙ k.stage.5.polled (n + 1) (omega arith))
     ∙ ap (with_frames (frames_of answers)) was
     ∙ frames-behind (frames_of answers) past.sent (emptied output) in
-    let OutputIn : List PlantEntry → Type 0 = λ entries. output_from 0 (k.before ++ k.asked) entries nothing_sent
+    let OutputIn : List PlantEntry → Type 0 = λ entries. output_from plant 0 (k.before ++ k.asked) entries nothing_sent
     ≡ behind past.sent (if unsent then with_frames (frames_of answers) (emptied output) else emptied (with_frames (frames_of answers) (emptied output))) in
     record {
       turns = k.turns;
@@ -157,31 +158,31 @@ polled_stage [] polls = End
 polled_stage (answer ∷ answers) polls = if nat_eq (polls + 1) 32 then End else PollStage
 
 -- The plant answered a poll. What comes next is the stage with these facts of it.
-pub keeps_polled_to : (stage : Stage) (panel count turns polls seat : ℕ) (output : Output) (past : Past) (answers : List Answer) (unsent : Bool)
-    → Keeps (record { panel = panel; stage = PollStage; items = count; turns = turns; polls = polls; output = output; unsent = false }) past
+pub keeps_polled_to : (plant : PlantData) (stage : Stage) (panel count turns polls seat : ℕ) (output : Output) (past : Past) (answers : List Answer) (unsent : Bool)
+    → Keeps plant (record { panel = panel; stage = PollStage; items = count; turns = turns; polls = polls; output = output; unsent = false }) past
     → (unsent ≡ false → (with_frames (frames_of answers) (emptied output)).bytes ≡ [])
     → ((before asked : List Asked) → IsAtStage PollStage panel (length (items (bytes_of past.turns))) before asked past
     → AllTold 0 (before ++ asked) (entries_so_far (with_entry (record { seat = seat; request = Poll panel count turns; answers = answers }) past))
     → IsAtStage stage panel (length (items (bytes_of past.turns))) before asked (with_entry (record { seat = seat; request = Poll panel count turns; answers = answers }) past))
-    → Keeps (record { panel = panel; stage = stage; items = count; turns = turns; polls = polls + 1; output = with_frames (frames_of answers) (emptied output); unsent = unsent })
+    → Keeps plant (record { panel = panel; stage = stage; items = count; turns = turns; polls = polls + 1; output = with_frames (frames_of answers) (emptied output); unsent = unsent })
     (with_entry (record { seat = seat; request = Poll panel count turns; answers = answers }) past)
-keeps_polled_to stage panel count turns polls seat output past answers unsent k none stage_then =
+keeps_polled_to plant stage panel count turns polls seat output past answers unsent k none stage_then =
     let kept : Kept = record { panel = panel; stage = PollStage; items = count; turns = turns; polls = polls; output = output; unsent = false } in
     let E = entries_so_far past in
     let n = length (items (read_so_far past)) in
     let entry : PlantEntry = record { seat = seat; request = Poll panel count turns; answers = answers } in
     let is : entry.request ≡ Poll panel n turns = ap (λ (n : ℕ). Poll panel n turns) k.items_are in
-    let there : n ≡ 0 + length (k.before ++ k.asked) = omega (arith, length-asked kept past k) in
+    let there : n ≡ 0 + length (k.before ++ k.asked) = omega (arith, length-asked plant kept past k) in
     let more : entries_so_far (with_entry entry past) ≡ E ++ entry ∷ [] = entries-polled past.turns past.now.told past.now.polls entry in
     let says = says_poll n panel turns E entry is in
     let all_told : AllTold 0 (k.before ++ k.asked) (E ++ entry ∷ []) = all_told-same (k.before ++ k.asked) 0 n E (E ++ entry ∷ []) there says k.stage.2 in
     let Told_all : List PlantEntry → Type 0 = λ entries. AllTold 0 (k.before ++ k.asked) entries in
     let NoneIn : List PlantEntry → Type 0 = λ entries. NoneFrom n entries in
-    let now : output_from 0 (k.before ++ k.asked) (E ++ entry ∷ []) nothing_sent ≡ behind past.sent (with_frames (frames_of answers) (emptied output)) =
-    output_later (k.before ++ k.asked) 0 n E (E ++ entry ∷ []) (frames_of answers) nothing_sent there k.stage.2 says (polled_at-poll n panel turns E entry is)
+    let now : output_from plant 0 (k.before ++ k.asked) (E ++ entry ∷ []) nothing_sent ≡ behind past.sent (with_frames (frames_of answers) (emptied output)) =
+    output_later plant (k.before ++ k.asked) 0 n E (E ++ entry ∷ []) (frames_of answers) nothing_sent there k.stage.2 says (polled_at-poll n panel turns E entry is)
     ∙ ap (with_frames (frames_of answers)) k.output
     ∙ frames-behind (frames_of answers) past.sent (emptied output) in
-    let OutputIn : List PlantEntry → Type 0 = λ entries. output_from 0 (k.before ++ k.asked) entries nothing_sent
+    let OutputIn : List PlantEntry → Type 0 = λ entries. output_from plant 0 (k.before ++ k.asked) entries nothing_sent
     ≡ behind past.sent (if unsent then with_frames (frames_of answers) (emptied output) else emptied (with_frames (frames_of answers) (emptied output))) in
     record {
       turns = k.turns;
@@ -202,18 +203,18 @@ keeps_polled_to stage panel count turns polls seat output past answers unsent k 
     }
 
 -- a poll that is the last
-pub keeps_polled_last : (panel count turns polls seat : ℕ) (output : Output) (past : Past) (answers : List Answer) (unsent : Bool)
-    → Keeps (record { panel = panel; stage = PollStage; items = count; turns = turns; polls = polls; output = output; unsent = false }) past
+pub keeps_polled_last : (plant : PlantData) (panel count turns polls seat : ℕ) (output : Output) (past : Past) (answers : List Answer) (unsent : Bool)
+    → Keeps plant (record { panel = panel; stage = PollStage; items = count; turns = turns; polls = polls; output = output; unsent = false }) past
     → (unsent ≡ false → (with_frames (frames_of answers) (emptied output)).bytes ≡ [])
     → (answers ≡ []) ⊎ (polls + 1 ≡ 32)
-    → Keeps (record { panel = panel; stage = End; items = count; turns = turns; polls = polls + 1; output = with_frames (frames_of answers) (emptied output); unsent = unsent })
+    → Keeps plant (record { panel = panel; stage = End; items = count; turns = turns; polls = polls + 1; output = with_frames (frames_of answers) (emptied output); unsent = unsent })
     (with_entry (record { seat = seat; request = Poll panel count turns; answers = answers }) past)
-keeps_polled_last panel count turns polls seat output past answers unsent k none last =
+keeps_polled_last plant panel count turns polls seat output past answers unsent k none last =
     let n = length (items (read_so_far past)) in
     let entry : PlantEntry = record { seat = seat; request = Poll panel count turns; answers = answers } in
     let poll = Poll panel n (length past.turns) in
     let is : entry.request ≡ poll = ap (λ (n : ℕ). Poll panel n turns) k.items_are ∙ ap (Poll panel n) k.turns_are in
-    keeps_polled_to End panel count turns polls seat output past answers unsent k none (λ before asked at all. (
+    keeps_polled_to plant End panel count turns polls seat output past answers unsent k none (λ before asked at all. (
       at.0,
       record {
         answered = past.now.polls;

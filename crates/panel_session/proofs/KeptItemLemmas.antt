@@ -8,11 +8,12 @@ use Rattle.dle_framing.specs.declared.item.Item.{Item}
 use Rattle.dle_framing.specs.declared.item.Item.TheVariants.{Good, Bad, Ack, Nak}
 use Rattle.dle_framing.specs.Items.{items}
 use Rattle.swp08_messages.specs.declared.message.Message.{Message}
+use Rattle.plant_config.specs.Plant.{PlantData}
 use Rattle.plant_core.specs.declared.answer.Answer.{Answer}
 use Rattle.plant_core.specs.declared.request.Request.{Request}
 use Rattle.plant_core.specs.declared.request.Request.TheVariants.{Poll}
 use Rattle.panel_session.specs.declared.asked.Asked.{Asked}
-use Rattle.panel_session.specs.declared.asked.Asked.TheVariants.{Nothing, Repeat, Refused, Noted, Sent}
+use Rattle.panel_session.specs.declared.asked.Asked.TheVariants.{Nothing, Repeat, Refused, Noted, Named, Sent}
 use Rattle.panel_session.specs.declared.stage.Stage.{Stage}
 use Rattle.panel_session.specs.declared.stage.Stage.TheVariants.{Read, Tell, Poll as PollStage, End}
 use Rattle.panel_session.specs.Entry.{PlantEntry}
@@ -20,21 +21,22 @@ use Rattle.plant_core.specs.State.{IsForPlant}
 use Rattle.panel_session.specs.Asked.{Asks, sent_to_plant}
 use Rattle.panel_session.specs.Turns.{bytes_of}
 use Rattle.panel_session.specs.Text.{Output, frames_of, with_frames, nothing_sent, output_from, polled_at, with_control, repeated, with_polls}
+use Rattle.panel_session.specs.NamePages.{name_frames}
 use Rattle.panel_session.specs.OutgoingInside.{emptied}
 use Rattle.panel_session.specs.SoFar.{Past, read_so_far, entries_so_far, with_bytes, with_sent}
 use Rattle.panel_session.specs.StandsInside.{Kept, Keeps, IsTold, AllTold, NoneFrom, behind, MayPoll, IsAtStage}
 use Rattle.panel_session.specs.TakenInside.{taken_output, taken_stage, sent_by}
-use Rattle.panel_session.proofs.OutputLemmas.{told_output, output_with, output_more, control-behind, repeated-behind, sent-behind}
+use Rattle.panel_session.proofs.OutputLemmas.{told_output, output_with, output_more, control-behind, frames-behind, repeated-behind, sent-behind}
 use Rattle.panel_session.proofs.EntryLemmas.{length-ask, all_ask-append, all_told-append, sent-append, none_from-more}
 
 -- as many things are asked as there are items
-pub length-asked : (kept : Kept) (past : Past) (k : Keeps kept past) → length (k.before ++ k.asked) ≡ length (items (read_so_far past))
-length-asked kept past k =
+pub length-asked : (plant : PlantData) (kept : Kept) (past : Past) (k : Keeps plant kept past) → length (k.before ++ k.asked) ≡ length (items (read_so_far past))
+length-asked plant kept past k =
     length-ask (items (bytes_of past.turns) ++ k.ended) (k.before ++ k.asked) (all_ask-append (items (bytes_of past.turns)) k.ended k.before k.asked k.ask_before k.ask)
     ∙ ap (length {A = Item (List ℕ)}) (sym k.end_in)
 
-pub length-before : (kept : Kept) (past : Past) (k : Keeps kept past) → length k.before ≡ length (items (bytes_of past.turns))
-length-before kept past k = length-ask (items (bytes_of past.turns)) k.before k.ask_before
+pub length-before : (plant : PlantData) (kept : Kept) (past : Past) (k : Keeps plant kept past) → length k.before ≡ length (items (bytes_of past.turns))
+length-before plant kept past k = length-ask (items (bytes_of past.turns)) k.before k.ask_before
 
 -- bytes more of the present piece
 pub read-more : (past : Past) (bytes : List ℕ) → read_so_far past ++ bytes ≡ read_so_far (with_bytes bytes past)
@@ -45,24 +47,30 @@ pub no_polls : (n : ℕ) (entries : List PlantEntry) (output : Output) → polle
 no_polls n entries output none = ap (λ (frames : List (List ℕ)). with_frames frames output) none
 
 -- What an item makes of what was sent before it.
-pub item_output : (a : Asked) (n : ℕ) (entries : List PlantEntry) (before : List ℕ) (output : Output) → NoneFrom n entries
-    → output_with n a entries (behind before (emptied output)) ≡ behind (before ++ sent_by a output) (emptied (taken_output a output))
-item_output Nothing n entries before output none =
+pub item_output : (plant : PlantData) (a : Asked) (n : ℕ) (entries : List PlantEntry) (before : List ℕ) (output : Output) → NoneFrom n entries
+    → output_with plant n a entries (behind before (emptied output)) ≡ behind (before ++ sent_by plant a output) (emptied (taken_output plant a output))
+item_output plant Nothing n entries before output none =
     no_polls (n + 1) entries (behind before (emptied output)) (none.polled (n + 1) (omega arith))
     ∙ ap (λ (bytes : List ℕ). record output { bytes = bytes }) (ap (λ (bytes : List ℕ). bytes ++ []) (sym (append-nil before)))
-item_output Repeat n entries before output none =
+item_output plant Repeat n entries before output none =
     no_polls (n + 1) entries (repeated (behind before (emptied output))) (none.polled (n + 1) (omega arith))
     ∙ repeated-behind before (emptied output)
     ∙ sent-behind before (repeated (emptied output))
-item_output Refused n entries before output none =
+item_output plant Refused n entries before output none =
     no_polls (n + 1) entries (with_control nak (behind before (emptied output))) (none.polled (n + 1) (omega arith))
     ∙ control-behind nak before (emptied output)
     ∙ sent-behind before (with_control nak (emptied output))
-item_output Noted n entries before output none =
+item_output plant Noted n entries before output none =
     no_polls (n + 1) entries (with_control ack (behind before (emptied output))) (none.polled (n + 1) (omega arith))
     ∙ control-behind ack before (emptied output)
     ∙ sent-behind before (with_control ack (emptied output))
-item_output (Sent message) n entries before output none =
+item_output plant (Named message) n entries before output none =
+    let frames = name_frames plant message in
+    no_polls (n + 1) entries (with_frames frames (with_control ack (behind before (emptied output)))) (none.polled (n + 1) (omega arith))
+    ∙ ap (with_frames frames) (control-behind ack before (emptied output))
+    ∙ frames-behind frames before (with_control ack (emptied output))
+    ∙ sent-behind before (with_frames frames (with_control ack (emptied output)))
+item_output plant (Sent message) n entries before output none =
     ap (λ (told : Option (List Answer)). told_output n entries told (behind before (emptied output))) (none.told n (omega arith))
     ∙ control-behind ack before (emptied output)
     ∙ sent-behind before (with_control ack (emptied output))
@@ -93,6 +101,7 @@ item_stage Nothing item panel first n before asked past asks stage none here all
 item_stage Repeat item panel first n before asked past asks stage none here all = quiet_stage Repeat panel first n before asked past refl tt stage here all
 item_stage Refused item panel first n before asked past asks stage none here all = quiet_stage Refused panel first n before asked past refl tt stage here all
 item_stage Noted item panel first n before asked past asks stage none here all = quiet_stage Noted panel first n before asked past refl tt stage here all
+item_stage (Named message) item panel first n before asked past asks stage none here all = quiet_stage (Named message) panel first n before asked past refl tt stage here all
 item_stage (Sent message) item panel first n before asked past asks stage none here all = (
   asked,
   refl,
@@ -108,9 +117,9 @@ abbrev pub reading : ℕ → ℕ → ℕ → ℕ → Output → Kept
 reading panel items turns polls output = record { panel = panel; stage = Read; items = items; turns = turns; polls = polls; output = output; unsent = false }
 
 -- what an item makes of it
-abbrev pub taken : Asked → ℕ → ℕ → ℕ → ℕ → Output → Kept
-taken a panel items turns polls output =
-    record { panel = panel; stage = taken_stage a; items = items + 1; turns = turns; polls = polls; output = taken_output a output; unsent = false }
+abbrev pub taken : PlantData → Asked → ℕ → ℕ → ℕ → ℕ → Output → Kept
+taken plant a panel items turns polls output =
+    record { panel = panel; stage = taken_stage a; items = items + 1; turns = turns; polls = polls; output = taken_output plant a output; unsent = false }
 
 -- The stage says the same of a past in which more bytes were used and sent.
 stage-past : (stage : Stage) (panel first : ℕ) (before asked : List Asked) (past : Past) (bytes sent : List ℕ) → (stage ≡ End → ⊥) → IsAtStage stage panel first before asked past → IsAtStage stage panel first before asked (with_sent sent (with_bytes bytes past))
@@ -124,24 +133,25 @@ not_end Nothing is = cc
 not_end Repeat is = cc
 not_end Refused is = cc
 not_end Noted is = cc
+not_end (Named message) is = cc
 not_end (Sent message) is = cc
 
 -- An item more was read.
-pub keeps_item : (a : Asked) (item : Item (List ℕ)) (panel count turns polls : ℕ) (output : Output) (past : Past) (bytes : List ℕ) → Keeps (reading panel count turns polls output) past
+pub keeps_item : (plant : PlantData) (a : Asked) (item : Item (List ℕ)) (panel count turns polls : ℕ) (output : Output) (past : Past) (bytes : List ℕ) → Keeps plant (reading panel count turns polls output) past
     → items (read_so_far past ++ bytes) ≡ items (read_so_far past) ++ item ∷ [] → Asks item a
-    → Keeps (taken a panel count turns polls output) (with_sent (sent_by a output) (with_bytes bytes past))
-keeps_item a item panel count turns polls output past bytes k adds asks =
+    → Keeps plant (taken plant a panel count turns polls output) (with_sent (sent_by plant a output) (with_bytes bytes past))
+keeps_item plant a item panel count turns polls output past bytes k adds asks =
     let text = read_so_far past in
     let first = length (items (bytes_of past.turns)) in
     let more : items (read_so_far (with_bytes bytes past)) ≡ items text ++ item ∷ [] = ap items (sym (read-more past bytes)) ∙ adds in
     let counted : length (items (read_so_far (with_bytes bytes past))) ≡ length (items text) + 1 = ap (length {A = Item (List ℕ)}) more ∙ length-append (items text) (item ∷ []) in
-    let all : length (k.before ++ k.asked) ≡ length (items text) = length-asked (reading panel count turns polls output) past k in
-    let front : length k.before ≡ first = length-before (reading panel count turns polls output) past k in
+    let all : length (k.before ++ k.asked) ≡ length (items text) = length-asked plant (reading panel count turns polls output) past k in
+    let front : length k.before ≡ first = length-before plant (reading panel count turns polls output) past k in
     let here : length (items text) ≡ first + length k.asked = omega (arith, length-append k.before k.asked) in
     let there : length (items text) ≡ 0 + length (k.before ++ k.asked) = omega arith in
     let none : NoneFrom (length (items text)) (entries_so_far past) = k.none_from in
     let NoneAt : ℕ → Type 0 = λ n. NoneFrom n (entries_so_far past) in
-    let OutputOf : List Asked → Type 0 = λ asked. output_from 0 asked (entries_so_far past) nothing_sent ≡ behind (past.sent ++ sent_by a output) (emptied (taken_output a output)) in
+    let OutputOf : List Asked → Type 0 = λ asked. output_from plant 0 asked (entries_so_far past) nothing_sent ≡ behind (past.sent ++ sent_by plant a output) (emptied (taken_output plant a output)) in
     record {
       turns = k.turns;
       before = k.before;
@@ -155,21 +165,21 @@ keeps_item a item panel count turns polls output past bytes k adds asks =
       polls_are = k.polls_are;
       within = k.within;
       polls = no_poll (λ (entry : PlantEntry). entry.request ≡ Poll panel (length (items (read_so_far (with_bytes bytes past)))) (length past.turns)) past.now.polls k.stage.1;
-      stage = stage-past (taken_stage a) panel first k.before (k.asked ++ a ∷ []) past bytes (sent_by a output) (not_end a)
+      stage = stage-past (taken_stage a) panel first k.before (k.asked ++ a ∷ []) past bytes (sent_by plant a output) (not_end a)
           (item_stage a item panel first (length (items text)) k.before k.asked past asks k.stage none here there);
       none_from = subst NoneAt (sym counted) (none_from-more (length (items text)) (entries_so_far past) none);
       output = subst OutputOf (append_assoc k.before k.asked (a ∷ []))
-          (output_more (k.before ++ k.asked) a 0 (length (items text)) (entries_so_far past) nothing_sent there k.stage.2
-          ∙ ap (λ (output : Output). output_with (length (items text)) a (entries_so_far past) output) k.output
-          ∙ item_output a (length (items text)) (entries_so_far past) past.sent output none);
+          (output_more plant (k.before ++ k.asked) a 0 (length (items text)) (entries_so_far past) nothing_sent there k.stage.2
+          ∙ ap (λ (output : Output). output_with plant (length (items text)) a (entries_so_far past) output) k.output
+          ∙ item_output plant a (length (items text)) (entries_so_far past) past.sent output none);
     } where
       no_poll : (P : PlantEntry → Type 0) (polls : List PlantEntry) → polls ≡ [] → All P polls
       no_poll P polls is = let Q : List PlantEntry → Type 0 = λ polls. All P polls in subst Q (sym is) (All-nil P)
 
 -- Bytes in which no item ends were read.
-pub keeps_none : (panel count turns polls : ℕ) (output : Output) (past : Past) (bytes : List ℕ) → Keeps (reading panel count turns polls output) past
-    → items (read_so_far past ++ bytes) ≡ items (read_so_far past) → Keeps (reading panel count turns polls output) (with_bytes bytes past)
-keeps_none panel count turns polls output past bytes k none =
+pub keeps_none : (plant : PlantData) (panel count turns polls : ℕ) (output : Output) (past : Past) (bytes : List ℕ) → Keeps plant (reading panel count turns polls output) past
+    → items (read_so_far past ++ bytes) ≡ items (read_so_far past) → Keeps plant (reading panel count turns polls output) (with_bytes bytes past)
+keeps_none plant panel count turns polls output past bytes k none =
     let same : items (read_so_far (with_bytes bytes past)) ≡ items (read_so_far past) = ap items (sym (read-more past bytes)) ∙ none in
     let counted : length (items (read_so_far (with_bytes bytes past))) ≡ length (items (read_so_far past)) = ap (length {A = Item (List ℕ)}) same in
     let NoneAt : ℕ → Type 0 = λ n. NoneFrom n (entries_so_far past) in
@@ -193,9 +203,9 @@ keeps_none panel count turns polls output past bytes k none =
     }
 
 -- The piece is used up, and polls come.
-pub keeps_to_poll : (panel count turns polls : ℕ) (output : Output) (past : Past) → Keeps (reading panel count turns polls output) past
-    → Keeps (record { panel = panel; stage = PollStage; items = count; turns = turns; polls = polls; output = output; unsent = false }) past
-keeps_to_poll panel count turns polls output past k = record {
+pub keeps_to_poll : (plant : PlantData) (panel count turns polls : ℕ) (output : Output) (past : Past) → Keeps plant (reading panel count turns polls output) past
+    → Keeps plant (record { panel = panel; stage = PollStage; items = count; turns = turns; polls = polls; output = output; unsent = false }) past
+keeps_to_poll plant panel count turns polls output past k = record {
   turns = k.turns;
   before = k.before;
   ask_before = k.ask_before;

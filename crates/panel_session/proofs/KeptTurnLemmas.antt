@@ -27,16 +27,16 @@ use Rattle.panel_session.proofs.KeptItemLemmas.{reading}
 use Rattle.panel_session.proofs.KeepsLemmas.{keeps_polled_to}
 
 -- a poll that isn't
-pub keeps_polled_more : (panel count turns polls seat : ℕ) (output : Output) (past : Past) (answers : List Answer) (unsent : Bool)
-    → Keeps (record { panel = panel; stage = PollStage; items = count; turns = turns; polls = polls; output = output; unsent = false }) past
+pub keeps_polled_more : (plant : PlantData) (panel count turns polls seat : ℕ) (output : Output) (past : Past) (answers : List Answer) (unsent : Bool)
+    → Keeps plant (record { panel = panel; stage = PollStage; items = count; turns = turns; polls = polls; output = output; unsent = false }) past
     → (unsent ≡ false → (with_frames (frames_of answers) (emptied output)).bytes ≡ [])
     → answers ≢ [] → polls + 1 ≢ 32
-    → Keeps (record { panel = panel; stage = PollStage; items = count; turns = turns; polls = polls + 1; output = with_frames (frames_of answers) (emptied output); unsent = unsent })
+    → Keeps plant (record { panel = panel; stage = PollStage; items = count; turns = turns; polls = polls + 1; output = with_frames (frames_of answers) (emptied output); unsent = unsent })
     (with_entry (record { seat = seat; request = Poll panel count turns; answers = answers }) past)
-keeps_polled_more panel count turns polls seat output past answers unsent k none some below =
+keeps_polled_more plant panel count turns polls seat output past answers unsent k none some below =
     let entry : PlantEntry = record { seat = seat; request = Poll panel count turns; answers = answers } in
     let polls_are : polls ≡ length past.now.polls = k.polls_are in
-    keeps_polled_to PollStage panel count turns polls seat output past answers unsent k none (λ before asked at all. (
+    keeps_polled_to plant PollStage panel count turns polls seat output past answers unsent k none (λ before asked at all. (
       at.0,
       record {
         answered = All-push (λ (entry : PlantEntry). entry.answers ≢ []) past.now.polls entry at.1.answered some;
@@ -74,15 +74,15 @@ entries_of-append turns turn =
     flat_map-append (λ (turn : Turn). turn.told ++ turn.polls) turns (turn ∷ []) ∙ ap (λ (now : List PlantEntry). entries_of turns ++ now) (append-nil (turn.told ++ turn.polls))
 
 -- A turn that is over is one.
-pub turn_over : (panel count turns polls : ℕ) (output : Output) (past : Past)
-    → Keeps (record { panel = panel; stage = End; items = count; turns = turns; polls = polls; output = output; unsent = false }) past → IsTurn panel past.turns past.now
-turn_over panel count turns polls output past k = record { ended = k.ended; end_in = k.end_in; asked = k.asked; ask = k.ask; told = k.stage.0; polls = k.stage.1 }
+pub turn_over : (plant : PlantData) (panel count turns polls : ℕ) (output : Output) (past : Past)
+    → Keeps plant (record { panel = panel; stage = End; items = count; turns = turns; polls = polls; output = output; unsent = false }) past → IsTurn panel past.turns past.now
+turn_over plant panel count turns polls output past k = record { ended = k.ended; end_in = k.end_in; asked = k.asked; ask = k.ask; told = k.stage.0; polls = k.stage.1 }
 
 -- The next turn begins.
-pub keeps_turn : (panel count turns polls : ℕ) (output : Output) (past : Past)
-    → Keeps (record { panel = panel; stage = End; items = count; turns = turns; polls = polls; output = output; unsent = false }) past
-    → Keeps (reading panel count (turns + 1) 0 output) (with_turn past)
-keeps_turn panel count turns polls output past k =
+pub keeps_turn : (plant : PlantData) (panel count turns polls : ℕ) (output : Output) (past : Past)
+    → Keeps plant (record { panel = panel; stage = End; items = count; turns = turns; polls = polls; output = output; unsent = false }) past
+    → Keeps plant (reading panel count (turns + 1) 0 output) (with_turn past)
+keeps_turn plant panel count turns polls output past k =
     let later = with_turn past in
     let bytes : bytes_of later.turns ≡ read_so_far past = bytes_of-append past.turns past.now in
     let read : read_so_far later ≡ read_so_far past = append-nil (bytes_of later.turns) ∙ bytes in
@@ -94,7 +94,7 @@ keeps_turn panel count turns polls output past k =
     let NoneIn : List PlantEntry → Type 0 = λ entries. NoneFrom (length (items (read_so_far later))) entries in
     let counted : length (items (read_so_far later)) ≡ length (items (read_so_far past)) = ap (λ (text : List ℕ). length (items text)) read in
     record {
-      turns = are_turns-append panel past.turns past.now k.turns (turn_over panel count turns polls output past k);
+      turns = are_turns-append panel past.turns past.now k.turns (turn_over plant panel count turns polls output past k);
       before = k.before ++ k.asked;
       ask_before = subst AskOf (sym (ap items bytes ∙ k.end_in)) (all_ask-append (items (bytes_of past.turns)) k.ended k.before k.asked k.ask_before k.ask);
       ended = [];
@@ -108,14 +108,14 @@ keeps_turn panel count turns polls output past k =
       polls = All-nil _;
       stage = (refl, refl, subst Told_in (sym entries) (subst Told_of (sym (append-nil (k.before ++ k.asked))) k.stage.2));
       none_from = subst NoneIn (sym entries) (subst NoneOf (sym counted) k.none_from);
-      output = ap (λ (asked : List Asked). output_from 0 asked (entries_so_far later) nothing_sent) (append-nil (k.before ++ k.asked))
-          ∙ ap (λ (entries : List PlantEntry). output_from 0 (k.before ++ k.asked) entries nothing_sent) entries
+      output = ap (λ (asked : List Asked). output_from plant 0 asked (entries_so_far later) nothing_sent) (append-nil (k.before ++ k.asked))
+          ∙ ap (λ (entries : List PlantEntry). output_from plant 0 (k.before ++ k.asked) entries nothing_sent) entries
           ∙ k.output;
     }
 
 -- Nothing was read yet.
-pub keeps_nothing : (panel : ℕ) → Keeps (reading panel 0 0 0 nothing_sent) nothing_yet
-keeps_nothing panel = record {
+pub keeps_nothing : (plant : PlantData) (panel : ℕ) → Keeps plant (reading panel 0 0 0 nothing_sent) nothing_yet
+keeps_nothing plant panel = record {
   turns = λ before after turn is. absurd (omega (arith, ap length is, length-append before (turn ∷ after)));
   before = [];
   ask_before = subst NoneAsk (sym none) tt;
@@ -139,7 +139,7 @@ keeps_nothing panel = record {
   NoneAsk its = AllAsk its []
 
 -- The session's whole text was sent, where nothing is to be sent.
-pub keeps_text : (plant : PlantData) (kept : Kept) (past : Past) → kept.unsent ≡ false → Keeps kept past → IsText plant (items (read_so_far past)) (entries_so_far past) past.sent
+pub keeps_text : (plant : PlantData) (kept : Kept) (past : Past) → kept.unsent ≡ false → Keeps plant kept past → IsText plant (items (read_so_far past)) (entries_so_far past) past.sent
 keeps_text plant kept past is k =
     let AskOf : List (Item (List ℕ)) → Type 0 = λ its. AllAsk its (k.before ++ k.asked) in
     let nothing : pending kept ≡ emptied kept.output = ap (λ (test : Bool). if test then kept.output else emptied kept.output) is in
@@ -168,7 +168,7 @@ told_all PollStage panel first before asked past at some = at.0
 told_all End panel first before asked past at some = at.0
 
 -- What is kept is of a past that fits.
-pub keeps_so_far : (plant : PlantData) (kept : Kept) (past : Past) → Keeps kept past → IsSoFar plant kept.panel past
+pub keeps_so_far : (plant : PlantData) (kept : Kept) (past : Past) → Keeps plant kept past → IsSoFar plant kept.panel past
 keeps_so_far plant kept past k =
     let AskOf : List (Item (List ℕ)) → Type 0 = λ its. AllAsk its (k.before ++ k.asked) in
     let first = length (items (bytes_of past.turns)) in
@@ -182,7 +182,7 @@ keeps_so_far plant kept past k =
       polls = k.polls;
       told_first = told_all kept.stage kept.panel first k.before k.asked past k.stage;
       within = k.within;
-      text = (output_from 0 (k.before ++ k.asked) (entries_so_far past) nothing_sent).bytes;
+      text = (output_from plant 0 (k.before ++ k.asked) (entries_so_far past) nothing_sent).bytes;
       is_text = record {
         asked = k.before ++ k.asked;
         items_ask = subst AskOf (sym k.end_in) (all_ask-append (items (bytes_of past.turns)) k.ended k.before k.asked k.ask_before k.ask);

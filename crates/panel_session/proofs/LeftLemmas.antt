@@ -6,7 +6,7 @@ use Rattle.history_lock.specs.Places.{Placed}
 use Rattle.plant_core.specs.declared.answer.Answer.{Answer}
 use Rattle.plant_core.specs.declared.request.Request.{Request}
 use Rattle.panel_session.specs.declared.asked.Asked.{Asked}
-use Rattle.panel_session.specs.declared.asked.Asked.TheVariants.{Nothing, Repeat, Refused, Noted, Sent}
+use Rattle.panel_session.specs.declared.asked.Asked.TheVariants.{Nothing, Repeat, Refused, Noted, Named, Sent}
 use Rattle.panel_session.specs.declared.session.Session.{Session}
 use Rattle.panel_session.specs.declared.stage.Stage.{Stage}
 use Rattle.panel_session.specs.declared.stage.Stage.TheVariants.{Read, Tell, Poll as PollStage}
@@ -55,6 +55,7 @@ stage-most Nothing polls = omega arith
 stage-most Repeat polls = omega arith
 stage-most Refused polls = omega arith
 stage-most Noted polls = omega arith
+stage-most (Named message) polls = omega arith
 stage-most (Sent message) polls = omega arith
 
 pub taken-most : (session after : Session) (a : Asked) → session.stage ≡ Read → after.stage ≡ stage_with a session.stage → stage_left after.stage after.polls ≤ 68

@@ -8,6 +8,7 @@ pub mod ActsLemmas
 pub mod SessionLemmas
 pub mod FrameRoom
 pub mod AddLemmas
+pub mod NamePageLemmas
 pub mod LeftLemmas
 pub mod RunLemmas
 pub mod TurnOnce

@@ -6,7 +6,7 @@ use Rattle.std.proofs.lemmas.List.Elements.{All-append, All-push, All-from_recur
 use Rattle.plant_core.specs.declared.request.Request.{Request}
 use Rattle.plant_core.specs.declared.request.Request.TheVariants.{Leave}
 use Rattle.panel_session.specs.declared.asked.Asked.{Asked}
-use Rattle.panel_session.specs.declared.asked.Asked.TheVariants.{Nothing, Repeat, Refused, Noted, Sent}
+use Rattle.panel_session.specs.declared.asked.Asked.TheVariants.{Nothing, Repeat, Refused, Noted, Named, Sent}
 use Rattle.panel_session.specs.Asked.{sent_to_plant}
 use Rattle.panel_session.specs.Entry.{PlantEntry}
 use Rattle.panel_session.specs.Turns.{Turn, entries_in, IsTurn}
@@ -23,6 +23,7 @@ sent-no_leaves panel item (Nothing ∷ others) = sent-no_leaves panel (item + 1)
 sent-no_leaves panel item (Repeat ∷ others) = sent-no_leaves panel (item + 1) others
 sent-no_leaves panel item (Refused ∷ others) = sent-no_leaves panel (item + 1) others
 sent-no_leaves panel item (Noted ∷ others) = sent-no_leaves panel (item + 1) others
+sent-no_leaves panel item (Named message ∷ others) = sent-no_leaves panel (item + 1) others
 
 entries-no_leaves : (entries : List PlantEntry) → AllByRecursion IsNoLeave (map (λ entry. entry.request) entries) → AllByRecursion (λ entry. IsNoLeave entry.request) entries
 entries-no_leaves [] none = tt

@@ -110,7 +110,7 @@ asks_told plant panel session past piece request message stands may tell none is
     let StageAt : Stage → Type 0 = λ stage. IsAtStage stage session.panel (length (items (bytes_of past.turns))) k.before k.asked past in
     let at = subst StageAt tell k.stage in
     let items_are : session.items ≡ length (items (read_so_far past)) = k.items_are in
-    let all = length-asked (kept_of session) past k in
+    let all = length-asked plant (kept_of session) past k in
     let fewer = fewer_items (read_so_far past) piece in
     let asked_is : k.asked ≡ at.0 ++ Sent message ∷ [] = at.1 in
     let some : 0 < session.items = omega (arith, length-append k.before k.asked, ap (length {A = Asked}) asked_is, length-append at.0 (Sent message ∷ [])) in
@@ -206,7 +206,7 @@ pub awaits_with : (plant : PlantData) (panel : ℕ) (session : Session) (past : 
     → Awaits plant panel (with_outbox session box) past request
 unfolding Awaits
 awaits_with plant panel session past request box awaits same = (
-  stands_with plant panel session (with_outbox session box) past past awaits.0 refl refl refl refl refl same refl awaits.0.keeps awaits.0.some,
+  stands_with plant panel session (with_outbox session box) past past awaits.0 refl refl refl refl refl refl same refl awaits.0.keeps awaits.0.some,
   awaits.1,
   awaits.2,
 )

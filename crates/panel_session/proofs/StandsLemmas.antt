@@ -16,7 +16,7 @@ use Rattle.plant_config.specs.Plant.{PlantData}
 use Rattle.plant_core.specs.declared.answer.Answer.{Answer}
 use Rattle.plant_core.specs.declared.request.Request.TheVariants.{Told}
 use Rattle.panel_session.specs.declared.asked.Asked.{Asked}
-use Rattle.panel_session.specs.declared.asked.Asked.TheVariants.{Nothing, Repeat, Refused, Noted, Sent}
+use Rattle.panel_session.specs.declared.asked.Asked.TheVariants.{Nothing, Repeat, Refused, Noted, Named, Sent}
 use Rattle.panel_session.specs.declared.session.Session.{Session}
 use Rattle.panel_session.specs.declared.stage.Stage.{Stage}
 use Rattle.panel_session.specs.declared.stage.Stage.TheVariants.{Read, Tell, Poll as PollStage}
@@ -54,6 +54,7 @@ goods-with Nothing (Good carried) counts asks small = absurd asks
 goods-with Repeat (Good carried) counts asks small = absurd asks
 goods-with Refused (Good carried) counts asks small = absurd asks
 goods-with Noted (Good carried) counts asks small = next-small counts.goods small
+goods-with (Named message) (Good carried) counts asks small = next-small counts.goods small
 goods-with (Sent message) (Good carried) counts asks small = next-small counts.goods small
 goods-with Nothing Ack counts asks small = omega arith
 goods-with Repeat Nak counts asks small = omega arith
@@ -65,8 +66,11 @@ goods-with Repeat Ack counts asks small = cc
 goods-with Refused Ack counts asks small = cc
 goods-with Refused Nak counts asks small = cc
 goods-with Noted Bad counts asks small = cc
+goods-with (Named message) Bad counts asks small = cc
 goods-with Noted Ack counts asks small = cc
+goods-with (Named message) Ack counts asks small = cc
 goods-with Noted Nak counts asks small = cc
+goods-with (Named message) Nak counts asks small = cc
 goods-with (Sent message) Bad counts asks small = cc
 goods-with (Sent message) Ack counts asks small = cc
 goods-with (Sent message) Nak counts asks small = cc
@@ -76,6 +80,7 @@ bads-with Nothing (Good carried) counts asks small = absurd asks
 bads-with Repeat (Good carried) counts asks small = absurd asks
 bads-with Refused (Good carried) counts asks small = absurd asks
 bads-with Noted (Good carried) counts asks small = omega arith
+bads-with (Named message) (Good carried) counts asks small = omega arith
 bads-with (Sent message) (Good carried) counts asks small = omega arith
 bads-with Nothing Ack counts asks small = omega arith
 bads-with Repeat Nak counts asks small = omega arith
@@ -87,8 +92,11 @@ bads-with Repeat Ack counts asks small = cc
 bads-with Refused Ack counts asks small = cc
 bads-with Refused Nak counts asks small = cc
 bads-with Noted Bad counts asks small = cc
+bads-with (Named message) Bad counts asks small = cc
 bads-with Noted Ack counts asks small = cc
+bads-with (Named message) Ack counts asks small = cc
 bads-with Noted Nak counts asks small = cc
+bads-with (Named message) Nak counts asks small = cc
 bads-with (Sent message) Bad counts asks small = cc
 bads-with (Sent message) Ack counts asks small = cc
 bads-with (Sent message) Nak counts asks small = cc
@@ -98,6 +106,7 @@ turns-with Nothing counts = refl
 turns-with Repeat counts = refl
 turns-with Refused counts = refl
 turns-with Noted counts = refl
+turns-with (Named message) counts = refl
 turns-with (Sent message) counts = refl
 
 pub stage-is : (a : Asked) (stage : Stage) → stage ≡ Read → stage_with a stage ≡ taken_stage a
@@ -105,6 +114,7 @@ stage-is Nothing stage read = read
 stage-is Repeat stage read = read
 stage-is Refused stage read = read
 stage-is Noted stage read = read
+stage-is (Named message) stage read = read
 stage-is (Sent message) stage read = refl
 
 -- what is kept, by its parts
@@ -127,14 +137,14 @@ at_stage session stage at none = kept_same session.panel session.polls session.o
 pub stands_item : (plant : PlantData) (panel : ℕ) (session : Session) (past : Past) (bytes : List ℕ) (item : Item (List ℕ)) (a : Asked) (framer_then : Framer) → Stands plant panel session past
     → session.stage ≡ Read → session.unsent ≡ false → items (read_so_far past ++ bytes) ≡ items (read_so_far past) ++ item ∷ [] → Asks item a
     → framer.StandsFor framer_then (read_so_far past ++ bytes) → length (items (read_so_far past ++ bytes)) < 2 ^ 62
-    → Stands plant panel (took a (record session { framer = framer_then })) (with_sent (sent_by a session.outgoing) (with_bytes bytes past))
+    → Stands plant panel (took plant a (record session { framer = framer_then })) (with_sent (sent_by plant a session.outgoing) (with_bytes bytes past))
 stands_item plant panel session past bytes item a framer_then stands read none adds asks fed small =
     let its = items (read_so_far past) in
     let later = with_bytes bytes past in
     let counted : length (items (read_so_far past ++ bytes)) ≡ length its + 1 = ap (length {A = Item (List ℕ)}) adds ∙ length-append its (item ∷ []) in
-    let KeepsOf : Kept → Type 0 = λ kept. Keeps kept past in
-    let k : Keeps (reading session.panel session.items session.counts.turns session.polls session.outgoing) past = subst KeepsOf (at_stage session Read read none) stands.keeps in
-    let KeepsThen : Kept → Type 0 = λ kept. Keeps kept (with_sent (sent_by a session.outgoing) later) in
+    let KeepsOf : Kept → Type 0 = λ kept. Keeps plant kept past in
+    let k : Keeps plant (reading session.panel session.items session.counts.turns session.polls session.outgoing) past = subst KeepsOf (at_stage session Read read none) stands.keeps in
+    let KeepsThen : Kept → Type 0 = λ kept. Keeps plant kept (with_sent (sent_by plant a session.outgoing) later) in
     let FedOf : List ℕ → Type 0 = λ text. framer.StandsFor framer_then text in
     let all : items (read_so_far later) ≡ its ++ item ∷ [] = ap items (sym (read-more past bytes)) ∙ adds in
     let items_are : session.items ≡ length its = k.items_are in
@@ -142,14 +152,15 @@ stands_item plant panel session past bytes item a framer_then stands read none a
     let bads_small : session.counts.bads < 2 ^ 62 = omega (arith, stands.bads, count_by-le-length is_bad_item its) in
     record {
       plant_is = stands.plant_is;
+      names_are = stands.names_are;
       panel_is = stands.panel_is;
       has_panel = stands.has_panel;
       framer = subst FedOf (read-more past bytes) fed;
       keeps = subst KeepsThen
-          (sym (kept_same session.panel session.polls (taken_output a session.outgoing) (stage_with a session.stage) (taken_stage a) (next session.items) (session.items + 1)
+          (sym (kept_same session.panel session.polls (taken_output plant a session.outgoing) (stage_with a session.stage) (taken_stage a) (next session.items) (session.items + 1)
           (counts_with a session.counts).turns session.counts.turns session.unsent false
           (stage-is a session.stage read) (next-small session.items (omega arith)) (turns-with a session.counts) none))
-          (keeps_item a item session.panel session.items session.counts.turns session.polls session.outgoing past bytes k adds asks);
+          (keeps_item plant a item session.panel session.items session.counts.turns session.polls session.outgoing past bytes k adds asks);
       goods = goods-with a item session.counts asks goods_small ∙ ap (λ (n : ℕ). n + goods_of (item ∷ [])) stands.goods ∙ sym (goods-more its item) ∙ ap goods_of (sym all);
       bads = bads-with a item session.counts asks bads_small ∙ ap (λ (n : ℕ). n + bads_of (item ∷ [])) stands.bads ∙ sym (bads-more its item) ∙ ap bads_of (sym all);
       some = λ unsent. absurd (false≢true (sym none ∙ unsent));
@@ -162,17 +173,18 @@ pub stands_none : (plant : PlantData) (panel : ℕ) (session : Session) (past : 
     → framer.StandsFor framer_then (read_so_far past ++ bytes) → Stands plant panel (record session { framer = framer_then }) (with_bytes bytes past)
 stands_none plant panel session past bytes framer_then stands read none adds fed =
     let later = with_bytes bytes past in
-    let KeepsOf : Kept → Type 0 = λ kept. Keeps kept past in
-    let k : Keeps (reading session.panel session.items session.counts.turns session.polls session.outgoing) past = subst KeepsOf (at_stage session Read read none) stands.keeps in
-    let KeepsThen : Kept → Type 0 = λ kept. Keeps kept later in
+    let KeepsOf : Kept → Type 0 = λ kept. Keeps plant kept past in
+    let k : Keeps plant (reading session.panel session.items session.counts.turns session.polls session.outgoing) past = subst KeepsOf (at_stage session Read read none) stands.keeps in
+    let KeepsThen : Kept → Type 0 = λ kept. Keeps plant kept later in
     let FedOf : List ℕ → Type 0 = λ text. framer.StandsFor framer_then text in
     let all : items (read_so_far later) ≡ items (read_so_far past) = ap items (sym (read-more past bytes)) ∙ adds in
     record {
       plant_is = stands.plant_is;
+      names_are = stands.names_are;
       panel_is = stands.panel_is;
       has_panel = stands.has_panel;
       framer = subst FedOf (read-more past bytes) fed;
-      keeps = subst KeepsThen (sym (at_stage session Read read none)) (keeps_none session.panel session.items session.counts.turns session.polls session.outgoing past bytes k adds);
+      keeps = subst KeepsThen (sym (at_stage session Read read none)) (keeps_none plant session.panel session.items session.counts.turns session.polls session.outgoing past bytes k adds);
       goods = stands.goods ∙ ap goods_of (sym all);
       bads = stands.bads ∙ ap bads_of (sym all);
       some = λ unsent. absurd (false≢true (sym none ∙ unsent));
@@ -180,14 +192,15 @@ stands_none plant panel session past bytes framer_then stands read none adds fed
     }
 
 -- Other parts of a session that keep the same past.
-pub stands_with : (plant : PlantData) (panel : ℕ) (session after : Session) (past later : Past) → Stands plant panel session past → read_so_far later ≡ read_so_far past → after.plant ≡ session.plant → after.framer ≡ session.framer
+pub stands_with : (plant : PlantData) (panel : ℕ) (session after : Session) (past later : Past) → Stands plant panel session past → read_so_far later ≡ read_so_far past → after.plant ≡ session.plant → after.names ≡ session.names → after.framer ≡ session.framer
     → after.counts.goods ≡ session.counts.goods → after.counts.bads ≡ session.counts.bads → after.outbox.places ≡ session.outbox.places → after.panel ≡ session.panel
-    → Keeps (kept_of after) later → (after.unsent ≡ true → after.outgoing.bytes ≢ []) → Stands plant panel after later
-stands_with plant panel session after past later stands read same_plant same_framer same_goods same_bads same_places same_panel keeps some =
+    → Keeps plant (kept_of after) later → (after.unsent ≡ true → after.outgoing.bytes ≢ []) → Stands plant panel after later
+stands_with plant panel session after past later stands read same_plant same_names same_framer same_goods same_bads same_places same_panel keeps some =
     let FedBy : Framer → Type 0 = λ one. framer.StandsFor one (read_so_far past) in
     let FedOf : List ℕ → Type 0 = λ text. framer.StandsFor after.framer text in
     record {
       plant_is = ap (λ (plant : _). plant.now) same_plant ∙ stands.plant_is;
+      names_are = ap (λ (names : _). names.now) same_names ∙ stands.names_are;
       panel_is = same_panel ∙ stands.panel_is;
       has_panel = stands.has_panel;
       framer = subst FedOf (sym read) (subst FedBy (sym same_framer) stands.framer);
@@ -202,18 +215,18 @@ stands_with plant panel session after past later stands read same_plant same_fra
 pub stands_to_poll : (plant : PlantData) (panel : ℕ) (session : Session) (past : Past) → Stands plant panel session past → session.stage ≡ Read → session.unsent ≡ false
     → Stands plant panel (record session { stage = PollStage }) past
 stands_to_poll plant panel session past stands read none =
-    let KeepsOf : Kept → Type 0 = λ kept. Keeps kept past in
-    let k : Keeps (reading session.panel session.items session.counts.turns session.polls session.outgoing) past = subst KeepsOf (at_stage session Read read none) stands.keeps in
-    stands_with plant panel session (record session { stage = PollStage }) past past stands refl refl refl refl refl refl refl
-    (subst KeepsOf (sym (at_stage (record session { stage = PollStage }) PollStage refl none)) (keeps_to_poll session.panel session.items session.counts.turns session.polls session.outgoing past k))
+    let KeepsOf : Kept → Type 0 = λ kept. Keeps plant kept past in
+    let k : Keeps plant (reading session.panel session.items session.counts.turns session.polls session.outgoing) past = subst KeepsOf (at_stage session Read read none) stands.keeps in
+    stands_with plant panel session (record session { stage = PollStage }) past past stands refl refl refl refl refl refl refl refl
+    (subst KeepsOf (sym (at_stage (record session { stage = PollStage }) PollStage refl none)) (keeps_to_poll plant session.panel session.items session.counts.turns session.polls session.outgoing past k))
     stands.some
 
 -- What was to be sent is sent.
 pub stands_sent : (plant : PlantData) (panel : ℕ) (session : Session) (past : Past) → Stands plant panel session past → session.unsent ≡ true
     → Stands plant panel (record session { unsent = false }) (with_sent session.outgoing.bytes past)
 stands_sent plant panel session past stands unsent =
-    stands_with plant panel session (record session { unsent = false }) past (with_sent session.outgoing.bytes past) stands refl refl refl refl refl refl refl
-    (keeps_sent (kept_of session) past unsent stands.keeps)
+    stands_with plant panel session (record session { unsent = false }) past (with_sent session.outgoing.bytes past) stands refl refl refl refl refl refl refl refl
+    (keeps_sent plant (kept_of session) past unsent stands.keeps)
     (λ unsent. absurd (false≢true unsent))
 
 -- The plant answered what an item sent to it.
@@ -223,9 +236,9 @@ pub stands_told : (plant : PlantData) (panel seat : ℕ) (session : Session) (pa
     → Stands plant panel (took_answers answers unsent (record session { stage = Read }))
     (with_entry (record { seat = seat; request = Told session.panel (session.items - 1) message; answers = answers }) past)
 stands_told plant panel seat session past message answers unsent stands tell none empty some =
-    let KeepsOf : Kept → Type 0 = λ kept. Keeps kept past in
+    let KeepsOf : Kept → Type 0 = λ kept. Keeps plant kept past in
     let k = subst KeepsOf (at_stage session (Tell message) tell none) stands.keeps in
     stands_with plant panel session (took_answers answers unsent (record session { stage = Read })) past
-    (with_entry (record { seat = seat; request = Told session.panel (session.items - 1) message; answers = answers }) past) stands refl refl refl refl refl refl refl
-    (keeps_told session.panel session.items session.counts.turns session.polls seat message session.outgoing past answers unsent k empty)
+    (with_entry (record { seat = seat; request = Told session.panel (session.items - 1) message; answers = answers }) past) stands refl refl refl refl refl refl refl refl
+    (keeps_told plant session.panel session.items session.counts.turns session.polls seat message session.outgoing past answers unsent k empty)
     some

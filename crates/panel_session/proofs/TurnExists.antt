@@ -17,7 +17,7 @@ use Rattle.plant_core.specs.declared.answer.Answer.{Answer}
 use Rattle.plant_core.specs.declared.request.Request.{Request}
 use Rattle.plant_core.specs.declared.request.Request.TheVariants.{Told, Poll}
 use Rattle.panel_session.specs.declared.asked.Asked.{Asked}
-use Rattle.panel_session.specs.declared.asked.Asked.TheVariants.{Nothing, Repeat, Refused, Noted, Sent}
+use Rattle.panel_session.specs.declared.asked.Asked.TheVariants.{Nothing, Repeat, Refused, Noted, Named, Sent}
 use Rattle.panel_session.specs.declared.stage.Stage.{Stage}
 use Rattle.panel_session.specs.declared.stage.Stage.TheVariants.{Read, Tell, Poll as PollStage, End}
 use Rattle.panel_session.specs.Entry.{PlantEntry}
@@ -36,8 +36,8 @@ use Rattle.panel_session.proofs.KeptItemLemmas.{taken, keeps_item, keeps_none, k
 use Rattle.panel_session.proofs.KeptTurnLemmas.{keeps_nothing, keeps_polled_more, keeps_text, keeps_turn, turn_over}
 
 -- Where nothing was done, all turns are over.
-pub settled_nothing : (panel : ℕ) → Settled panel nothing_yet
-settled_nothing panel = record { count = 0; turns = 0; output = nothing_sent; begins = refl; keeps = keeps_nothing panel }
+pub settled_nothing : (plant : PlantData) (panel : ℕ) → Settled plant panel nothing_yet
+settled_nothing plant panel = record { count = 0; turns = 0; output = nothing_sent; begins = refl; keeps = keeps_nothing plant panel }
 
 -- a request's entry, behind those of the turn, which hasn't polled
 told_behind : (told polls : List PlantEntry) (entry : PlantEntry) → polls ≡ [] → (told ++ entry ∷ []) ++ polls ≡ (told ++ polls) ++ entry ∷ []
@@ -66,12 +66,12 @@ module _ {State : Type 0} (step : State → Request → Stepped State Answer) (F
     polls : ℕ
     output : Output
     more : List ℕ
-    keeps : Keeps (record { panel = panel; stage = stage; items = count; turns = turns; polls = polls; output = output; unsent = false }) (at turn more)
+    keeps : Keeps plant (record { panel = panel; stage = stage; items = count; turns = turns; polls = polls; output = output; unsent = false }) (at turn more)
     seats : All (λ entry. entry.seat ≡ panel) (entries_in turn)
     legal : IsLegal step Fits machine (entries_in turn)
 
   -- The turn begins.
-  goes_begin : Settled panel past → Goes Read unread
+  goes_begin : Settled plant panel past → Goes Read unread
   goes_begin settled =
       let kept : Kept = record { panel = panel; stage = Read; items = settled.count; turns = settled.turns; polls = 0; output = settled.output; unsent = false } in
       let begun : past ≡ at unread [] = λ i. record { turns = past.turns; now = settled.begins i; sent = (sym (append-nil past.sent)) i } in
@@ -81,20 +81,20 @@ module _ {State : Type 0} (step : State → Request → Stepped State Answer) (F
         polls = 0;
         output = settled.output;
         more = [];
-        keeps = subst (Keeps kept) begun settled.keeps;
+        keeps = subst (Keeps plant kept) begun settled.keeps;
         seats = All-nil _;
         legal = tt;
       }
 
   -- what was sent, with more behind it
-  sent_at : (kept : Kept) (turn : Turn) (more bytes : List ℕ) → Keeps kept (with_sent bytes (at turn more)) → Keeps kept (at turn (more ++ bytes))
+  sent_at : (kept : Kept) (turn : Turn) (more bytes : List ℕ) → Keeps plant kept (with_sent bytes (at turn more)) → Keeps plant kept (at turn (more ++ bytes))
   sent_at kept turn more bytes k =
-      let KeepsSent : List ℕ → Type 0 = λ sent. Keeps kept (record { turns = past.turns; now = turn; sent = sent }) in
+      let KeepsSent : List ℕ → Type 0 = λ sent. Keeps plant kept (record { turns = past.turns; now = turn; sent = sent }) in
       subst KeepsSent (append_assoc past.sent more bytes) k
 
   -- What was to be sent is sent.
   goes_sent : (stage : Stage) (turn : Turn) (more : List ℕ) (count turns polls : ℕ) (output : Output)
-      → Keeps (record { panel = panel; stage = stage; items = count; turns = turns; polls = polls; output = output; unsent = true }) (at turn more)
+      → Keeps plant (record { panel = panel; stage = stage; items = count; turns = turns; polls = polls; output = output; unsent = true }) (at turn more)
       → All (λ entry. entry.seat ≡ panel) (entries_in turn) → IsLegal step Fits machine (entries_in turn) → Goes stage turn
   goes_sent stage turn more count turns polls output k seats legal =
       let kept : Kept = record { panel = panel; stage = stage; items = count; turns = turns; polls = polls; output = output; unsent = true } in
@@ -104,7 +104,7 @@ module _ {State : Type 0} (step : State → Request → Stepped State Answer) (F
         polls = polls;
         output = output;
         more = more ++ output.bytes;
-        keeps = sent_at (record kept { unsent = false }) turn more output.bytes (keeps_sent kept (at turn more) refl k);
+        keeps = sent_at (record kept { unsent = false }) turn more output.bytes (keeps_sent plant kept (at turn more) refl k);
         seats = seats;
         legal = legal;
       }
@@ -117,7 +117,7 @@ module _ {State : Type 0} (step : State → Request → Stepped State Answer) (F
     polls = goes.polls;
     output = goes.output;
     more = goes.more;
-    keeps = keeps_to_poll panel goes.count goes.turns goes.polls goes.output (at turn goes.more) goes.keeps;
+    keeps = keeps_to_poll plant panel goes.count goes.turns goes.polls goes.output (at turn goes.more) goes.keeps;
     seats = goes.seats;
     legal = goes.legal;
   }
@@ -142,7 +142,7 @@ module _ {State : Type 0} (step : State → Request → Stepped State Answer) (F
         let now : Turn = record turn { told = turn.told ++ entry ∷ [] } in
         let output = with_frames (frames_of entry.answers) (emptied goes.output) in
         let so = answered (entries_in turn) (entries_in now) request (told_behind turn.told turn.polls entry goes.keeps.stage.3) (has_panel, goes.keeps.stage.6) goes.seats goes.legal in
-        let told = keeps_told panel goes.count goes.turns goes.polls panel message goes.output (at turn goes.more) entry.answers true goes.keeps (λ is. absurd (true≢false is)) in
+        let told = keeps_told plant panel goes.count goes.turns goes.polls panel message goes.output (at turn goes.more) entry.answers true goes.keeps (λ is. absurd (true≢false is)) in
         (now, refl, goes_sent Read now goes.more goes.count goes.turns goes.polls output told so.0 so.1)
 
     -- An item is taken: of what it asks only a message to the plant is yet to be told.
@@ -151,6 +151,7 @@ module _ {State : Type 0} (step : State → Request → Stepped State Answer) (F
     goes_taken Repeat turn goes = (turn, refl, goes)
     goes_taken Refused turn goes = (turn, refl, goes)
     goes_taken Noted turn goes = (turn, refl, goes)
+    goes_taken (Named message) turn goes = (turn, refl, goes)
     goes_taken (Sent message) turn goes = goes_told message turn goes
 
     -- A byte more of the piece is read, in which an item ends or none.
@@ -166,7 +167,7 @@ module _ {State : Type 0} (step : State → Request → Stepped State Answer) (F
         polls = goes.polls;
         output = goes.output;
         more = goes.more;
-        keeps = keeps_none panel goes.count goes.turns goes.polls goes.output (at turn goes.more) (byte ∷ []) goes.keeps (adds ∙ append-nil (items (read_so_far (at turn goes.more))));
+        keeps = keeps_none plant panel goes.count goes.turns goes.polls goes.output (at turn goes.more) (byte ∷ []) goes.keeps (adds ∙ append-nil (items (read_so_far (at turn goes.more))));
         seats = goes.seats;
         legal = goes.legal;
       },
@@ -174,15 +175,15 @@ module _ {State : Type 0} (step : State → Request → Stepped State Answer) (F
     goes_item byte turn goes (Some item) adds =
         let (asked, asks) = item_asks item in
         let now : Turn = record turn { piece = turn.piece ++ byte ∷ [] } in
-        let sent = sent_by asked goes.output in
+        let sent = sent_by plant asked goes.output in
         goes_taken asked now (record {
           count = goes.count + 1;
           turns = goes.turns;
           polls = goes.polls;
-          output = taken_output asked goes.output;
+          output = taken_output plant asked goes.output;
           more = goes.more ++ sent;
-          keeps = sent_at (taken asked panel goes.count goes.turns goes.polls goes.output) now goes.more sent
-              (keeps_item asked item panel goes.count goes.turns goes.polls goes.output (at turn goes.more) (byte ∷ []) goes.keeps adds asks);
+          keeps = sent_at (taken plant asked panel goes.count goes.turns goes.polls goes.output) now goes.more sent
+              (keeps_item plant asked item panel goes.count goes.turns goes.polls goes.output (at turn goes.more) (byte ∷ []) goes.keeps adds asks);
           seats = goes.seats;
           legal = goes.legal;
         })
@@ -206,25 +207,25 @@ module _ {State : Type 0} (step : State → Request → Stepped State Answer) (F
         let output = with_frames (frames_of entry.answers) (emptied goes.output) in
         let so = answered (entries_in turn) (entries_in now) request (sym (append_assoc turn.told turn.polls (entry ∷ []))) has_panel goes.seats goes.legal in
         let kept : Stage → Kept = λ stage. record { panel = panel; stage = stage; items = goes.count; turns = goes.turns; polls = goes.polls + 1; output = output; unsent = true } in
-        let sent : (stage : Stage) → Keeps (kept stage) (at now goes.more) → Goes stage now =
+        let sent : (stage : Stage) → Keeps plant (kept stage) (at now goes.more) → Goes stage now =
         λ stage k. goes_sent stage now goes.more goes.count goes.turns (goes.polls + 1) output k so.0 so.1 in
         elim (over entry.answers (goes.polls + 1)) [
           | (inl last) ↦ (
             now,
             refl,
             sent End
-                (keeps_polled_last panel goes.count goes.turns goes.polls panel goes.output (at turn goes.more) entry.answers true goes.keeps (λ is. absurd (true≢false is)) last),
+                (keeps_polled_last plant panel goes.count goes.turns goes.polls panel goes.output (at turn goes.more) entry.answers true goes.keeps (λ is. absurd (true≢false is)) last),
           )
           | (inr on) ↦ goes_polls left now
               (sent PollStage
-              (keeps_polled_more panel goes.count goes.turns goes.polls panel goes.output (at turn goes.more) entry.answers true goes.keeps (λ is. absurd (true≢false is)) on.0 on.1))
+              (keeps_polled_more plant panel goes.count goes.turns goes.polls panel goes.output (at turn goes.more) entry.answers true goes.keeps (λ is. absurd (true≢false is)) on.0 on.1))
               (omega (arith, within, length-append turn.polls (entry ∷ [])))
         ]
 
   -- Each piece is worked as a turn behind a past whose turns are over, and then the turns of the past with it are over.
-  pub turn_exists : (piece : List ℕ) → panel < length plant.panels → Settled panel past
+  pub turn_exists : (piece : List ℕ) → panel < length plant.panels → Settled plant panel past
       → ((history : List PlantEntry) (request : Request) → IsLegal step Fits machine history → FitsPlant plant request → Fits (run step machine history) request)
-      → (turn : Turn) × (more : List ℕ) × (turn.piece ≡ piece) × IsWorked step Fits plant panel past machine turn more × Settled panel (turned turn more past)
+      → (turn : Turn) × (more : List ℕ) × (turn.piece ≡ piece) × IsWorked step Fits plant panel past machine turn more × Settled plant panel (turned turn more past)
   turn_exists piece has_panel settled fits =
       let read = goes_bytes has_panel fits piece unread (goes_begin settled) in
       let done = goes_polls has_panel fits 32 read.0 (goes_on read.0 read.2) (omega arith) in
@@ -234,7 +235,7 @@ module _ {State : Type 0} (step : State → Request → Stepped State Answer) (F
         goes.more,
         done.1 ∙ read.1,
         record {
-          is_turn = turn_over panel goes.count goes.turns goes.polls goes.output (at done.0 goes.more) goes.keeps;
+          is_turn = turn_over plant panel goes.count goes.turns goes.polls goes.output (at done.0 goes.more) goes.keeps;
           seats = goes.seats;
           legal = goes.legal;
           text = keeps_text plant kept (at done.0 goes.more) refl goes.keeps;
@@ -244,6 +245,6 @@ module _ {State : Type 0} (step : State → Request → Stepped State Answer) (F
           turns = goes.turns + 1;
           output = goes.output;
           begins = refl;
-          keeps = keeps_turn panel goes.count goes.turns goes.polls goes.output (at done.0 goes.more) goes.keeps;
+          keeps = keeps_turn plant panel goes.count goes.turns goes.polls goes.output (at done.0 goes.more) goes.keeps;
         },
       )

@@ -15,19 +15,39 @@ use Rattle.plant_core.specs.declared.answer.Answer.{Answer}
 use Rattle.plant_core.specs.declared.request.Request.{Request}
 use Rattle.plant_core.specs.declared.request.Request.TheVariants.{Poll}
 use Rattle.panel_session.specs.declared.asked.Asked.{Asked}
-use Rattle.panel_session.specs.declared.asked.Asked.TheVariants.{Nothing, Repeat, Refused, Noted, Sent}
+use Rattle.panel_session.specs.declared.asked.Asked.TheVariants.{Nothing, Repeat, Refused, Noted, Named, Sent}
 use Rattle.panel_session.specs.Asked.{GoodAsks, Asks, AllAsk, sent_to_plant}
+use Rattle.swp08_messages.specs.Text.{kind_of}
+use Rattle.swp08_messages.specs.declared.message.MessageKind.TheVariants.{Plant, Names, Report}
 use Rattle.panel_session.specs.Entry.{PlantEntry}
 use Rattle.panel_session.specs.Run.{IsWorked}
 use Rattle.panel_session.specs.SoFar.{Past}
 use Rattle.panel_session.specs.Text.{nothing_sent, output_from}
 use Rattle.panel_session.specs.Turns.{Turn, ArePolls, EndIn, bytes_of, entries_in, entries_of, requests}
 
+-- The kinds of messages differ.
+plant≢report : Plant ≢ Report
+plant≢report is = cc
+
+names≢report : Names ≢ Report
+names≢report is = cc
+
+plant≢names : Plant ≢ Names
+plant≢names is = cc
+
 -- DATA asks one thing.
 good_asks-one : (carried : List ℕ) (a b : Asked) → GoodAsks carried a → GoodAsks carried b → a ≡ b
 good_asks-one carried (Sent message) (Sent other) asks asks' = ap Sent (one_message carried message other asks.0 asks'.0)
-good_asks-one carried (Sent message) Noted asks asks' = absurd (asks' message asks.0 asks.1)
-good_asks-one carried Noted (Sent message) asks asks' = absurd (asks message asks'.0 asks'.1)
+good_asks-one carried (Named message) (Named other) asks asks' = ap Named (one_message carried message other asks.0 asks'.0)
+good_asks-one carried (Sent message) Noted asks asks' = absurd (plant≢report (sym asks.1 ∙ asks' message asks.0))
+good_asks-one carried Noted (Sent message) asks asks' = absurd (plant≢report (sym asks'.1 ∙ asks message asks'.0))
+good_asks-one carried (Named message) Noted asks asks' = absurd (names≢report (sym asks.1 ∙ asks' message asks.0))
+good_asks-one carried Noted (Named message) asks asks' = absurd (names≢report (sym asks'.1 ∙ asks message asks'.0))
+good_asks-one carried (Sent message) (Named other) asks asks' = absurd (plant≢names (sym asks.1 ∙ ap kind_of (one_message carried message other asks.0 asks'.0) ∙ asks'.1))
+good_asks-one carried (Named message) (Sent other) asks asks' = absurd (plant≢names (sym asks'.1 ∙ ap kind_of (one_message carried other message asks'.0 asks.0) ∙ asks.1))
+good_asks-one carried (Named message) Nothing asks asks' = absurd asks'
+good_asks-one carried (Named message) Repeat asks asks' = absurd asks'
+good_asks-one carried (Named message) Refused asks asks' = absurd asks'
 good_asks-one carried Noted Noted asks asks' = refl
 good_asks-one carried Noted Nothing asks asks' = absurd asks'
 good_asks-one carried Noted Repeat asks asks' = absurd asks'
@@ -185,7 +205,7 @@ module _ {State : Type 0} (step : State → Request → Stepped State Answer) (F
       (ap (λ (piece : List ℕ). items (bytes_of past.turns ++ piece)) same) w.text.items_ask v.text.items_ask in
       let sent : past.sent ++ more ≡ past.sent ++ less =
       w.text.bytes
-      ∙ ap (λ (asked : List Asked). (output_from 0 asked (entries_of past.turns ++ entries_in turn) nothing_sent).bytes) all_asked
-      ∙ ap (λ (turn : Turn). (output_from 0 v.text.asked (entries_of past.turns ++ entries_in turn) nothing_sent).bytes) turns
+      ∙ ap (λ (asked : List Asked). (output_from plant 0 asked (entries_of past.turns ++ entries_in turn) nothing_sent).bytes) all_asked
+      ∙ ap (λ (turn : Turn). (output_from plant 0 v.text.asked (entries_of past.turns ++ entries_in turn) nothing_sent).bytes) turns
       ∙ sym v.text.bytes in
       (turns, append_cancel_left past.sent more less sent)

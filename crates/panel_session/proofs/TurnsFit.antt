@@ -22,7 +22,7 @@ turns_fit_lem plant panel session past stands =
     record { turns = past.turns; are_turns = subst Turns stands.panel_is stands.keeps.turns; pieces = refl; entries_are = refl }
 
 -- The text is what was sent, and what is yet to be.
-text_left : (plant : PlantData) (kept : Kept) (past : Past) → Keeps kept past → IsText plant (items (read_so_far past)) (entries_so_far past) (past.sent ++ (pending kept).bytes)
+text_left : (plant : PlantData) (kept : Kept) (past : Past) → Keeps plant kept past → IsText plant (items (read_so_far past)) (entries_so_far past) (past.sent ++ (pending kept).bytes)
 text_left plant kept past k =
     let AskOf : List (Item (List ℕ)) → Type 0 = λ its. AllAsk its (k.before ++ k.asked) in
     record {

@@ -2,9 +2,11 @@ pub mod Entry
 pub mod Asked
 pub mod AskedInside
 pub mod Turns
+pub mod NamePages
 pub mod Text
 pub mod MostAnswers
 pub mod OutgoingInside
+pub mod NamePagesInside
 pub mod OutgoingKept
 pub mod PageKept
 pub mod SoFar

@@ -1,8 +1,9 @@
 -- What a session becomes, step by step.
 use Rattle.std.specs.Prelude.{ℕ, ◌+◌, ◌%◌, ◌^◌, Bool, List, []}
+use Rattle.plant_config.specs.Plant.{PlantData}
 use Rattle.plant_core.specs.declared.answer.Answer.{Answer}
 use Rattle.panel_session.specs.declared.asked.Asked.{Asked}
-use Rattle.panel_session.specs.declared.asked.Asked.TheVariants.{Nothing, Repeat, Refused, Noted, Sent}
+use Rattle.panel_session.specs.declared.asked.Asked.TheVariants.{Nothing, Repeat, Refused, Noted, Named, Sent}
 use Rattle.panel_session.specs.declared.counts.Counts.{Counts}
 use Rattle.panel_session.specs.declared.session.Session.{Session}
 use Rattle.panel_session.specs.declared.stage.Stage.{Stage}
@@ -21,6 +22,7 @@ counts_with Nothing counts = counts
 counts_with Repeat counts = counts
 counts_with Refused counts = record counts { bads = next counts.bads }
 counts_with Noted counts = record counts { goods = next counts.goods }
+counts_with (Named message) counts = record counts { goods = next counts.goods }
 counts_with (Sent message) counts = record counts { goods = next counts.goods }
 
 abbrev pub stage_with : Asked → Stage → Stage
@@ -28,13 +30,14 @@ stage_with Nothing stage = stage
 stage_with Repeat stage = stage
 stage_with Refused stage = stage
 stage_with Noted stage = stage
+stage_with (Named message) stage = stage
 stage_with (Sent message) stage = Tell message
 
-abbrev pub took : Asked → Session → Session
-took asked session = record session {
+abbrev pub took : PlantData → Asked → Session → Session
+took plant asked session = record session {
   stage = stage_with asked session.stage;
   items = next session.items;
-  outgoing = taken_output asked session.outgoing;
+  outgoing = taken_output plant asked session.outgoing;
   counts = counts_with asked session.counts;
 }
 

@@ -1,6 +1,6 @@
 -- How what is sent next is kept.
 use Rattle.std.specs.Prelude.{ℕ, ◌*◌, ◌≤◌, List, [], ◌∷◌, length, Option, None, Some, vec_capacity}
-use Rattle.swp08_messages.specs.Dump.{max_dump_len}
+use Rattle.plant_names.specs.Pages.{max_page_len}
 use Rattle.panel_session.specs.MostAnswers.{most_answers}
 use Rattle.panel_session.specs.Text.{Output}
 use Rattle.panel_session.specs.declared.outgoing.Outgoing.TheInside.{Inside}
@@ -10,7 +10,7 @@ abbrev pub most_message_frame : ℕ
 most_message_frame = 24
 
 abbrev pub most_frame : ℕ
-most_frame = 274
+most_frame = 276
 
 -- the bytes that so many answers may take
 abbrev pub room_of : ℕ → ℕ
@@ -24,10 +24,14 @@ some_frame (byte ∷ bytes) = Some (byte ∷ bytes)
 abbrev pub output_of : Inside → Output
 output_of outgoing = record { bytes = outgoing.bytes.items; last = some_frame outgoing.last.items; repeats = outgoing.repeats }
 
+-- the most bytes that are sent at once: an ACK and the pages of all names of a level
+abbrev pub most_bytes : ℕ
+most_bytes = 28706
+
 -- There is room for what may be sent.
 pub record IsKept (outgoing : Inside) : Type 0 where
-  pub bytes : room_of most_answers ≤ vec_capacity outgoing.bytes
+  pub bytes : most_bytes ≤ vec_capacity outgoing.bytes
   pub last : most_frame ≤ vec_capacity outgoing.last
   pub last_within : length outgoing.last.items ≤ most_frame
   pub repeats : outgoing.repeats ≤ 5
-  pub spelled : max_dump_len ≤ vec_capacity outgoing.spelled
+  pub spelled : max_page_len ≤ vec_capacity outgoing.spelled

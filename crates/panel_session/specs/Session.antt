@@ -41,10 +41,11 @@ kept_of session = record {
 -- The session of this panel of a plant keeps what it needs of this past.
 pub record Stands (plant : PlantData) (panel : ℕ) (session : Session) (past : Past) : Type 0 where
   pub plant_is : session.plant.now ≡ plant
+  pub names_are : session.names.now ≡ plant
   pub panel_is : session.panel ≡ panel
   pub has_panel : panel < length plant.panels
   pub framer : framer.StandsFor session.framer (read_so_far past)
-  pub keeps : Keeps (kept_of session) past
+  pub keeps : Keeps plant (kept_of session) past
   pub goods : session.counts.goods ≡ goods_of (items (read_so_far past))
   pub bads : session.counts.bads ≡ bads_of (items (read_so_far past))
   pub some : session.unsent ≡ true → session.outgoing.bytes ≢ []

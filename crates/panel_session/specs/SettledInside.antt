@@ -1,5 +1,6 @@
 -- A session whose turns are all over.
 use Rattle.std.specs.Prelude.{◌≡◌, ℕ, false}
+use Rattle.plant_config.specs.Plant.{PlantData}
 use Rattle.panel_session.specs.declared.stage.Stage.TheVariants.{Read}
 use Rattle.panel_session.specs.SoFar.{Past, unread}
 use Rattle.panel_session.specs.StandsInside.{Kept, Keeps}
@@ -10,10 +11,10 @@ abbrev pub between_turns : ℕ → ℕ → ℕ → Output → Kept
 between_turns panel items turns output =
     record { panel = panel; stage = Read; items = items; turns = turns; polls = 0; output = output; unsent = false }
 
--- What a panel's session has done where all its turns are over: something is kept of it.
-pub record Settled (panel : ℕ) (past : Past) : Type 0 where
+-- What a session of a panel of this plant has done where all its turns are over: something is kept of it.
+pub record Settled (plant : PlantData) (panel : ℕ) (past : Past) : Type 0 where
   pub count : ℕ
   pub turns : ℕ
   pub output : Output
   pub begins : past.now ≡ unread
-  pub keeps : Keeps (between_turns panel count turns output) past
+  pub keeps : Keeps plant (between_turns panel count turns output) past

@@ -3,9 +3,10 @@ use Rattle.std.specs.Prelude.{◌≡◌, ◌≢◌, ℕ, ◌+◌, ◌<◌, ◌�
 use Rattle.std.specs.Prelude.{IsSome}
 use Rattle.dle_framing.specs.declared.item.Item.{Item}
 use Rattle.dle_framing.specs.Items.{items}
+use Rattle.plant_config.specs.Plant.{PlantData}
 use Rattle.plant_core.specs.State.{IsForPlant}
 use Rattle.panel_session.specs.declared.asked.Asked.{Asked}
-use Rattle.panel_session.specs.declared.asked.Asked.TheVariants.{Nothing, Repeat, Refused, Noted, Sent}
+use Rattle.panel_session.specs.declared.asked.Asked.TheVariants.{Nothing, Repeat, Refused, Noted, Named, Sent}
 use Rattle.panel_session.specs.declared.stage.Stage.{Stage}
 use Rattle.panel_session.specs.declared.stage.Stage.TheVariants.{Read, Tell, Poll as PollStage, End}
 use Rattle.panel_session.specs.Entry.{PlantEntry}
@@ -32,6 +33,7 @@ IsTold item Nothing entries = Unit {0}
 IsTold item Repeat entries = Unit {0}
 IsTold item Refused entries = Unit {0}
 IsTold item Noted entries = Unit {0}
+IsTold item (Named message) entries = Unit {0}
 
 -- So it is with each item from this number on.
 abbrev pub AllTold : ℕ → List Asked → List PlantEntry → Type 0
@@ -80,11 +82,11 @@ IsAtStage End panel first before asked past =
     × AllTold 0 (before ++ asked) (entries_so_far past)
 
 -- the output of what was done so far, where the items that were read ask so
-abbrev pub output_so_far : Past → List Asked → Output
-output_so_far past asked = output_from 0 asked (entries_so_far past) nothing_sent
+abbrev pub output_so_far : PlantData → Past → List Asked → Output
+output_so_far plant past asked = output_from plant 0 asked (entries_so_far past) nothing_sent
 
--- What is kept stands for this past.
-pub record Keeps (kept : Kept) (past : Past) : Type 0 where
+-- What is kept stands for this past of a session of this plant.
+pub record Keeps (plant : PlantData) (kept : Kept) (past : Past) : Type 0 where
   pub turns : AreTurns kept.panel past.turns
   pub before : List Asked
   pub ask_before : AllAsk (items (bytes_of past.turns)) before
@@ -99,4 +101,4 @@ pub record Keeps (kept : Kept) (past : Past) : Type 0 where
   pub polls : All (λ entry. entry.request ≡ poll_now kept.panel past) past.now.polls
   pub stage : IsAtStage kept.stage kept.panel (item_count past.turns) before asked past
   pub none_from : NoneFrom (length (items (read_so_far past))) (entries_so_far past)
-  pub output : output_so_far past (before ++ asked) ≡ behind past.sent (pending kept)
+  pub output : output_so_far plant past (before ++ asked) ≡ behind past.sent (pending kept)

@@ -1,32 +1,43 @@
 -- What an item makes a session do.
-use Rattle.std.specs.Prelude.{◌≡◌, ℕ, List, []}
+use Rattle.std.specs.Prelude.{◌≡◌, ◌≢◌, ℕ, List, []}
 use Rattle.dle_framing.specs.Numbers.{ack, nak}
+use Rattle.plant_config.specs.Plant.{PlantData}
 use Rattle.panel_session.specs.declared.asked.Asked.{Asked}
-use Rattle.panel_session.specs.declared.asked.Asked.TheVariants.{Nothing, Repeat, Refused, Noted, Sent}
+use Rattle.panel_session.specs.declared.asked.Asked.TheVariants.{Nothing, Repeat, Refused, Noted, Named, Sent}
 use Rattle.panel_session.specs.declared.stage.Stage.{Stage}
 use Rattle.panel_session.specs.declared.stage.Stage.TheVariants.{Read, Tell}
-use Rattle.panel_session.specs.Text.{Output, with_control, repeated}
+use Rattle.panel_session.specs.Text.{Output, with_control, with_frames, repeated}
+use Rattle.panel_session.specs.NamePages.{name_frames}
 use Rattle.panel_session.specs.OutgoingInside.{emptied}
 
 -- the output from what is sent for an item on
-abbrev pub taken_output : Asked → Output → Output
-taken_output Nothing output = output
-taken_output Repeat output = repeated (emptied output)
-taken_output Refused output = with_control nak (emptied output)
-taken_output Noted output = with_control ack (emptied output)
-taken_output (Sent message) output = with_control ack (emptied output)
+abbrev pub taken_output : PlantData → Asked → Output → Output
+taken_output plant Nothing output = output
+taken_output plant Repeat output = repeated (emptied output)
+taken_output plant Refused output = with_control nak (emptied output)
+taken_output plant Noted output = with_control ack (emptied output)
+taken_output plant (Named message) output = with_frames (name_frames plant message) (with_control ack (emptied output))
+taken_output plant (Sent message) output = with_control ack (emptied output)
 
 -- the bytes that are sent for it
-abbrev pub sent_by : Asked → Output → List ℕ
-sent_by Nothing output = []
-sent_by Repeat output = (repeated (emptied output)).bytes
-sent_by Refused output = nak
-sent_by Noted output = ack
-sent_by (Sent message) output = ack
+abbrev pub sent_by : PlantData → Asked → Output → List ℕ
+sent_by plant Nothing output = []
+sent_by plant Repeat output = (repeated (emptied output)).bytes
+sent_by plant Refused output = nak
+sent_by plant Noted output = ack
+sent_by plant (Named message) output = (with_frames (name_frames plant message) (with_control ack (emptied output))).bytes
+sent_by plant (Sent message) output = ack
+
+-- Something is sent for it, or nothing.
+abbrev pub IsAnswer : PlantData → Asked → Output → Type 0
+IsAnswer plant asked output = sent_by plant asked output ≢ []
+
+abbrev pub IsNoAnswer : PlantData → Asked → Output → Type 0
+IsNoAnswer plant asked output = sent_by plant asked output ≡ []
 
 -- what is to be sent next is what is sent for the item
-abbrev pub IsSending : Asked → Output → Output → Type 0
-IsSending asked before after = after.bytes ≡ sent_by asked before
+abbrev pub IsSending : PlantData → Asked → Output → Output → Type 0
+IsSending plant asked before after = after.bytes ≡ sent_by plant asked before
 
 -- what comes next
 abbrev pub taken_stage : Asked → Stage
@@ -34,4 +45,5 @@ taken_stage Nothing = Read
 taken_stage Repeat = Read
 taken_stage Refused = Read
 taken_stage Noted = Read
+taken_stage (Named message) = Read
 taken_stage (Sent message) = Tell message

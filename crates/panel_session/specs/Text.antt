@@ -14,8 +14,9 @@ use Rattle.plant_core.specs.declared.answer.Answer.{Answer}
 use Rattle.plant_core.specs.declared.answer.Answer.TheVariants.{Say, Dumped}
 use Rattle.panel_session.specs.Entry.{PlantEntry}
 use Rattle.panel_session.specs.declared.asked.Asked.{Asked}
-use Rattle.panel_session.specs.declared.asked.Asked.TheVariants.{Nothing, Repeat, Refused, Noted, Sent}
+use Rattle.panel_session.specs.declared.asked.Asked.TheVariants.{Nothing, Repeat, Refused, Noted, Named, Sent}
 use Rattle.panel_session.specs.Asked.{AllAsk}
+use Rattle.panel_session.specs.NamePages.{name_frames}
 
 -- a page that is to begin with this destination, and has none yet
 abbrev pub page_at : ℕ → ℕ → ℕ → Page
@@ -103,25 +104,28 @@ told_at item entries = option_map (λ entry. entry.answers) (find (λ entry. is_
 abbrev pub with_polls : ℕ → List PlantEntry → Output → Output
 with_polls item entries output = with_frames (polled_at item entries) output
 
--- The output of a session on items that ask so, the first of this number: before each item stand the notices that were
--- polled there. A bad frame is answered by NAK, an ACK by nothing, a NAK by the last message frame, and a good frame by ACK
--- and then the frames of its answers. Where the plant wasn't asked yet, the output ends behind that ACK.
-abbrev pub output_from : ℕ → List Asked → List PlantEntry → Output → Output
-output_from item [] entries output = with_polls item entries output
-output_from item (Nothing ∷ others) entries output = output_from (item + 1) others entries (with_polls item entries output)
-output_from item (Repeat ∷ others) entries output =
-    output_from (item + 1) others entries (repeated (with_polls item entries output))
-output_from item (Refused ∷ others) entries output =
-    output_from (item + 1) others entries (with_control nak (with_polls item entries output))
-output_from item (Noted ∷ others) entries output =
-    output_from (item + 1) others entries (with_control ack (with_polls item entries output))
-output_from item (Sent message ∷ others) entries output = elim (told_at item entries) [
+-- The output of a session of a plant on items that ask so, the first of this number: before each item stand the notices that
+-- were polled there. A bad frame is answered by NAK, an ACK by nothing, a NAK by the last message frame, and a good frame by
+-- ACK and then the frames of its answers, or of the pages of names that it asks for. Where the plant wasn't asked yet, the
+-- output ends behind that ACK.
+abbrev pub output_from : PlantData → ℕ → List Asked → List PlantEntry → Output → Output
+output_from plant item [] entries output = with_polls item entries output
+output_from plant item (Nothing ∷ others) entries output = output_from plant (item + 1) others entries (with_polls item entries output)
+output_from plant item (Repeat ∷ others) entries output =
+    output_from plant (item + 1) others entries (repeated (with_polls item entries output))
+output_from plant item (Refused ∷ others) entries output =
+    output_from plant (item + 1) others entries (with_control nak (with_polls item entries output))
+output_from plant item (Noted ∷ others) entries output =
+    output_from plant (item + 1) others entries (with_control ack (with_polls item entries output))
+output_from plant item (Named message ∷ others) entries output =
+    output_from plant (item + 1) others entries (with_frames (name_frames plant message) (with_control ack (with_polls item entries output)))
+output_from plant item (Sent message ∷ others) entries output = elim (told_at item entries) [
   | None ↦ with_control ack (with_polls item entries output)
-  | (Some answers) ↦ output_from (item + 1) others entries (with_frames (frames_of answers) (with_control ack (with_polls item entries output)))
+  | (Some answers) ↦ output_from plant (item + 1) others entries (with_frames (frames_of answers) (with_control ack (with_polls item entries output)))
 ]
 
 -- The text of a session: what it sends on these items, given its entries.
 pub record IsText (plant : PlantData) (items : List (Item (List ℕ))) (entries : List PlantEntry) (text : List ℕ) : Type 0 where
   pub asked : List Asked
   pub items_ask : AllAsk items asked
-  pub bytes : text ≡ (output_from 0 asked entries nothing_sent).bytes
+  pub bytes : text ≡ (output_from plant 0 asked entries nothing_sent).bytes

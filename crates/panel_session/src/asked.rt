@@ -1,10 +1,10 @@
 //! What an item asks of a session.
 
-ghost use Rattle.std.specs.Prelude.{◌≡◌, ℕ, ◌<◌, ◌≤◌, List, Option, length, take};
+ghost use Rattle.std.specs.Prelude.{◌≡◌, ℕ, ◌<◌, ◌≤◌, List, Option, Some, length, take};
 ghost use Rattle.dle_framing.specs.Feeding.{shown};
 ghost use Rattle.dle_framing.specs.Framer.{StandsFor, GoesOver};
 ghost use Rattle.panel_session.specs.Asked.{Asks, GoodAsks};
-ghost use Rattle.panel_session.specs.AskedInside.{FoundAsks};
+ghost use Rattle.panel_session.specs.AskedInside.{FoundAsks, NamesInRange};
 
 use dle_framing::{Framer, Item};
 use swp08_messages::{Message, MessageKind};
@@ -20,6 +20,8 @@ pub(crate) enum Asked {
     Refused,
     /// That a good frame is acknowledged.
     Noted,
+    /// That a good frame is acknowledged, and answered by the pages of names that this message asks for.
+    Named(Message),
     /// That a good frame is acknowledged, and the plant is sent this message.
     Sent(Message),
 }
@@ -32,6 +34,7 @@ pub(crate) fn next_asked(framer: &mut Framer, piece: &[u8]) -> (usize, Option<As
     ensures progress { 0 < length piece.now → 0 < result.0 }
     ensures finds { (text : List ℕ) → StandsFor framer.old text
         → FoundAsks text piece.now result.0 result.1 }
+    ensures names { NamesInRange result.1 }
 {
     let (used, item) = framer.feed(piece);
     match item {
@@ -42,7 +45,8 @@ pub(crate) fn next_asked(framer: &mut Framer, piece: &[u8]) -> (usize, Option<As
 
 // What an item asks.
 fn asked_by(item: Item<&[u8]>) -> Asked
-    ensures { Asks (shown item.entry) result }
+    ensures asks { Asks (shown item.entry) result }
+    ensures names { NamesInRange (Some result) }
 {
     match item {
         Item::Good(carried) => asked_by_good(carried),
@@ -54,13 +58,15 @@ fn asked_by(item: Item<&[u8]>) -> Asked
 
 // What a good frame with these DATA asks.
 fn asked_by_good(carried: &[u8]) -> Asked
-    ensures { GoodAsks carried.now result }
+    ensures asks { GoodAsks carried.now result }
+    ensures names { NamesInRange (Some result) }
 {
     let Ok(message) = Message::read(carried) else {
         return Asked::Noted;
     };
     match message.kind() {
         MessageKind::Plant => Asked::Sent(message),
-        MessageKind::Report | MessageKind::Names => Asked::Noted,
+        MessageKind::Names => Asked::Named(message),
+        MessageKind::Report => Asked::Noted,
     }
 }

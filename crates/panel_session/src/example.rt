@@ -4,6 +4,7 @@ use crate::{Act, Session};
 use history_lock::OutBox;
 use plant_config::{PanelNo, Plant};
 use plant_core::{Answer, Request};
+use plant_names::Names;
 use std::test::Fail;
 use swp08_messages::{Message, Point};
 
@@ -15,13 +16,14 @@ const TALLY: &[u8] = b"\x10\x02\x03\x00\x07\x05\x7F\x05\x6D\x10\x03";
 fn an_interrogate_is_answered(rt: HostRuntime) -> Result<(), Fail> {
     let alloc = rt.alloc();
     let plant = Plant::bench(alloc)?;
+    let names = Names::new(alloc, &plant)?;
     let panel = PanelNo::of(0);
     let at = Point {
         matrix: 0,
         level: 0,
         dest: 5,
     };
-    let mut session = Session::start(alloc, &plant, panel)?;
+    let mut session = Session::start(alloc, &plant, &names, panel)?;
 
     assert_eq!(rt; session.act(INTERROGATE), (10, Act::Send));
     assert_eq!(rt; session.outgoing(), b"\x10\x06".as_slice());

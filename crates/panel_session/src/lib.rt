@@ -8,6 +8,8 @@ mod asked;
 mod counts;
 mod dump_page;
 mod laws;
+mod name_frames;
+mod name_page;
 mod outgoing;
 mod outlet;
 mod session;

@@ -1,6 +1,6 @@
 //! The bytes that a session sends next, and the frame that it may send again.
 
-ghost use Rattle.std.specs.Prelude.{◌≡◌, ◌≢◌, ◌<◌, ◌≤◌, true, false, IfOk, [], ◌++◌, length, All, ◌+◌};
+ghost use Rattle.std.specs.Prelude.{◌≡◌, ◌≢◌, ◌<◌, ◌≤◌, true, false, IfOk, IfSome, [], ◌++◌, length, All, ◌+◌};
 ghost use Rattle.dle_framing.specs.Numbers.{ack, nak};
 ghost use Rattle.plant_core.specs.Answer.{IsSayable};
 ghost use Rattle.plant_core.specs.declared.answer.Answer.TheVariants.{Say, Dumped};
@@ -9,14 +9,19 @@ ghost use Rattle.dle_framing.specs.Frame.{frame};
 ghost use Rattle.swp08_messages.specs.Dump.{page_dests, page_text};
 ghost use Rattle.swp08_messages.specs.Field.{levels, dests};
 ghost use Rattle.panel_session.specs.Text.{no_page, page_at, goes_on, page_frames, frames_of, with_frame, with_frames, with_control, repeated, nothing_sent};
+ghost use Rattle.panel_session.specs.NamePagesInside.{IsNamePage, HasRoomFor, names_of, data_of, end_of};
+ghost use Rattle.plant_names.specs.Pages.{AreFew};
+ghost use Rattle.plant_names.specs.declared.paged.Paged.TheVariants.{Nothing};
 ghost use Rattle.panel_session.specs.OutgoingInside.{emptied, Adds};
-ghost use Rattle.panel_session.specs.OutgoingKept.{most_message_frame, room_of};
+ghost use Rattle.panel_session.specs.OutgoingKept.{most_message_frame, most_frame, room_of};
 ghost use Rattle.panel_session.specs.MostAnswers.{most_answers};
 
 use crate::dump_page::DumpPage;
-use crate::spell::{append, send, spell_frame, spell_page};
+use crate::name_page::NamePage;
+use crate::spell::{append, send, spell_frame, spell_names, spell_page};
 use dle_framing::{append_ack, append_nak};
 use plant_core::Answer;
+use plant_names::{Names, Paged};
 use std::alloc::{AllocError, Global};
 use std::marker::Model;
 use swp08_messages::Message;
@@ -31,13 +36,16 @@ const MOST_REPEATS: u32 = 5;
 const MAX_MESSAGE_FRAME: usize = 2 * (Message::MAX_LEN + 2) + 4;
 
 // The most bytes of the DATA of a page, which are more than those of a message, and of its frame.
-const MAX_PAGE: usize = 133;
+const MAX_PAGE: usize = 134;
 
 const MAX_FRAME: usize = 2 * (MAX_PAGE + 2) + 4;
 
-// What is sent next, the last message frame, and how often that was sent again. It has room for an ACK or a NAK, and for
-// the frames of the most answers of a step: no page is longer than the messages of as many answers. Only `new` takes
-// memory.
+// The most bytes sent at once: an ACK and the pages of 1,024 names, ten a page or more. As many answers take fewer.
+const MAX_BYTES: usize = 2 + 104 * MAX_FRAME;
+
+// What is sent next, the last message frame, and how often that was sent again. It has room for an ACK or a NAK, for the
+// frames of the most answers of a step (no page of a dump is longer than the messages of as many answers), and for the
+// pages of all names of a level. Only `new` takes memory.
 #[derive(Drop)]
 pub(crate) struct Outgoing {
     bytes: Vec<u8>,
@@ -64,7 +72,7 @@ impl Outgoing {
         ensures { IfOk result (λ outgoing. outgoing ≡ nothing_sent) }
     {
         Ok(Outgoing {
-            bytes: Vec::with_capacity(alloc, MOST_ANSWERS * MAX_MESSAGE_FRAME)?,
+            bytes: Vec::with_capacity(alloc, MAX_BYTES)?,
             last: Vec::with_capacity(alloc, MAX_FRAME)?,
             repeats: 0,
             spelled: Vec::with_capacity(alloc, MAX_PAGE)?,
@@ -93,6 +101,31 @@ impl Outgoing {
     {
         self.bytes.clear();
         append_ack(&mut self.bytes);
+    }
+
+    // The frame of this page of names is to be sent too, if there is such a page. It answers how the page ends.
+    pub(crate) fn send_names(&mut self, names: &Names, page: NamePage) -> Paged
+        requires page { IsNamePage page }
+        requires room { HasRoomFor page self.old }
+        ensures end { result ≡ end_of names.now page }
+        ensures few { IfSome (names_of names.now page.matrix page.names) AreFew }
+        ensures none { result ≡ Nothing → self.new ≡ self.old }
+        ensures sent { result ≢ Nothing
+            → self.new ≡ with_frame (frame (data_of names.now page)) self.old }
+        ensures most { length self.new.bytes ≤ length self.old.bytes + most_frame }
+    {
+        let Outgoing {
+            bytes,
+            last,
+            repeats,
+            spelled,
+        } = self;
+        let end = spell_names(page, names, spelled, last);
+        if let Paged::Nothing = end {
+            return end;
+        }
+        send(last, bytes, repeats);
+        end
     }
 
     // A NAK is to be sent.

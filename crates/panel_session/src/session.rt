@@ -1,14 +1,14 @@
 //! The session of one panel.
 
-ghost use Rattle.std.specs.Prelude.{◌≡◌, ◌≢◌, ℕ, ◌-◌, ◌^◌, ◌<◌, ◌≤◌, true, false, [], ◌++◌, length, take, All, IfOk};
+ghost use Rattle.std.specs.Prelude.{◌≡◌, ◌≢◌, ℕ, ◌-◌, ◌^◌, ◌<◌, ◌≤◌, true, false, [], ◌++◌, length, take, All, IfOk, Some};
 ghost use Rattle.std.specs.Borrow.{sem};
 ghost use Rattle.plant_config.specs.Plant.{PlantData};
 ghost use Rattle.plant_core.specs.declared.request.Request.{Request};
-ghost use Rattle.plant_core.specs.Answer.{IsSayable};
 ghost use Rattle.plant_core.specs.declared.request.Request.TheVariants.{Told, Poll};
+ghost use Rattle.plant_core.specs.Answer.{IsSayable};
 ghost use Rattle.panel_session.specs.SoFar.{Past, nothing_yet};
 ghost use Rattle.panel_session.specs.MostAnswers.{most_answers};
-ghost use Rattle.panel_session.specs.TakenInside.{IsSending, sent_by};
+ghost use Rattle.panel_session.specs.TakenInside.{IsSending, IsAnswer, IsNoAnswer};
 
 use crate::act::Act;
 use crate::asked::{Asked, next_asked};
@@ -19,6 +19,7 @@ use dle_framing::Framer;
 use history_lock::OutBox;
 use plant_config::{PanelNo, Plant};
 use plant_core::{Answer, Request};
+use plant_names::Names;
 use std::alloc::{AllocError, Global};
 use swp08_messages::Message;
 
@@ -27,6 +28,7 @@ use swp08_messages::Message;
 #[derive(Drop)]
 pub struct Session<'p> {
     plant: &'p Plant,
+    names: &'p Names,
     panel: PanelNo,
     framer: Framer,
     stage: Stage,
@@ -34,32 +36,38 @@ pub struct Session<'p> {
     // Whether the outgoing bytes were not yet handed out.
     unsent: bool,
     outbox: OutBox<Answer>,
-    // The items so far.
+    // The items so far, and the polls of this turn.
     items: u64,
-    // The polls of this turn.
     polls: u32,
     counts: Counts,
 }
 
 impl<'p> Session<'p> {
     ghost use Rattle.panel_session.specs.Acting.{ActsOn};
+    ghost use Rattle.panel_session.specs.AskedInside.{NamesInRange};
     ghost use Rattle.panel_session.specs.Counted.{AreCounts};
     ghost use Rattle.panel_session.specs.Lending.{LendsOutbox};
     ghost use Rattle.panel_session.specs.CallsLeft.{stage_left, IsNearer, LeavesLess};
     ghost use Rattle.panel_session.specs.declared.stage.Stage.TheVariants.{Read};
     ghost use Rattle.panel_session.specs.MovesInside.{took, took_answers, ended_turn};
     ghost use Rattle.panel_session.specs.ReadingInside.{ReadsOn, HasReadOn};
-    ghost use Rattle.panel_session.specs.Session.{outgoing_of, outbox_of, StandsFor, Awaits, TakesAnswers};
-    ghost use Rattle.panel_session.specs.Session.{BeginsAnew, BeginsAnewUnanswered};
+    ghost use Rattle.panel_session.specs.Session.{outgoing_of, outbox_of, StandsFor, Awaits, TakesAnswers, BeginsAnew, BeginsAnewUnanswered};
 
-    /// A session of a panel of the plant, to which nothing was sent.
-    pub fn start(alloc: Global, plant: &'p Plant, panel: PanelNo) -> Result<Session<'p>, AllocError>
-        requires { panel < length plant.now.panels }
+    /// A session of a panel of the plant, to which nothing was sent. The names are those of the plant.
+    pub fn start(
+        alloc: Global,
+        plant: &'p Plant,
+        names: &'p Names,
+        panel: PanelNo,
+    ) -> Result<Session<'p>, AllocError>
+        requires panel { panel < length plant.now.panels }
+        requires names { names.now ≡ plant.now }
         ensures new { IfOk result (λ session. StandsFor plant.now panel session nothing_yet) }
         ensures places { IfOk result (λ session. (outbox_of session).places ≡ most_answers) }
     {
         Ok(Session {
             plant,
+            names,
             panel,
             framer: Framer::new(),
             stage: Stage::Read,
@@ -212,10 +220,12 @@ impl<'p> Session<'p> {
 
     // Does what an item asks, and answers whether something is to be sent.
     fn take(&mut self, asked: Asked) -> bool
-        ensures session { self.new ≡ took asked self.old }
-        ensures some { result ≡ true → sent_by asked self.old.outgoing ≢ [] }
-        ensures bytes { result ≡ true → IsSending asked self.old.outgoing self.new.outgoing }
-        ensures none { result ≡ false → sent_by asked self.old.outgoing ≡ [] }
+        requires names { NamesInRange (Some asked) }
+        ensures session { self.new ≡ took self.old.names.now asked self.old }
+        ensures some { result ≡ true → IsAnswer self.old.names.now asked self.old.outgoing }
+        ensures bytes { result ≡ true
+            → IsSending self.old.names.now asked self.old.outgoing self.new.outgoing }
+        ensures none { result ≡ false → IsNoAnswer self.old.names.now asked self.old.outgoing }
         ensures quiet { result ≡ false → self.new.stage ≡ self.old.stage }
     {
         self.items = self.items.wrapping_add(1);
@@ -230,6 +240,11 @@ impl<'p> Session<'p> {
             Asked::Noted => {
                 self.counts.goods = self.counts.goods.wrapping_add(1);
                 self.outgoing.ack();
+                true
+            }
+            Asked::Named(message) => {
+                self.counts.goods = self.counts.goods.wrapping_add(1);
+                self.outgoing.names(self.names, message);
                 true
             }
             Asked::Sent(message) => {

@@ -1,12 +1,16 @@
 //! Sessions against a tiny machine.
 
+ghost use Rattle.std.specs.Prelude.{◌≡◌, ◌≤◌, length};
+
 mod board;
+mod frames;
 mod turns;
 
 use crate::{Act, Session};
 use board::Board;
 use history_lock::OutBox;
 use plant_config::{PanelNo, Plant};
+use plant_names::Names;
 use std::alloc::Global;
 use std::test::Fail;
 
@@ -70,79 +74,50 @@ const CONNECTED_5: &str = "10 02 04 00 00 05 03 05 EF 10 03";
 // A line: the panel, what it sends, and what it is sent.
 type Line = (u32, &'static str, &'static str);
 
-// Plays lines in one turn each, and answers the place of the first that was sent something else.
+// Plays lines in one turn each on the bench plant, and answers the place of the first that was sent something else.
 #[tactic(auto, unfolding(plant_config::specs::Bench::bench))]
 fn play(alloc: Global, lines: &[Line]) -> Result<Option<usize>, Fail> {
     let plant = Plant::bench(alloc)?;
-    let mut first = Session::start(alloc, &plant, PanelNo::of(0))?;
-    let mut second = Session::start(alloc, &plant, PanelNo::of(1))?;
+    let names = Names::new(alloc, &plant)?;
+    play_on(alloc, &plant, &names, lines)
+}
+
+// So on a plant.
+fn play_on(
+    alloc: Global,
+    plant: &Plant,
+    names: &Names,
+    lines: &[Line],
+) -> Result<Option<usize>, Fail>
+    requires panels { 2 ≤ length plant.now.panels }
+    requires names { names.now ≡ plant.now }
+{
+    let mut first = Session::start(alloc, plant, names, PanelNo::of(0))?;
+    let mut second = Session::start(alloc, plant, names, PanelNo::of(1))?;
+    play_with(alloc, &mut first, &mut second, lines)
+}
+
+// So with the sessions of two panels.
+fn play_with(
+    alloc: Global,
+    first: &mut Session<'_>,
+    second: &mut Session<'_>,
+    lines: &[Line],
+) -> Result<Option<usize>, Fail> {
     let mut board = Board::new();
     for (i, (panel, told, wanted)) in lines.iter().enumerate() {
         let piece = bytes_of(alloc, told)?;
         let wanted = bytes_of(alloc, wanted)?;
         let sent = if *panel == 0 {
-            turn(alloc, &mut first, &mut board, &piece)?
+            turn(alloc, first, &mut board, &piece)?
         } else {
-            turn(alloc, &mut second, &mut board, &piece)?
+            turn(alloc, second, &mut board, &piece)?
         };
         if sent.as_slice() != wanted.as_slice() {
             return Ok(Some(i));
         }
     }
     Ok(None)
-}
-
-// One panel, one frame a line.
-const FRAMES: &[Line] = &[
-    (0, INTERROGATE_5, ANSWER_5),
-    (0, CONNECT_5, "10 06 10 02 04 00 00 05 03 05 EF 10 03"),
-    (0, INTERROGATE_5, "10 06 10 02 03 00 00 05 03 05 F0 10 03"),
-    // Destination 16, whose byte is doubled.
-    (
-        0,
-        "10 02 02 00 00 10 10 03 05 E6 10 03",
-        "10 06 10 02 04 00 00 10 10 03 05 E4 10 03",
-    ),
-    // No such matrix, and a check byte that is doubled.
-    (
-        0,
-        "10 02 01 E0 00 0B 04 10 10 10 03",
-        "10 06 10 02 03 E0 07 0B 7F 05 87 10 03",
-    ),
-    // A wrong check byte.
-    (0, "10 02 01 00 00 05 04 F5 10 03", "10 15"),
-    // An abandoned frame isn't answered.
-    (
-        0,
-        "10 02 01 00 00 10 02 01 00 00 0B 04 F0 10 03",
-        "10 06 10 02 03 00 07 0B 7F 05 67 10 03",
-    ),
-    (
-        0,
-        "10 02 01 00 10 06 10 15 10 10 02 01 00 00 0B 04 F0 10 03",
-        "10 02 03 00 07 0B 7F 05 67 10 03 10 06 10 02 03 00 07 0B 7F 05 67 10 03",
-    ),
-    // An unknown command, a wrong field count and a report are noted.
-    (0, "10 02 07 01 F8 10 03", "10 06"),
-    (0, "10 02 02 00 00 05 04 F5 10 03", "10 06"),
-    (0, PARKED_5, "10 06"),
-    // A dump of four parked destinations is one page.
-    (
-        0,
-        "10 02 15 01 02 E8 10 03",
-        "10 06 10 02 17 01 04 00 00 03 FF 03 FF 03 FF 03 FF 0D CF 10 03",
-    ),
-    // What asks for names is acknowledged.
-    (0, "10 02 64 00 01 03 98 10 03", "10 06"),
-    // Noise, ACKs and idle turns are answered by nothing.
-    (0, "00 10 41 10 06 10 06", ""),
-    (0, "", ""),
-];
-
-#[test]
-fn frames_are_answered(rt: HostRuntime) -> Result<(), Fail> {
-    assert_eq!(rt; play(rt.alloc(), FRAMES)?, None);
-    Ok(())
 }
 
 // A NAK is answered five times by the last message frame, and the count begins anew with each frame.
@@ -209,7 +184,8 @@ const LAST_PAGE: &str = "10 02 17 02 02 00 80 03 FF 03 FF 09 58 10 03";
 fn a_dump_comes_in_pages_of_64(rt: HostRuntime) -> Result<(), Fail> {
     let alloc = rt.alloc();
     let plant = Plant::bench(alloc)?;
-    let mut session = Session::start(alloc, &plant, PanelNo::of(0))?;
+    let names = Names::new(alloc, &plant)?;
+    let mut session = Session::start(alloc, &plant, &names, PanelNo::of(0))?;
     let mut board = Board::new();
     let asked = bytes_of(alloc, PAGES_OF_130)?;
     let sent = turn(alloc, &mut session, &mut board, &asked)?;
@@ -225,23 +201,34 @@ fn a_dump_comes_in_pages_of_64(rt: HostRuntime) -> Result<(), Fail> {
     Ok(())
 }
 
+// What a new session of a plant sends for a piece and then for another one.
+fn two_turns(
+    alloc: Global,
+    plant: &Plant,
+    names: &Names,
+    first: &[u8],
+    second: &[u8],
+) -> Result<(Vec<u8>, Vec<u8>), Fail>
+    requires panels { 1 ≤ length plant.now.panels }
+    requires names { names.now ≡ plant.now }
+{
+    let mut session = Session::start(alloc, plant, names, PanelNo::of(0))?;
+    let mut board = Board::new();
+    let sent = turn(alloc, &mut session, &mut board, first)?;
+    Ok((sent, turn(alloc, &mut session, &mut board, second)?))
+}
+
 #[test]
 fn a_frame_cut_anywhere_is_answered_at_its_end(rt: HostRuntime) -> Result<(), Fail> {
     let alloc = rt.alloc();
     let plant = Plant::bench(alloc)?;
+    let names = Names::new(alloc, &plant)?;
     let frame = bytes_of(alloc, "10 02 02 00 00 10 10 03 05 E6 10 03")?;
     let answer = bytes_of(alloc, "10 06 10 02 04 00 00 10 10 03 05 E4 10 03")?;
     for cut in 1..frame.len() {
-        let mut session = Session::start(alloc, &plant, PanelNo::of(0))?;
-        let mut board = Board::new();
-        assert_eq!(rt;
-            turn(alloc, &mut session, &mut board, &frame[..cut])?.len(),
-            0
-        );
-        assert_eq!(rt;
-            turn(alloc, &mut session, &mut board, &frame[cut..])?.as_slice(),
-            answer.as_slice()
-        );
+        let (early, late) = two_turns(alloc, &plant, &names, &frame[..cut], &frame[cut..])?;
+        assert_eq!(rt; early.len(), 0);
+        assert_eq!(rt; late.as_slice(), answer.as_slice());
     }
     Ok(())
 }
@@ -251,7 +238,8 @@ fn a_frame_cut_anywhere_is_answered_at_its_end(rt: HostRuntime) -> Result<(), Fa
 fn a_frame_of_300_bytes_is_bad(rt: HostRuntime) -> Result<(), Fail> {
     let alloc = rt.alloc();
     let plant = Plant::bench(alloc)?;
-    let mut session = Session::start(alloc, &plant, PanelNo::of(0))?;
+    let names = Names::new(alloc, &plant)?;
+    let mut session = Session::start(alloc, &plant, &names, PanelNo::of(0))?;
     let mut board = Board::new();
     let mut piece = bytes_of(alloc, "10 02")?;
     for _ in 0..300 {
@@ -273,7 +261,8 @@ fn a_frame_of_300_bytes_is_bad(rt: HostRuntime) -> Result<(), Fail> {
 fn a_reset_forgets_all(rt: HostRuntime) -> Result<(), Fail> {
     let alloc = rt.alloc();
     let plant = Plant::bench(alloc)?;
-    let mut session = Session::start(alloc, &plant, PanelNo::of(0))?;
+    let names = Names::new(alloc, &plant)?;
+    let mut session = Session::start(alloc, &plant, &names, PanelNo::of(0))?;
     let mut board = Board::new();
     let piece = bytes_of(alloc, "10 02 01 00 00 05 04 F6 10 03 10 02 01 00")?;
     assert_eq!(rt; turn(alloc, &mut session, &mut board, &piece)?.len(), 13);
@@ -290,7 +279,8 @@ fn a_reset_forgets_all(rt: HostRuntime) -> Result<(), Fail> {
 fn a_turn_polls_at_most_32_times(rt: HostRuntime) -> Result<(), Fail> {
     let alloc = rt.alloc();
     let plant = Plant::bench(alloc)?;
-    let mut session = Session::start(alloc, &plant, PanelNo::of(1))?;
+    let names = Names::new(alloc, &plant)?;
+    let mut session = Session::start(alloc, &plant, &names, PanelNo::of(1))?;
     let mut board = Board::new();
     board.always = true;
     assert_eq!(rt; turn(alloc, &mut session, &mut board, &[])?.len(), 32 * 11);

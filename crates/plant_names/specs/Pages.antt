@@ -1,9 +1,10 @@
 -- Pages of names, as panels are sent them: commands 106 and 107, by this project's profile.
-use Rattle.std.specs.Prelude.{ℕ, ◌+◌, ◌-◌, ◌*◌, ◌/◌, ◌%◌, ◌==◌, nat_lt, Bool, ◌||◌, not, if◌then◌else◌, List, [], ◌∷◌, ◌++◌, find, take, drop, length, replicate, Option, Some, None}
+use Rattle.std.specs.Prelude.{ℕ, ◌≤◌, ◌+◌, ◌-◌, ◌*◌, ◌/◌, ◌%◌, ◌==◌, nat_lt, Bool, ◌||◌, not, if◌then◌else◌, List, [], ◌∷◌, ◌++◌, find, take, drop, length, replicate, Option, Some, None}
 use Rattle.std.specs.Option.{option_map}
 use Rattle.std.specs.List.{flat_map}
 use Rattle.plant_config.specs.declared.records.Level.{Level}
 use Rattle.plant_config.specs.Plant.{PlantData}
+use Rattle.plant_config.specs.Limits.{level_destination_limit}
 use Rattle.plant_config.specs.Sites.{level_at}
 use Rattle.plant_config.specs.NamesOfLevel.{source_names, dest_names}
 use Rattle.plant_names.specs.declared.paged.Paged.{Paged}
@@ -74,6 +75,10 @@ names_of_sources plant matrix level = option_map (source_names plant) (level_at 
 
 abbrev pub names_of_dests : PlantData → ℕ → Option (List (List ℕ))
 names_of_dests plant matrix = option_map (dest_names plant) (lowest_level plant matrix)
+
+-- A level has no more names than a level may have destinations or sources.
+abbrev pub AreFew : List (List ℕ) → Type 0
+AreFew names = length names ≤ level_destination_limit
 
 -- the DATA of a page of a level's source names, and of a matrix's destination names: there the level is 0
 abbrev pub source_page_data : PlantData → ℕ → ℕ → ℕ → ℕ → Bool → List ℕ

@@ -5,7 +5,7 @@ ghost use Rattle.std.specs.Option.{option_copied, option_map};
 ghost use Rattle.plant_config.specs.Limits.{matrix_limit, level_limit};
 ghost use Rattle.plant_config.specs.Sites.{level_at};
 ghost use Rattle.plant_names.specs.Lookup.{source_named, dest_named};
-ghost use Rattle.plant_names.specs.Pages.{lowest_level, max_page_len, page_end, names_of_sources, names_of_dests, source_page_data, dest_page_data};
+ghost use Rattle.plant_names.specs.Pages.{AreFew, lowest_level, max_page_len, page_end, names_of_sources, names_of_dests, source_page_data, dest_page_data};
 ghost use Rattle.plant_names.specs.NamesInside.{named, IsNamed};
 
 use crate::level::{LevelNames, number_of};
@@ -122,9 +122,11 @@ impl Names {
         requires room { vec_len out.old + max_page_len ≤ vec_capacity out.old }
         ensures end { result
             ≡ page_end one size first (names_of_sources self.now matrix level) }
+        ensures few { IfSome (names_of_sources self.now matrix level) AreFew }
         ensures text { out.new.items ≡ out.old.items
             ++ source_page_data self.now matrix level size first one }
         ensures room { vec_capacity out.new ≡ vec_capacity out.old }
+        ensures most { vec_len out.new ≤ vec_len out.old + max_page_len }
     {
         let Some(names) = self.level(matrix, level) else {
             return Paged::Nothing;
@@ -143,9 +145,11 @@ impl Names {
         requires size { size ≤ 2 }
         requires room { vec_len out.old + max_page_len ≤ vec_capacity out.old }
         ensures end { result ≡ page_end one size first (names_of_dests self.now matrix) }
+        ensures few { IfSome (names_of_dests self.now matrix) AreFew }
         ensures text { out.new.items ≡ out.old.items
             ++ dest_page_data self.now matrix size first one }
         ensures room { vec_capacity out.new ≡ vec_capacity out.old }
+        ensures most { vec_len out.new ≤ vec_len out.old + max_page_len }
     {
         let Some(names) = self.lowest(matrix) else {
             return Paged::Nothing;

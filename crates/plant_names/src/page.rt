@@ -62,6 +62,7 @@ impl PageAsk {
         ensures text { out.new.items ≡ out.old.items ++ pages.page_data head.command head.matrix
             head.level self.one self.size self.first (Some names.now) }
         ensures room { vec_capacity out.new ≡ vec_capacity out.old }
+        ensures most { vec_len out.new ≤ vec_len out.old + pages.max_page_len }
     {
         let first = usize::from(self.first);
         if first >= names.len() {
@@ -88,6 +89,7 @@ impl PageAsk {
         ensures text { out.new.items ≡ out.old.items ++ pages.page_text head.command head.matrix
             head.level self.size self.first names.now }
         ensures room { vec_capacity out.new ≡ vec_capacity out.old }
+        ensures most { vec_len out.new ≤ vec_len out.old + pages.max_page_len }
     {
         out.push_reserved(head.command);
         out.push_reserved(head.matrix * 16 + head.level);

@@ -1,7 +1,8 @@
 -- What a session sends for its items, one after the other.
 use Rattle.std.proofs.Common.{◌≡◌, ℕ, ◌+◌, ◌⊎◌, inl, inr, true, false, if◌then◌else◌, nat_lt, List, [], ◌∷◌, ◌++◌, length, Option, Some, None, refl, sym, ap, ◌∙◌, subst, arith, append_assoc, append-nil}
 use Rattle.std.specs.Prelude.{IsSome, ◌==◌}
-use Rattle.std.specs.List.{AllByRecursion}
+use Rattle.std.specs.List.{AllByRecursion, flat_map, range_with_len}
+use Rattle.std.specs.Prelude.{map}
 use Rattle.std.proofs.lemmas.Bool.{false≢true}
 use Rattle.dle_framing.specs.Numbers.{ack, nak}
 use Rattle.dle_framing.specs.declared.item.Item.{Item}
@@ -10,6 +11,11 @@ use Rattle.dle_framing.specs.Frame.{frame}
 use Rattle.swp08_messages.specs.declared.message.Message.{Message}
 use Rattle.swp08_messages.specs.Dump.{Page, page_text}
 use Rattle.swp08_messages.specs.Text.{text}
+use Rattle.swp08_messages.specs.declared.message.Message.TheVariants.{SourceNamesAsk, SourceNameAsk, DestNamesAsk, DestNameAsk}
+use Rattle.plant_config.specs.Plant.{PlantData}
+use Rattle.plant_names.specs.Pages as pages
+use Rattle.plant_names.specs.Pages.{page_names, names_of_sources, names_of_dests, source_page_command, dest_page_command}
+use Rattle.panel_session.specs.NamePages.{page_count, page_first, page_from, one_page, all_pages, name_frames}
 use Rattle.plant_core.specs.declared.answer.Answer.{Answer}
 use Rattle.plant_core.specs.declared.answer.Answer.TheVariants.{Say, Dumped}
 use Rattle.panel_session.specs.Asked.{GoodAsks, Asks, AllAsk}
@@ -35,7 +41,7 @@ all_tell-append (sent ∷ one) other tell later = (tell.0, all_tell-append one o
 page-tells : (page : Page) → AllTell (page_frames page)
 page-tells page = elim (length page.sources == 0) as (λ test. AllTell (if test then [] else frame (page_text page) ∷ [])) [
   | true ↦ tt
-  | false ↦ (inr (page, refl), tt)
+  | false ↦ (inr (inl (page, refl)), tt)
 ]
 
 frames_behind-tell : (page : Page) (answers : List Answer) → AllTell (frames_behind page answers)
@@ -59,6 +65,38 @@ polled-tell k [] = tt
 polled-tell k (entry ∷ entries) =
     let answers = polled_by k entry.request entry.answers in
     all_tell-append (frames_of answers) (polled_at k entries) (frames-tell answers) (polled-tell k entries)
+
+-- So do those of pages of names.
+page_of_names-tells : (command matrix level size first : ℕ) (names : List (List ℕ)) → IsTelling (frame (pages.page_text command matrix level size first names))
+page_of_names-tells command matrix level size first names =
+    inr (inr (pages.page_text command matrix level size first names, (command, matrix, level, size, first, names, refl), refl))
+
+each-tells : (page_of : ℕ → List ℕ) → ((number : ℕ) → IsTelling (frame (page_of number))) → (numbers : List ℕ) → AllTell (map frame (map page_of numbers))
+each-tells page_of tells [] = tt
+each-tells page_of tells (number ∷ numbers) = (tells number, each-tells page_of tells numbers)
+
+one_page-tells : (command matrix level size number : ℕ) (names : Option (List (List ℕ))) → AllTell (map frame (one_page command matrix level size number names))
+one_page-tells command matrix level size number None = tt
+one_page-tells command matrix level size number (Some names) =
+    let its = page_names true size number names in
+    elim (nat_lt number (length names)) as (λ test. AllTell (map frame (if test then pages.page_text command matrix level size number its ∷ [] else []))) [
+      | true ↦ (page_of_names-tells command matrix level size number its, tt)
+      | false ↦ tt
+    ]
+
+all_pages-tell : (command matrix level size : ℕ) (names : Option (List (List ℕ))) → AllTell (map frame (all_pages command matrix level size names))
+all_pages-tell command matrix level size None = tt
+all_pages-tell command matrix level size (Some names) =
+    each-tells (λ page. page_from command matrix level size names (page_first size page))
+    (λ page. page_of_names-tells command matrix level size (page_first size page) (page_names false size (page_first size page) names))
+    (range_with_len 0 (page_count size (length names)))
+
+names-tell : (plant : PlantData) (message : Message) → AllTell (name_frames plant message)
+names-tell plant (SourceNamesAsk matrix level size) = all_pages-tell source_page_command matrix level size (names_of_sources plant matrix level)
+names-tell plant (SourceNameAsk matrix level size number) = one_page-tells source_page_command matrix level size number (names_of_sources plant matrix level)
+names-tell plant (DestNamesAsk matrix size) = all_pages-tell dest_page_command matrix 0 size (names_of_dests plant matrix)
+names-tell plant (DestNameAsk matrix size number) = one_page-tells dest_page_command matrix 0 size number (names_of_dests plant matrix)
+names-tell plant message = tt
 
 -- What may be sent again tells something.
 abbrev pub IsLast : Option (List ℕ) → Type 0
@@ -87,11 +125,12 @@ answers-nak bytes (Some sent) repeats is =
       | false ↦ record { bytes = []; is_answered = inl refl; bytes_are = sym (append-nil bytes); last = is }
     ]
 
-module _ (entries : List PlantEntry) where
+module _ (plant : PlantData) (entries : List PlantEntry) where
   -- A good frame is answered by ACK, and by what the plant told where it was sent something.
   good_output : (carried : List ℕ) (a : Asked) (n : ℕ) (output : Output) → GoodAsks carried a → IsTold n a entries
-      → (output_with n a entries output ≡ with_polls (n + 1) entries (with_control ack output))
-      ⊎ ((output_with n a entries output ≡ told_output n entries (told_at n entries) output) × IsSome (told_at n entries))
+      → (output_with plant n a entries output ≡ with_polls (n + 1) entries (with_control ack output))
+      ⊎ ((output_with plant n a entries output ≡ told_output n entries (told_at n entries) output) × IsSome (told_at n entries))
+      ⊎ ((message : Message) × (output_with plant n a entries output ≡ with_polls (n + 1) entries (with_frames (name_frames plant message) (with_control ack output))))
   good_output carried a n output asks told = grind arith
 
   -- An item is answered, and then come the polls behind it.
@@ -116,6 +155,7 @@ module _ (entries : List PlantEntry) where
 
   answers-good : (carried : List ℕ) (n : ℕ) (output after : Output) → IsLast output.last
       → (after ≡ with_polls (n + 1) entries (with_control ack output)) ⊎ ((after ≡ told_output n entries (told_at n entries) output) × IsSome (told_at n entries))
+      ⊎ ((message : Message) × (after ≡ with_polls (n + 1) entries (with_frames (name_frames plant message) (with_control ack output))))
       → AnswersFirst (Good carried) n output after
   answers-good carried n output after last = elim [
     | (inl noted) ↦ record {
@@ -123,26 +163,36 @@ module _ (entries : List PlantEntry) where
       answers = record { bytes = ack; is_answered = ([], tt, sym (append-nil ack)); bytes_are = refl; last = last };
       after_is = noted;
     }
-    | (inr told) ↦ answers-told carried n output after (told_at n entries) last told.1 told.0
+    | (inr (inl told)) ↦ answers-told carried n output after (told_at n entries) last told.1 told.0
+    | (inr (inr named)) ↦ (let frames = name_frames plant named.0 in record {
+      next = with_frames frames (with_control ack output);
+      answers = record {
+        bytes = ack ++ in_a_row frames;
+        is_answered = (frames, names-tell plant named.0, refl);
+        bytes_are = frames-bytes frames (with_control ack output) ∙ append_assoc output.bytes ack (in_a_row frames);
+        last = last-frames frames (with_control ack output) (names-tell plant named.0) last;
+      };
+      after_is = named.1;
+    })
   ]
 
   answers-first : (item : Item (List ℕ)) (a : Asked) (n : ℕ) (output : Output) → Asks item a → IsTold n a entries → IsLast output.last
-      → AnswersFirst item n output (output_with n a entries output)
-  answers-first (Good carried) a n output asks told last = answers-good carried n output (output_with n a entries output) last (good_output carried a n output asks told)
+      → AnswersFirst item n output (output_with plant n a entries output)
+  answers-first (Good carried) a n output asks told last = answers-good carried n output (output_with plant n a entries output) last (good_output carried a n output asks told)
   answers-first Bad a n output asks told last = record {
     next = with_control nak output;
     answers = record { bytes = nak; is_answered = refl; bytes_are = refl; last = last };
-    after_is = ap (λ (a : Asked). output_with n a entries output) asks;
+    after_is = ap (λ (a : Asked). output_with plant n a entries output) asks;
   }
   answers-first Ack a n output asks told last = record {
     next = output;
     answers = record { bytes = []; is_answered = refl; bytes_are = sym (append-nil output.bytes); last = last };
-    after_is = ap (λ (a : Asked). output_with n a entries output) asks;
+    after_is = ap (λ (a : Asked). output_with plant n a entries output) asks;
   }
   answers-first Nak a n output asks told last = record {
     next = repeated output;
     answers = answers-nak output.bytes output.last output.repeats last;
-    after_is = ap (λ (a : Asked). output_with n a entries output) asks;
+    after_is = ap (λ (a : Asked). output_with plant n a entries output) asks;
   }
 
   -- what was told of items in front, and of those behind
@@ -154,7 +204,7 @@ module _ (entries : List PlantEntry) where
   told_front front later told = (told_parts front later 0 (length front) (omega arith) told).0
 
   abbrev pub output_of : List Asked → Output
-  output_of asked = output_from 0 asked entries nothing_sent
+  output_of asked = output_from plant 0 asked entries nothing_sent
 
   -- One item more is answered,
   pub answers-next : (front others : List Asked) (item : Item (List ℕ)) (a : Asked) (n : ℕ) → n ≡ 0 + length front → Asks item a → AllTold 0 (front ++ a ∷ others) entries
@@ -162,7 +212,7 @@ module _ (entries : List PlantEntry) where
   answers-next front others item a n is asks told last =
       let parts = told_parts front (a ∷ others) 0 n is told in
       let First : Output → Type 0 = λ after. AnswersFirst item n (output_of front) after in
-      subst First (sym (output_more front a 0 n entries nothing_sent is parts.0)) (answers-first item a n (output_of front) asks parts.1.0 last)
+      subst First (sym (output_more plant front a 0 n entries nothing_sent is parts.0)) (answers-first item a n (output_of front) asks parts.1.0 last)
 
   -- behind which what may be sent again tells something,
   pub last-next : (item : Item (List ℕ)) (n : ℕ) (before after : Output) → AnswersFirst item n before after → IsLast after.last

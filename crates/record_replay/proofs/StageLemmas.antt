@@ -61,8 +61,8 @@ turn_done plant panel piece before after session stand used more has stands ran 
     let made = turn_exists step Fits plant panel (stand.pasts panel) stand.state piece has (stands.settled.each panel)
     (λ history request legal fits. fits-run plant stand.state history request stands.settled.plant_is fits) in
     let same = one_turn_lem step Fits plant panel (stand.pasts panel) stand.state made.0 ran.turn made.1 more made.3 worked (made.2 ∙ sym ran.piece_is) in
-    let settled : Settled panel (turned ran.turn more (stand.pasts panel)) =
-    subst (Settled panel) (λ i. turned (same.0 i) (same.1 i) (stand.pasts panel)) made.4 in
+    let settled : Settled plant panel (turned ran.turn more (stand.pasts panel)) =
+    subst (Settled plant panel) (λ i. turned (same.0 i) (same.1 i) (stand.pasts panel)) made.4 in
     let next = behind_turn panel ran.turn more stand in
     record {
       next = next;

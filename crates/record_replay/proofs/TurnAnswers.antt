@@ -3,6 +3,7 @@ use Rattle.std.proofs.Common.{◌≡◌, ℕ, ◌+◌, ◌<◌, ◌≤◌, List,
 use Rattle.std.proofs.lemmas.List.{append_cancel_left}
 use Rattle.dle_framing.specs.declared.item.Item.{Item}
 use Rattle.dle_framing.specs.Items.{items}
+use Rattle.plant_config.specs.Plant.{PlantData}
 use Rattle.panel_session.specs.Asked.{AllAsk}
 use Rattle.panel_session.specs.Entry.{PlantEntry}
 use Rattle.panel_session.specs.Run.{turned}
@@ -39,29 +40,29 @@ answered-cons item bytes its notices start end is later =
 
 -- The entries so far, of which `now` are those of a turn. There are `first` items before it and `next` with its own: it
 -- polls behind all of them alone, and behind more than `first` only its own entries are polls.
-module _ (entries now : List PlantEntry) (first next : ℕ) (of : IsOfTurn first next now) (polled : (k : ℕ) → first < k → polled_at k entries ≡ polled_at k now) where
+module _ (plant : PlantData) (entries now : List PlantEntry) (first next : ℕ) (of : IsOfTurn first next now) (polled : (k : ℕ) → first < k → polled_at k entries ≡ polled_at k now) where
   answered : (asked front : List Asked) (its : List (Item (List ℕ))) (n : ℕ) (start : List ℕ) → n ≡ 0 + length front → next ≡ n + length asked → first ≤ n → AllAsk its asked
-      → AllTold 0 (front ++ asked) entries → IsLast (output_of entries front).last → (output_of entries front).bytes ≡ start ++ in_a_row (polled_at n now)
-      → Answered its (polled_at next now) start (output_of entries (front ++ asked)).bytes
+      → AllTold 0 (front ++ asked) entries → IsLast (output_of plant entries front).last → (output_of plant entries front).bytes ≡ start ++ in_a_row (polled_at n now)
+      → Answered its (polled_at next now) start (output_of plant entries (front ++ asked)).bytes
   answered [] front [] n start is all from ask told last sent =
-      let Ends : ℕ → Type 0 = λ n. (output_of entries front).bytes ≡ start ++ in_a_row (polled_at n now) in
+      let Ends : ℕ → Type 0 = λ n. (output_of plant entries front).bytes ≡ start ++ in_a_row (polled_at n now) in
       let here : n ≡ next = omega arith in
       record {
         answers = [];
         are = tt;
-        end_is = ap (λ (asked : List Asked). (output_of entries asked).bytes) (append-nil front) ∙ subst Ends here sent;
+        end_is = ap (λ (asked : List Asked). (output_of plant entries asked).bytes) (append-nil front) ∙ subst Ends here sent;
       }
   answered [] front (item ∷ its) n start is all from ask told last sent = absurd ask
   answered (a ∷ asked) front [] n start is all from ask told last sent = absurd ask
   answered (a ∷ asked) front (item ∷ its) n start is all from ask told last sent =
-      let output = output_of entries front in
-      let after = output_of entries (front ++ a ∷ []) in
-      let one = answers-next entries front asked item a n is ask.0 told last in
+      let output = output_of plant entries front in
+      let after = output_of plant entries (front ++ a ∷ []) in
+      let one = answers-next plant entries front asked item a n is ask.0 told last in
       let same = append_assoc front (a ∷ []) asked in
       let ToldOf : List Asked → Type 0 = λ asked. AllTold 0 asked entries in
       let notices = polled_at next now in
       let bytes = one.answers.bytes in
-      let AnsweredOf : List Asked → Type 0 = λ asked. Answered its notices (start ++ bytes) (output_of entries asked).bytes in
+      let AnsweredOf : List Asked → Type 0 = λ asked. Answered its notices (start ++ bytes) (output_of plant entries asked).bytes in
       let begun : output.bytes ≡ start = sent ∙ ap (λ (frames : List (List ℕ)). start ++ in_a_row frames) (of.polled n (omega arith)) ∙ append-nil start in
       let ended : one.next.bytes ≡ start ++ bytes = one.answers.bytes_are ∙ ap (λ (sent : List ℕ). sent ++ bytes) begun in
       let sent_then : after.bytes ≡ (start ++ bytes) ++ in_a_row (polled_at (n + 1) now) =
@@ -69,20 +70,20 @@ module _ (entries now : List PlantEntry) (first next : ℕ) (of : IsOfTurn first
       ∙ frames-bytes (polled_at (n + 1) entries) one.next
       ∙ (λ i. ended i ++ in_a_row (polled (n + 1) (omega arith) i)) in
       let later = answered asked (front ++ a ∷ []) its (n + 1) (start ++ bytes) (omega (arith, length-append front (a ∷ []))) (omega arith) (omega arith) ask.1
-      (subst ToldOf (sym same) told) (last-next entries item n output after one) sent_then in
-      answered-cons item bytes its notices start (output_of entries (front ++ a ∷ asked)).bytes one.answers.is_answered (subst AnsweredOf same later)
+      (subst ToldOf (sym same) told) (last-next plant entries item n output after one) sent_then in
+      answered-cons item bytes its notices start (output_of plant entries (front ++ a ∷ asked)).bytes one.answers.is_answered (subst AnsweredOf same later)
 
 -- What was sent in turns that are over is the output of their entries: all that their items sent to the plant has its entry,
 -- and no entry is of a later item.
-record Says (turns : List Turn) (sent : List ℕ) : Type 0 where
+record Says (plant : PlantData) (turns : List Turn) (sent : List ℕ) : Type 0 where
   asked : List Asked
   ask : AllAsk (items (bytes_of turns)) asked
   told : AllTold 0 asked (entries_of turns)
   none : NoneFrom (length (items (bytes_of turns))) (entries_of turns)
-  bytes : (output_of (entries_of turns) asked).bytes ≡ sent
+  bytes : (output_of plant (entries_of turns) asked).bytes ≡ sent
 
-says : (panel : ℕ) (past : Past) → Settled panel past → Says past.turns past.sent
-says panel past settled =
+says : (plant : PlantData) (panel : ℕ) (past : Past) → Settled plant panel past → Says plant past.turns past.sent
+says plant panel past settled =
     let k = settled.keeps in
     let asked : List Asked = k.before ++ k.asked in
     let entries : entries_so_far past ≡ entries_of past.turns =
@@ -97,20 +98,20 @@ says panel past settled =
       ask = subst AskOf (sym k.end_in ∙ ap items read) (all_ask-append (items (bytes_of past.turns)) k.ended k.before k.asked k.ask_before k.ask);
       told = subst ToldIn entries k.stage.2;
       none = subst NoneOf read (subst NoneIn entries k.none_from);
-      bytes = ap (λ (entries : List PlantEntry). (output_of entries asked).bytes) (sym entries) ∙ ap (λ (output : Output). output.bytes) k.output ∙ append-nil past.sent;
+      bytes = ap (λ (entries : List PlantEntry). (output_of plant entries asked).bytes) (sym entries) ∙ ap (λ (output : Output). output.bytes) k.output ∙ append-nil past.sent;
     }
 
 -- So the bytes that are sent in a turn behind them answer the items that end in its piece, where all turns are over behind
 -- it too.
-pub turn_answers : (panel : ℕ) (past : Past) (turn : Turn) (more : List ℕ) → IsTurn panel past.turns turn → Settled panel past → Settled panel (turned turn more past)
+pub turn_answers : (plant : PlantData) (panel : ℕ) (past : Past) (turn : Turn) (more : List ℕ) → IsTurn panel past.turns turn → Settled plant panel past → Settled plant panel (turned turn more past)
     → AnswersItems (bytes_of past.turns) turn.piece more
-turn_answers panel past turn more is settled settled_then =
+turn_answers plant panel past turn more is settled settled_then =
     let turns = past.turns in
     let text = bytes_of turns in
     let first = length (items text) in
     let next = length (items (text ++ turn.piece)) in
-    let so = says panel past settled in
-    let then = says panel (turned turn more past) settled_then in
+    let so = says plant panel past settled in
+    let then = says plant panel (turned turn more past) settled_then in
     let now = entries_in turn in
     let old = entries_of turns in
     let of : IsOfTurn first next now = turn_entries panel turns turn is in
@@ -129,18 +130,18 @@ turn_answers panel past turn more is settled settled_then =
       told = λ k from below. told_at-front k old now (of.told k below);
       polled = λ k from below. polled_at-append k old now ∙ ap (λ (frames : List (List ℕ)). polled_at k old ++ frames) (of.polled k (omega arith)) ∙ append-nil (polled_at k old);
     } in
-    let begun : (output_of (old ++ now) so.asked).bytes ≡ past.sent ++ in_a_row (polled_at first now) =
-    ap (λ (output : Output). output.bytes) (output_later so.asked 0 first old (old ++ now) (polled_at first now) nothing_sent here so.told same (polled_at-append first old now))
-    ∙ frames-bytes (polled_at first now) (output_of old so.asked)
+    let begun : (output_of plant (old ++ now) so.asked).bytes ≡ past.sent ++ in_a_row (polled_at first now) =
+    ap (λ (output : Output). output.bytes) (output_later plant so.asked 0 first old (old ++ now) (polled_at first now) nothing_sent here so.told same (polled_at-append first old now))
+    ∙ frames-bytes (polled_at first now) (output_of plant old so.asked)
     ∙ ap (λ (sent : List ℕ). sent ++ in_a_row (polled_at first now)) so.bytes in
     let polled : (k : ℕ) → first < k → polled_at k (old ++ now) ≡ polled_at k now = λ k from.
     polled_at-append k old now ∙ ap (λ (frames : List (List ℕ)). frames ++ polled_at k now) (so.none.polled k from) in
-    let front = told_front (old ++ now) so.asked is.asked told in
-    let last : IsLast (output_of (old ++ now) so.asked).last =
-    last-items (old ++ now) so.asked [] (items text) so.ask front (last-frames (polled_at 0 (old ++ now)) nothing_sent (polled-tell 0 (old ++ now)) tt) in
-    let all = answered (old ++ now) now first next of polled is.asked so.asked is.ended first past.sent here counted (omega arith) is.ask told last begun in
+    let front = told_front plant (old ++ now) so.asked is.asked told in
+    let last : IsLast (output_of plant (old ++ now) so.asked).last =
+    last-items plant (old ++ now) so.asked [] (items text) so.ask front (last-frames (polled_at 0 (old ++ now)) nothing_sent (polled-tell 0 (old ++ now)) tt) in
+    let all = answered plant (old ++ now) now first next of polled is.asked so.asked is.ended first past.sent here counted (omega arith) is.ask told last begun in
     let told_in : List ℕ = in_a_row all.answers ++ in_a_row (polled_at next now) in
-    let sent : past.sent ++ more ≡ (output_of (old ++ now) (so.asked ++ is.asked)).bytes = sym then.bytes ∙ (λ i. (output_of (entries i) (asked i)).bytes) in
+    let sent : past.sent ++ more ≡ (output_of plant (old ++ now) (so.asked ++ is.asked)).bytes = sym then.bytes ∙ (λ i. (output_of plant (entries i) (asked i)).bytes) in
     let ends : past.sent ++ more ≡ past.sent ++ told_in = ◌∙◌ {c = past.sent ++ told_in} sent all.end_is in
     record {
       ended = is.ended;

@@ -28,8 +28,8 @@ pub work_answers : (plant : PlantData) (panel : ℕ) (piece line : List ℕ) (st
 work_answers plant panel piece line stand next settled has done =
     let past = stand.pasts panel in
     let then : Past = turned done.0 done.1 past in
-    let settled_then : Settled panel ((behind_turn panel done.0 done.1 stand).pasts panel) =
+    let settled_then : Settled plant panel ((behind_turn panel done.0 done.1 stand).pasts panel) =
     (work_settled plant (Read panel piece) line stand (behind_turn panel done.0 done.1 stand) settled has (done.0, done.1, done.2, done.3, done.4, refl)).each panel in
-    let SettledBy : Bool → Type 0 = λ test. Settled panel (cond test then past) in
+    let SettledBy : Bool → Type 0 = λ test. Settled plant panel (cond test then past) in
     let Of : List ℕ → Type 0 = λ piece. AnswersItems (bytes_of past.turns) piece done.1 in
-    subst Of done.2 (turn_answers panel past done.0 done.1 done.3.is_turn (settled.each panel) (subst SettledBy (eq-eqb panel panel refl) settled_then))
+    subst Of done.2 (turn_answers plant panel past done.0 done.1 done.3.is_turn (settled.each panel) (subst SettledBy (eq-eqb panel panel refl) settled_then))

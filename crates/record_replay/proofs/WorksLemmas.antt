@@ -38,23 +38,23 @@ fits-run plant state history request is fits =
 
 -- A replay begins with each session between two turns.
 pub settled-begun : (plant : PlantData) → IsSettled plant (begun plant)
-settled-begun plant = record { plant_is = refl; each = settled_nothing }
+settled-begun plant = record { plant_is = refl; each = settled_nothing plant }
 
 -- Where one session has done more and is between two turns again, each is.
-settled-with : (panel : ℕ) (past : Past) (pasts : ℕ → Past) → Settled panel past → ((other : ℕ) → Settled other (pasts other))
-    → (other : ℕ) → Settled other (with_past panel past pasts other)
-settled-with panel past pasts here each other =
-    elim (other == panel) as (λ b. (other == panel) ≡ b → Settled other (cond b past (pasts other))) [
-      | true ↦ λ same. subst (λ (one : ℕ). Settled one past) (sym (eqb-true other panel same)) here
+settled-with : (plant : PlantData) (panel : ℕ) (past : Past) (pasts : ℕ → Past) → Settled plant panel past → ((other : ℕ) → Settled plant other (pasts other))
+    → (other : ℕ) → Settled plant other (with_past panel past pasts other)
+settled-with plant panel past pasts here each other =
+    elim (other == panel) as (λ b. (other == panel) ≡ b → Settled plant other (cond b past (pasts other))) [
+      | true ↦ λ same. subst (λ (one : ℕ). Settled plant one past) (sym (eqb-true other panel same)) here
       | false ↦ λ apart. each other
     ] refl
 
 -- So it is behind a turn,
 pub settled-turn : (plant : PlantData) (panel : ℕ) (turn : Turn) (more : List ℕ) (stand : Stand) → IsSettled plant stand
-    → Settled panel (turned turn more (stand.pasts panel)) → IsSettled plant (behind_turn panel turn more stand)
+    → Settled plant panel (turned turn more (stand.pasts panel)) → IsSettled plant (behind_turn panel turn more stand)
 settled-turn plant panel turn more stand settled here = record {
   plant_is = run-plant stand.state (entries_in turn) ∙ settled.plant_is;
-  each = settled-with panel (turned turn more (stand.pasts panel)) stand.pasts here settled.each;
+  each = settled-with plant panel (turned turn more (stand.pasts panel)) stand.pasts here settled.each;
 }
 
 -- and once a panel has left.

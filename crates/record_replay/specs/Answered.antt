@@ -8,11 +8,20 @@ use Rattle.dle_framing.specs.declared.item.Item.TheVariants.{Good, Bad, Ack, Nak
 use Rattle.swp08_messages.specs.declared.message.Message.{Message}
 use Rattle.swp08_messages.specs.Text.{text}
 use Rattle.swp08_messages.specs.Dump.{Page, page_text}
+use Rattle.plant_names.specs.Pages as pages
 use Rattle.panel_session.specs.Turns.{EndIn}
 
--- A frame that tells a panel something: that of a message, or of a page of a dump.
+-- DATA are those of a page of names.
+abbrev pub IsPageOfNames : List ℕ → Type 0
+IsPageOfNames bytes =
+    (command matrix level size first : ℕ) × (names : List (List ℕ)) × (bytes ≡ pages.page_text command matrix level size first names)
+
+-- A frame that tells a panel something: that of a message, of a page of a dump, or of a page of names.
 abbrev pub IsTelling : List ℕ → Type 0
-IsTelling bytes = ((message : Message) × (bytes ≡ frame (text message))) ⊎ ((page : Page) × (bytes ≡ frame (page_text page)))
+IsTelling bytes =
+    ((message : Message) × (bytes ≡ frame (text message)))
+    ⊎ ((page : Page) × (bytes ≡ frame (page_text page)))
+    ⊎ ((carried : List ℕ) × IsPageOfNames carried × (bytes ≡ frame carried))
 
 -- frames one after the other
 abbrev pub in_a_row : List (List ℕ) → List ℕ

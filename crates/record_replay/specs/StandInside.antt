@@ -7,4 +7,4 @@ use Rattle.record_replay.specs.Replay.{Stand}
 -- The state is one of this plant, and no session is in the midst of a turn.
 pub record IsSettled (plant : PlantData) (stand : Stand) : Type 0 where
   pub plant_is : stand.state.plant ≡ plant
-  pub each : (panel : ℕ) → Settled panel (stand.pasts panel)
+  pub each : (panel : ℕ) → Settled plant panel (stand.pasts panel)

@@ -1,9 +1,10 @@
 //! A script's lines are all read, and then their works are done.
 
-ghost use Rattle.std.specs.Prelude.{◌≡◌, Err, ℕ, OnOk, IsErrOf};
+ghost use Rattle.std.specs.Prelude.{◌≡◌, ◌≢◌, Err, ℕ, OnOk, IsErrOf};
 ghost use Rattle.ctl_io.specs.Faults.{counted};
 ghost use Rattle.record_replay.specs.declared.replay.ReplayFault.TheVariants.{NoMemory};
 ghost use Rattle.record_replay.specs.Script.{IsFirstBad};
+ghost use Rattle.record_replay.specs.LineInside.{HasWorks};
 ghost use Rattle.record_replay.specs.Replay.{HasReplayed, HasReplayedFront, output_failed};
 
 use crate::check::check_lines;
@@ -13,6 +14,7 @@ use crate::room::Room;
 use crate::stage::Stage;
 use ctl_io::Sink;
 use plant_config::Plant;
+use plant_names::Names;
 use std::alloc::{AllocError, Global};
 
 /// Why a replay ended early.
@@ -59,10 +61,34 @@ pub fn replay_script<K: Sink>(
     if let Some(number) = check_lines(&mut digits, plant, script) {
         return Err(ReplayFault::BadLine(number));
     }
-    let mut stage = Stage::start(alloc, plant)?;
+    let names = Names::new(alloc, plant)?;
+    replay_lines(alloc, plant, &names, &mut digits, script, out)
+}
+
+// So where each line has a form, with the plant's names.
+fn replay_lines<K: Sink>(
+    alloc: Global,
+    plant: &Plant,
+    names: &Names,
+    digits: &mut Digits,
+    script: &[u8],
+    out: &mut K,
+) -> Result<(), ReplayFault>
+    requires names { names.now ≡ plant.now }
+    requires form { HasWorks plant.now script.now }
+    ensures ok { OnOk result
+        (HasReplayed plant.now script.now (K.written out.old) (K.written out.new)) }
+    ensures no_bad_line { (number : ℕ) → result ≢ Err (ReplayFault.BadLine number) }
+    ensures output_fault { IsErrOf result ReplayFault.OutputFault
+        → HasReplayedFront plant.now script.now (K.written out.old) (K.written out.new) }
+    ensures no_memory { IsErrOf result ReplayFault.NoMemory
+        → K.written out.new ≡ K.written out.old }
+    ensures count { K.faults out.new ≡ counted (output_failed result) (K.faults out.old) }
+{
+    let mut stage = Stage::start(alloc, plant, names)?;
     let mut room = Room::new(alloc)?;
     let mut output = Output::new(&mut room, out);
-    stage.work(script, &mut digits, &mut output);
+    stage.work(script, digits, &mut output);
     if output.finish() {
         Ok(())
     } else {

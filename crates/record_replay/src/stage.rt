@@ -15,6 +15,7 @@ use history_lock::OutBox;
 use panel_session::{Session, run_turn};
 use plant_config::{PanelNo, Plant};
 use plant_core::{Answer, PlantState, Request};
+use plant_names::Names;
 use std::alloc::{AllocError, Global};
 
 /// One plant, and a session for each of its panels.
@@ -32,13 +33,18 @@ impl<'p> Stage<'p> {
     ghost use Rattle.record_replay.specs.StageInside.{StandsAt, MayDo, DoesWork, DoesLine, DoesScript};
 
     // Nothing happened yet. It takes all the memory that it ever needs.
-    pub(crate) fn start(alloc: Global, plant: &'p Plant) -> Result<Stage<'p>, AllocError>
+    pub(crate) fn start(
+        alloc: Global,
+        plant: &'p Plant,
+        names: &'p Names,
+    ) -> Result<Stage<'p>, AllocError>
+        requires { names.now ≡ plant.now }
         ensures { IfOk result (λ stage. StandsAt plant.now stage (begun plant.now) 0) }
     {
         Ok(Stage {
             plant,
             state: PlantState::start(alloc, plant)?,
-            sessions: start_sessions(alloc, plant)?,
+            sessions: start_sessions(alloc, plant, names)?,
             none: OutBox::new(alloc, PlantState::room_of(plant))?,
         })
     }
@@ -123,13 +129,19 @@ impl<'p> Stage<'p> {
 }
 
 // A session for each panel of a plant.
-fn start_sessions<'p>(alloc: Global, plant: &'p Plant) -> Result<Vec<Session<'p>>, AllocError>
+fn start_sessions<'p>(
+    alloc: Global,
+    plant: &'p Plant,
+    names: &'p Names,
+) -> Result<Vec<Session<'p>>, AllocError>
+    requires { names.now ≡ plant.now }
     ensures { IfOk result (λ sessions. AreNew plant.now sessions.items) }
 {
     let panels = plant.panels().len();
     let mut sessions = Vec::with_capacity(alloc, panels)?;
     for panel in 0..panels {
-        sessions.push_reserved(Session::start(alloc, plant, PanelNo::of(panel as u32))?);
+        let panel = PanelNo::of(panel as u32);
+        sessions.push_reserved(Session::start(alloc, plant, names, panel)?);
     }
     Ok(sessions)
 }

@@ -11,6 +11,7 @@ use crate::{Outlet, Session, run_turn};
 use history_lock::{Machine, OutBox};
 use plant_config::{PanelNo, Plant};
 use plant_core::{Answer, Request};
+use plant_names::Names;
 use std::test::Fail;
 use swp08_messages::{Message, Point};
 
@@ -99,7 +100,8 @@ const SENT: &[u8] = b"\x10\x15\x10\x06\x10\x02\x03\x00\x07\x05\x7F\x05\x6D\x10\x
 fn an_outlet_is_given_what_a_turn_sends(rt: HostRuntime) -> Result<(), Fail> {
     let alloc = rt.alloc();
     let plant = Plant::bench(alloc)?;
-    let mut session = Session::start(alloc, &plant, PanelNo::of(0))?;
+    let names = Names::new(alloc, &plant)?;
+    let mut session = Session::start(alloc, &plant, &names, PanelNo::of(0))?;
     let mut out = Given {
         bytes: Vec::new(alloc),
         lost: false,

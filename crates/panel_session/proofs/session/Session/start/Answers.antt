@@ -8,7 +8,7 @@ use Rattle.panel_session.proofs.session.Session.start.Goals as goal
 pub returns-clause-new : goal.returns-clause-new
 unfolding StandsFor
 returns-clause-new c = (
-  stands_new c.args.plant.now c.args.panel _ refl refl c.requires c.new.ensures (ap (λ (output : Output). reading c.args.panel 0 0 0 output) c.in_ok-new.ensures) refl refl refl
+  stands_new c.args.plant.now c.args.panel _ refl c.requires.names refl c.requires.panel c.new.ensures (ap (λ (output : Output). reading c.args.panel 0 0 0 output) c.in_ok-new.ensures) refl refl refl
       c.in_ok-new-2.ensures.places,
   c.in_ok-new-2.ensures.empty,
   λ poll. cc,

@@ -1,0 +1,15 @@
+use Rattle.std.proofs.Common.{◌≢◌, List, [], sym, subst}
+use Rattle.dle_framing.specs.Numbers.{ack}
+use Rattle.panel_session.specs.declared.asked.Asked.{Asked}
+use Rattle.panel_session.specs.NamePages.{name_frames}
+use Rattle.panel_session.specs.OutgoingInside.{emptied}
+use Rattle.panel_session.specs.TakenInside.{sent_by}
+use Rattle.panel_session.specs.Text.{with_control}
+use Rattle.panel_session.proofs.NamePageLemmas.{with_frames-some}
+use Rattle.panel_session.proofs.session.Session.take.Goals as goal
+
+pub returns-in-Named-clause-some : goal.returns-in-Named-clause-some
+returns-in-Named-clause-some c = λ sending.
+    let SomeIsSent : Asked → Type 0 = λ asked. sent_by c.args.self.now.names.now asked c.args.self.now.outgoing ≢ [] in
+    subst SomeIsSent (sym c.in-Named.is)
+    (with_frames-some (name_frames c.args.self.now.names.now c.in-Named.message) (with_control ack (emptied c.args.self.now.outgoing)) (λ is. cc))

@@ -1,0 +1,44 @@
+//! The pages of names that are sent for one message.
+
+ghost use Rattle.std.specs.Prelude.{◌≡◌, IfSome};
+ghost use Rattle.dle_framing.specs.Numbers.{ack};
+ghost use Rattle.swp08_messages.specs.Text.{InRange};
+ghost use Rattle.panel_session.specs.Text.{with_frames, with_control};
+ghost use Rattle.panel_session.specs.NamePages.{name_frames};
+ghost use Rattle.panel_session.specs.NamePagesInside.{IsNamePage, HasRoomFor, GoesOnWith, AddsNames};
+ghost use Rattle.panel_session.specs.OutgoingInside.{emptied};
+
+use crate::name_page::NamePage;
+use crate::outgoing::Outgoing;
+use plant_names::{Names, Paged};
+use swp08_messages::Message;
+
+impl Outgoing {
+    // An ACK is to be sent, and the pages of names that this message asks for.
+    pub(crate) fn names(&mut self, names: &Names, message: Message)
+        requires { InRange message }
+        ensures { self.new
+            ≡ with_frames (name_frames names.now message) (with_control ack (emptied self.old)) }
+    {
+        self.ack();
+        let mut left = NamePage::asked_by(message);
+        while let Some(page) = left {
+            left = self.add_names(names, page);
+        }
+    }
+
+    // This page of names is to be sent too, if there is one. It answers the page that is behind it.
+    fn add_names(&mut self, names: &Names, page: NamePage) -> Option<NamePage>
+        requires page { IsNamePage page }
+        requires room { HasRoomFor page self.old }
+        ensures output { AddsNames names.now page self.old result self.new }
+        ensures next { IfSome result (λ next. GoesOnWith page next) }
+        ensures room { IfSome result (λ next. HasRoomFor next self.new) }
+    {
+        match self.send_names(names, page) {
+            Paged::Nothing => None,
+            Paged::Last => None,
+            Paged::More(first) => Some(page.at(first)),
+        }
+    }
+}
