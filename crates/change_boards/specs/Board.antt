@@ -15,7 +15,9 @@ pub record Board : Type 0 where
 -- a board is stored as its fields
 abbrev pub code : Coded Board
 code =
-    code_by (Destinations × (Destinations × Bool)) (coded× (set_code coded_ℕ) (coded× (set_code coded_ℕ) coded_bool)) (λ board. (board.source, (board.protect, board.left)))
+    code_by (Destinations × (Destinations × Bool))
+    (coded× (set_code coded_ℕ) (coded× (set_code coded_ℕ) coded_bool))
+    (λ board. (board.source, (board.protect, board.left)))
     (λ fields. record { source = fields.0; protect = fields.1.0; left = fields.1.1 }) (λ _. refl)
 
 -- A board has no notices.
@@ -47,7 +49,8 @@ with_dests board Protect dests = record board { protect = dests }
 
 -- A mark puts the destination into the set of its sort. On the board of a panel that has left it changes nothing.
 abbrev pub marked : Board → ℕ → Sort → Board
-marked board dest sort = if board.left then board else with_dests board sort (insert (dests_of board sort) dest)
+marked board dest sort =
+    if board.left then board else with_dests board sort (insert (dests_of board sort) dest)
 
 -- Which of the lowest source notice and the lowest protect notice comes first: that of the lower destination, and for
 -- one destination the source notice.
@@ -55,7 +58,8 @@ abbrev pub sooner : Option ℕ → Option ℕ → Option (ℕ × Sort)
 sooner None None = None
 sooner None (Some protect) = Some (protect, Protect)
 sooner (Some source) None = Some (source, Source)
-sooner (Some source) (Some protect) = if nat_lt protect source then Some (protect, Protect) else Some (source, Source)
+sooner (Some source) (Some protect) =
+    if nat_lt protect source then Some (protect, Protect) else Some (source, Source)
 
 -- the notice that is taken next
 abbrev pub next : Board → Option (ℕ × Sort)

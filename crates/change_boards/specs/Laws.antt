@@ -9,7 +9,8 @@ use Rattle.change_boards.specs.Notices.{board_of, has, has_left, with_mark, with
 -- The panels have the same notices but for this one.
 abbrev pub SameNoticesBut : List Board → List Board → ℕ → ℕ → Sort → Type 0
 SameNoticesBut old new panel dest sort = (p d : ℕ) (s : Sort)
-    → (let notice : ℕ × ℕ × Sort = (p, d, s) in notice ≢ (panel, dest, sort)) → has new p d s ≡ has old p d s
+    → (let notice : ℕ × ℕ × Sort = (p, d, s) in notice ≢ (panel, dest, sort))
+    → has new p d s ≡ has old p d s
 
 -- The panels have the same notices but for this one, and those that have left are the same.
 pub record DiffersAt (old new : List Board) (panel dest : ℕ) (sort : Sort) : Type 0 where
@@ -45,7 +46,8 @@ pub record Leaves (old new : List Board) (panel : ℕ) : Type 0 where
 
 -- A mark gives its notice to its panel, where that hasn't left.
 abbrev pub PresentAreMarked : List Board → Type 0
-PresentAreMarked boards = (panel dest : ℕ) (sort : Sort) → panel < length boards → has_left boards panel ≡ false
+PresentAreMarked boards =
+    (panel dest : ℕ) (sort : Sort) → panel < length boards → has_left boards panel ≡ false
     → Gives boards (with_mark boards panel dest sort) panel dest sort
 
 -- A mark of a panel that has left changes nothing.
@@ -61,15 +63,19 @@ pub record MarksGiveOneNotice (boards : List Board) : Type 0 where
 -- A take removes the first notice of its panel and no other.
 abbrev pub TakesRemoveOneNotice : List Board → Type 0
 TakesRemoveOneNotice boards =
-    (panel dest : ℕ) (sort : Sort) → panel < length boards → next (board_of boards panel) ≡ Some (dest, sort) → Takes boards (with_take boards panel) panel dest sort
+    (panel dest : ℕ) (sort : Sort) → panel < length boards
+    → next (board_of boards panel) ≡ Some (dest, sort)
+    → Takes boards (with_take boards panel) panel dest sort
 
 -- A panel that leaves has no notices, and nothing of another panel changes.
 abbrev pub LeavesAreOfOnePanel : List Board → Type 0
-LeavesAreOfOnePanel boards = (panel : ℕ) → panel < length boards → Leaves boards (with_leave boards panel) panel
+LeavesAreOfOnePanel boards =
+    (panel : ℕ) → panel < length boards → Leaves boards (with_leave boards panel) panel
 
 -- All notices of a board are of destinations below a count.
 abbrev pub IsBelow : Board → ℕ → Type 0
-IsBelow board destinations = (dest : ℕ) (sort : Sort) → has_notice board dest sort ≡ true → dest < destinations
+IsBelow board destinations =
+    (dest : ℕ) (sort : Sort) → has_notice board dest sort ≡ true → dest < destinations
 
 -- So many panels have a board each, their notices are of destinations below a count, and whoever has left has none.
 pub record AreBoards (boards : List Board) (panels destinations : ℕ) : Type 0 where
@@ -91,7 +97,8 @@ pub record StayBoards (boards : List Board) (panels destinations : ℕ) : Type 0
 -- the notices of one destination, that of its source first
 abbrev pub notices_at : Board → ℕ → List (ℕ × Sort)
 notices_at board dest =
-    (if has_notice board dest Source then (dest, Source) ∷ [] else []) ++ (if has_notice board dest Protect then (dest, Protect) ∷ [] else [])
+    (if has_notice board dest Source then (dest, Source) ∷ [] else []) ++
+    (if has_notice board dest Protect then (dest, Protect) ∷ [] else [])
 
 -- all notices of the destinations below a count, destination by destination
 abbrev pub notices_below : ℕ → Board → List (ℕ × Sort)
@@ -105,7 +112,8 @@ taken_times (suc n) board = taken_times n (taken board)
 -- So many takes leave the notices of those below a count but for the first so many.
 abbrev pub LoseFirst : Board → ℕ → ℕ → Type 0
 LoseFirst board destinations takes =
-    notices_below destinations (taken_times takes board) ≡ drop takes (notices_below destinations board)
+    notices_below destinations (taken_times takes board)
+    ≡ drop takes (notices_below destinations board)
 
 -- So many takes remove the first so many notices of those below a count, in their order, and one more takes the next.
 pub record TakesInOrder (board : Board) (destinations takes : ℕ) : Type 0 where

@@ -19,7 +19,8 @@ IsZero words = (word : ℕ) → slice_index words word ≡ 0
 
 -- No word changed but this one.
 abbrev pub SameWordsBut : List ℕ → List ℕ → ℕ → Type 0
-SameWordsBut old new changed = (word : ℕ) → word ≢ changed → slice_index new word ≡ slice_index old word
+SameWordsBut old new changed =
+    (word : ℕ) → word ≢ changed → slice_index new word ≡ slice_index old word
 
 -- One bit was set. No other bit changed, and no other word.
 pub record SetsBit (old new : List ℕ) (number : ℕ) : Type 0 where

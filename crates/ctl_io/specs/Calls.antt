@@ -15,7 +15,8 @@ next_fails calls = list_any (λ number. number == calls.made) calls.failing
 
 -- after one more call, which failed or didn't
 abbrev pub called : Bool → Calls → Calls
-called failed calls = record calls { made = one_more calls.made; faults = counted failed calls.faults }
+called failed calls =
+    record calls { made = one_more calls.made; faults = counted failed calls.faults }
 
 -- after an object with such a count of faults was given back
 abbrev pub took_back : ℕ → Calls → Calls

@@ -65,10 +65,12 @@ sink_returned ended custody = record custody {
 }
 
 -- a source, or a sink, that shows so much was given back
-abbrev pub TakesSource : Option (List ℕ) → Option (List ℕ) → ℕ → Custody → Custody → Type 0
+abbrev pub TakesSource : Option (List ℕ) → Option (List ℕ) → ℕ → Custody → Custody
+    → Type 0
 TakesSource name left faults before now =
     now ≡ source_returned (record { name = name; left = left; faults = faults }) before
 
-abbrev pub TakesSink : Option (List ℕ) → Option (List ℕ) → ℕ → Custody → Custody → Type 0
+abbrev pub TakesSink : Option (List ℕ) → Option (List ℕ) → ℕ → Custody → Custody
+    → Type 0
 TakesSink name written faults before now =
     now ≡ sink_returned (record { name = name; written = written; faults = faults }) before

@@ -69,14 +69,26 @@ held_by None = Unshown
 -- What they hold of a name for its k-th opening from now: of the sources of that name that wait the k-th. There is no
 -- file where no source ever had the name.
 abbrev pub held_of : FilesState → List ℕ → ℕ → Held
-held_of files name k = if is_listed name files.names then held_by (slice_get (filter (source_has name) files.waiting) k) else NoFile
+held_of files name k =
+    if is_listed name files.names
+    then held_by (slice_get (filter (source_has name) files.waiting) k) else NoFile
 
 -- what the objects that were given back showed
 abbrev pub source_end : NamedSource → SourceEnd
-source_end entry = record { name = Some entry.name; left = Some entry.source.left; faults = entry.source.calls.faults }
+source_end entry =
+    record {
+      name = Some entry.name;
+      left = Some entry.source.left;
+      faults = entry.source.calls.faults;
+    }
 
 abbrev pub sink_end : NamedSink → SinkEnd
-sink_end entry = record { name = Some entry.name; written = Some entry.sink.written; faults = entry.sink.calls.faults }
+sink_end entry =
+    record {
+      name = Some entry.name;
+      written = Some entry.sink.written;
+      faults = entry.sink.calls.faults;
+    }
 
 abbrev pub custody_of : FilesState → Custody
 custody_of files = record {
@@ -95,7 +107,8 @@ lent_source objects (Some entry) = if objects == 0 then found.Failed else found.
 abbrev pub source_answer : FilesState → List ℕ → Found NamedSource
 source_answer files name =
     if next_fails files.calls then found.Failed
-    else (if is_listed name files.names then lent_source files.objects (find (source_has name) files.waiting) else found.Missing)
+    else (if is_listed name files.names
+    then lent_source files.objects (find (source_has name) files.waiting) else found.Missing)
 
 -- the files without the source that is handed out
 abbrev pub without_source : Found NamedSource → List ℕ → FilesState → FilesState
@@ -109,7 +122,8 @@ without_source found.Failed name files = files
 
 -- the files after such an answer
 abbrev pub after_source : Found NamedSource → List ℕ → FilesState → FilesState
-after_source answer name files = record (without_source answer name files) { calls = called (source_failed answer) files.calls }
+after_source answer name files =
+    record (without_source answer name files) { calls = called (source_failed answer) files.calls }
 
 -- what is answered of a name's sinks: the first that waits, while objects may still be handed out
 abbrev pub lent_sink : ℕ → Option NamedSink → Made NamedSink
@@ -119,7 +133,8 @@ lent_sink objects (Some entry) = if objects == 0 then made.Failed else made.Here
 -- what is answered where a sink is asked for
 abbrev pub sink_answer : FilesState → List ℕ → Made NamedSink
 sink_answer files name =
-    if next_fails files.calls then made.Failed else lent_sink files.objects (find (sink_has name) files.sinks)
+    if next_fails files.calls then made.Failed
+    else lent_sink files.objects (find (sink_has name) files.sinks)
 
 -- the files without the sink that is handed out
 abbrev pub without_sink : Made NamedSink → List ℕ → FilesState → FilesState
@@ -132,7 +147,8 @@ without_sink made.Failed name files = files
 
 -- the files after such an answer
 abbrev pub after_sink : Made NamedSink → List ℕ → FilesState → FilesState
-after_sink answer name files = record (without_sink answer name files) { calls = called (sink_failed answer) files.calls }
+after_sink answer name files =
+    record (without_sink answer name files) { calls = called (sink_failed answer) files.calls }
 
 -- the files after a source was given back
 abbrev pub after_close_source : NamedSource → FilesState → FilesState

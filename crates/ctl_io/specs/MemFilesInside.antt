@@ -22,7 +22,8 @@ files_state files = record {
 -- There is room for all sources, and for all sinks, that were given back, are out, or may still be handed out.
 abbrev pub SourcesHaveRoom : Inside → Type 0
 SourcesHaveRoom files =
-    files.objects + files.sources_out + length files.sources_back.items ≤ vec_capacity files.sources_back
+    files.objects + files.sources_out + length files.sources_back.items
+    ≤ vec_capacity files.sources_back
 
 abbrev pub SinksHaveRoom : Inside → Type 0
 SinksHaveRoom files =

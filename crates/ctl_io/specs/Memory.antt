@@ -38,7 +38,8 @@ pub record SinkState : Type 0 where
 
 -- A write of these bytes fails: its number is listed, or there is no room for all of them.
 abbrev pub write_fails : SinkState → List ℕ → Bool
-write_fails sink bytes = next_fails sink.calls || nat_lt sink.room (length sink.written + length bytes)
+write_fails sink bytes =
+    next_fails sink.calls || nat_lt sink.room (length sink.written + length bytes)
 
 -- what a write answers
 abbrev pub write_answer : SinkState → List ℕ → Write

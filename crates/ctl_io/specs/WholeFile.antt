@@ -34,7 +34,8 @@ abbrev pub SaysNoMemory : {A : Type 0} → Result A FileFault → Type 0
 SaysNoMemory answer = answer ≡ Err file.NoMemory
 
 -- what becomes of the openings of the file's name: one is gone, but where the file is missing, or where the files failed
-abbrev pub AfterFile : {A : Type 0} → Result A FileFault → (ℕ → Held) → (ℕ → Held) → Type 0
+abbrev pub AfterFile : {A : Type 0} → Result A FileFault → (ℕ → Held) → (ℕ → Held)
+    → Type 0
 AfterFile (Ok bytes) before now = CountsOn before now
 AfterFile (Err file.NoMemory) before now = CountsOn before now
 AfterFile (Err file.Missing) before now = Stays before now

@@ -13,8 +13,10 @@ StandsFor framer text = Keeps framer.state framer.front (rest text)
 
 -- A framer goes on over these bytes: of each text that it stood for, it stands for the text with them.
 abbrev pub GoesOver : List ℕ → Framer → Framer → Type 0
-GoesOver bytes before after = (text : List ℕ) → StandsFor before text → StandsFor after (text ++ bytes)
+GoesOver bytes before after =
+    (text : List ℕ) → StandsFor before text → StandsFor after (text ++ bytes)
 
 -- Once nothing borrows from it, the framer has gone on over these bytes.
 abbrev pub EndsOver : MutBor Framer → List ℕ → Fml
-EndsOver framer bytes = follows_so the_row the_row framer.ghost_name none (λ _ _. ⊤) (GoesOver bytes framer.now)
+EndsOver framer bytes =
+    follows_so the_row the_row framer.ghost_name none (λ _ _. ⊤) (GoesOver bytes framer.now)

@@ -30,7 +30,8 @@ longest_run (a ∷ []) =
     if a == dle then record { spelled = []; behind = a ∷ [] }
     else record { spelled = a ∷ []; behind = [] }
 longest_run (a ∷ b ∷ text) =
-    if a == dle then (if b == dle then with_piece dle (longest_run text) else record { spelled = []; behind = a ∷ b ∷ text })
+    if a == dle then (if b == dle then with_piece dle (longest_run text)
+    else record { spelled = []; behind = a ∷ b ∷ text })
     else with_piece a (longest_run (b ∷ text))
 
 -- what a text says: its items, and the rest that is no whole item yet

@@ -10,5 +10,7 @@ use Rattle.dle_framing.specs.Frame.{doubled}
 abbrev pub Keeps : State → List ℕ → List ℕ → Type 0
 Keeps Outside front kept = kept ≡ []
 Keeps OutsideDle front kept = kept ≡ dle ∷ []
-Keeps Inside front kept = (body : List ℕ) × (front ≡ take most_kept body) × (kept ≡ dle ∷ stx ∷ doubled body)
-Keeps InsideDle front kept = (body : List ℕ) × (front ≡ take most_kept body) × (kept ≡ dle ∷ stx ∷ (doubled body ++ dle ∷ []))
+Keeps Inside front kept =
+    (body : List ℕ) × (front ≡ take most_kept body) × (kept ≡ dle ∷ stx ∷ doubled body)
+Keeps InsideDle front kept = (body : List ℕ) × (front ≡ take most_kept body)
+    × (kept ≡ dle ∷ stx ∷ (doubled body ++ dle ∷ []))

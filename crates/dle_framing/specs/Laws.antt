@@ -14,7 +14,8 @@ ReadsByStart reads = (text : List ℕ) → reads text ≡ by_start reads text
 
 -- whatever reads each text by its start reads it as `reading` does
 abbrev pub OneReadsByStart : Type 0
-OneReadsByStart = (reads : List ℕ → Reading) → ReadsByStart reads → (text : List ℕ) → reads text ≡ reading text
+OneReadsByStart =
+    (reads : List ℕ → Reading) → ReadsByStart reads → (text : List ℕ) → reads text ≡ reading text
 
 -- what a text says once more has come
 pub record ReadsOn (text more : List ℕ) : Type 0 where
@@ -40,7 +41,8 @@ FramesAreGood = (carried : List ℕ) → IsData carried → IsReadAs (frame carr
 
 -- frames in a row are read as their good items, in that order
 abbrev pub RowsAreGood : Type 0
-RowsAreGood = (carried : List (List ℕ)) → All IsData carried → IsReadAs (frames carried) (map Good carried)
+RowsAreGood =
+    (carried : List (List ℕ)) → All IsData carried → IsReadAs (frames carried) (map Good carried)
 
 -- no frame is longer than the greatest length
 abbrev pub FramesAreShort : Type 0

@@ -23,7 +23,9 @@ IsBehindDle Inside = ⊥
 IsBehindDle InsideDle = Unit {0}
 
 -- One byte more takes a state and a front to others, and ends this item or none.
-unfoldable pub Steps : State → List ℕ → ℕ → Option (Item (Unit {0})) → State → List ℕ → Type 0
+unfoldable pub Steps : State → List ℕ → ℕ → Option (Item (Unit {0})) → State
+    → List ℕ → Type 0
 Steps state front byte item next_state next_front =
     (kept : List ℕ) → Keeps state front kept
-    → (items (kept ++ byte ∷ []) ≡ option_to_list (option_map (found_in next_front) item)) × Keeps next_state next_front (rest (kept ++ byte ∷ []))
+    → (items (kept ++ byte ∷ []) ≡ option_to_list (option_map (found_in next_front) item))
+    × Keeps next_state next_front (rest (kept ++ byte ∷ []))

@@ -10,7 +10,8 @@ use Rattle.history_lock.specs.Seats.{SeatData, seat_data}
 use Rattle.history_lock.specs.Calls.{SeesAnswers, AddsOwn, IsNumbered, OnlyCalled, OnlyTried, FoundFull, IsRefused}
 
 -- of what a seat shows before a call, and behind it
-module _ {State Request Answer : Type 0} (step : State → Request → Stepped State Answer) (Fits : State → Request → Type 0)
+module _ {State Request Answer : Type 0} (step : State → Request → Stepped State Answer)
+    (Fits : State → Request → Type 0)
     (before after : SeatData State Request Answer) where
   -- The call of this number was made: it asked this, and was answered so.
   pub record IsMade (n : ℕ) (request : Request) (answers : List Answer) : Type 0 where
@@ -24,8 +25,10 @@ abbrev pub Place : Type 0 → Type 0 → Type 0 → Type 0
 Place State Request Answer = Seat (Desk State Request) (View State Request Answer)
 
 -- the same of what the seat's place shows, before the call and behind it
-abbrev pub IsMadeAt : {State Request Answer : Type 0} → (State → Request → Stepped State Answer) → (State → Request → Type 0)
-    → State → Place State Request Answer → ℕ → Request → List Answer → Place State Request Answer → Type 0
+abbrev pub IsMadeAt : {State Request Answer : Type 0}
+    → (State → Request → Stepped State Answer) → (State → Request → Type 0)
+    → State → Place State Request Answer → ℕ → Request → List Answer → Place State Request Answer
+    → Type 0
 IsMadeAt step Fits first before n request answers after =
     IsMade step Fits (seat_data first before) (seat_data first after) n request answers
 

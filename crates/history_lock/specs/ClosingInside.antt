@@ -9,10 +9,12 @@ use Rattle.history_lock.specs.History.{run, IsLegal, entries_of}
 use Rattle.history_lock.specs.Seats.{SeatData}
 
 -- of what a view knows of a seat
-module _ {State Request Answer : Type 0} (v : View State Request Answer) (seat : SeatData State Request Answer) where
+module _ {State Request Answer : Type 0} (v : View State Request Answer)
+    (seat : SeatData State Request Answer) where
   -- a view was joined that saw this, under this number
   abbrev pub IsFormer : Type 0
-  IsFormer = (former : Former Request Answer) × Contains v.former former × (former.seen ≡ seat.seen) × Contains former.numbers seat.number
+  IsFormer = (former : Former Request Answer) × Contains v.former former × (former.seen ≡ seat.seen)
+      × Contains former.numbers seat.number
 
   -- The seat was joined to the view, or is the one that others are joined to.
   pub record IsTaken : Type 0 where
@@ -30,7 +32,9 @@ module _ {State Request Answer : Type 0} (v : View State Request Answer) (seat :
     pub serving_full : seat.serving_full ≡ true → v.serving_full ≡ true
 
 -- The view has seen the whole history, and this machine and this count are what it leaves.
-pub record IsEnded {State Request Answer : Type 0} (step : State → Request → Stepped State Answer) (Fits : State → Request → Type 0) (start : Start State) (v : View State Request Answer) (machine : State) (entries : ℕ) : Type 0 where
+pub record IsEnded {State Request Answer : Type 0} (step : State → Request → Stepped State Answer)
+    (Fits : State → Request → Type 0) (start : Start State) (v : View State Request Answer)
+    (machine : State) (entries : ℕ) : Type 0 where
   pub legal : IsLegal step Fits start.machine.value v.seen
   pub machine_is : machine ≡ run step start.machine.value v.seen
   pub entries_are : entries ≡ length v.seen

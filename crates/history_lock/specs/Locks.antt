@@ -26,7 +26,8 @@ pub record IsLock {State : Type 0} (id : TableId) (start : Start State) (seats :
   pub some : 0 < seats
 
 -- a seat that has seen nothing
-abbrev pub new_seat : {State Request Answer : Type 0} → TableId → State → ℕ → SeatData State Request Answer
+abbrev pub new_seat : {State Request Answer : Type 0} → TableId → State → ℕ
+    → SeatData State Request Answer
 new_seat lock first number = record {
   lock = lock;
   first = first;
@@ -38,5 +39,7 @@ new_seat lock first number = record {
 }
 
 -- Seats that have seen nothing stand in the order of their numbers, from 0 on and below a count.
-abbrev pub AreNew : {State Request Answer : Type 0} → TableId → State → ℕ → List (SeatData State Request Answer) → Type 0
-AreNew lock first count seats = (number : ℕ) → number < count → slice_get seats number ≡ Some (new_seat lock first number)
+abbrev pub AreNew : {State Request Answer : Type 0} → TableId → State → ℕ
+    → List (SeatData State Request Answer) → Type 0
+AreNew lock first count seats =
+    (number : ℕ) → number < count → slice_get seats number ≡ Some (new_seat lock first number)

@@ -27,42 +27,67 @@ module _ {State Request Answer : Type 0} where
   waiting v t = record v { stage = Waits t }
 
   -- a load of `ticket`
-  abbrev pub ticket_read : Step (Desk State Request) → Hand State Request Answer → ℕ → Hand State Request Answer → Type 0
-  ticket_read at m found m' = (found ≤ 2 ^ 62) × (m' ≡ (record m.0 { ticket_full = found == 2 ^ 62 }, m.1))
+  abbrev pub ticket_read : Step (Desk State Request) → Hand State Request Answer → ℕ
+      → Hand State Request Answer → Type 0
+  ticket_read at m found m' =
+      (found ≤ 2 ^ 62) × (m' ≡ (record m.0 { ticket_full = found == 2 ^ 62 }, m.1))
 
   -- an exchange on `ticket`, in a call that waits
-  abbrev pub ticket_taken : Step (Desk State Request) → Hand State Request Answer → ℕ → Hand State Request Answer → Type 0
-  ticket_taken at m found m' = MatchBool (found == at.first) (m' ≡ (waiting m.0 at.first, m.1)) (m' ≡ m)
+  abbrev pub ticket_taken : Step (Desk State Request) → Hand State Request Answer → ℕ
+      → Hand State Request Answer → Type 0
+  ticket_taken at m found m' =
+      MatchBool (found == at.first) (m' ≡ (waiting m.0 at.first, m.1)) (m' ≡ m)
 
   -- a load of `serving`, in a try
-  abbrev pub serving_read : Step (Desk State Request) → Hand State Request Answer → ℕ → Hand State Request Answer → Type 0
+  abbrev pub serving_read : Step (Desk State Request) → Hand State Request Answer → ℕ
+      → Hand State Request Answer → Type 0
   serving_read at m found m' =
-      (found ≤ 2 ^ 62) × (m' ≡ (record m.0 { read = if found == 2 ^ 62 then None else Some found; serving_full = found == 2 ^ 62 }, m.1))
+      (found ≤ 2 ^ 62)
+      × (m' ≡ (
+        record m.0 {
+          read = if found == 2 ^ 62 then None
+              else Some found;
+          serving_full = found == 2 ^ 62;
+        },
+        m.1,
+      ))
 
   -- The exchange of a try. Where it fails it found a ticket above the number that was read, and the seat keeps both.
-  abbrev pub ticket_tried : Step (Desk State Request) → Hand State Request Answer → ℕ → Hand State Request Answer → Type 0
+  abbrev pub ticket_tried : Step (Desk State Request) → Hand State Request Answer → ℕ
+      → Hand State Request Answer → Type 0
   ticket_tried at m found m' =
       MatchBool (found == at.first)
       (m' ≡ (waiting m.0 at.first, m.1))
-      ((at.first < found) × (m' ≡ (record m.0 { read = None; tried = m.0.tried ++ (at.first, found) ∷ [] }, m.1)))
+      ((at.first < found)
+      × (m' ≡ (record m.0 { read = None; tried = m.0.tried ++ (at.first, found) ∷ [] }, m.1)))
 
 abbrev pub longer : {A : Type 0} → List A → List A → List A
 longer xs ys = if nat_lt (length xs) (length ys) then ys else xs
 
 -- what was asked last
 abbrev pub IsAsked : {State Request : Type 0} → Desk State Request → Request → Type 0
-IsAsked {State} {Request} desk request = (asked : Told Request) × (desk.asked ≡ Some asked) × (asked.value ≡ request)
+IsAsked {State} {Request} desk request =
+    (asked : Told Request) × (desk.asked ≡ Some asked) × (asked.value ≡ request)
 
 -- it asked this, which ends the history, and its turn is over
-abbrev pub ended : {State Request Answer : Type 0} (step : State → Request → Stepped State Answer) → State → View State Request Answer → Request → View State Request Answer
-ended step first v request = record v { stage = Idle; seen = v.seen ++ entry_at step (run step first v.seen) (number_of v) request ∷ [] }
+abbrev pub ended : {State Request Answer : Type 0}
+    (step : State → Request → Stepped State Answer) → State → View State Request Answer
+    → Request → View State Request Answer
+ended step first v request =
+    record v {
+      stage = Idle;
+      seen = v.seen ++ entry_at step (run step first v.seen) (number_of v) request ∷ [];
+    }
 
 -- it asked this, its turn is over, and the slot is back
-abbrev pub EndsTurn : {State Request Answer : Type 0} (step : State → Request → Stepped State Answer) → State → Request → Hand State Request Answer → Hand State Request Answer → Type 0
+abbrev pub EndsTurn : {State Request Answer : Type 0}
+    (step : State → Request → Stepped State Answer) → State → Request
+    → Hand State Request Answer → Hand State Request Answer → Type 0
 EndsTurn step first request before after = after ≡ (ended step first before.0 request, [])
 
 -- of a seat in a call, and the machine that its lock was made with
-module _ {State Request Answer : Type 0} (step : State → Request → Stepped State Answer) (Fits : State → Request → Type 0) (room : State → ℕ)
+module _ {State Request Answer : Type 0} (step : State → Request → Stepped State Answer)
+    (Fits : State → Request → Type 0) (room : State → ℕ)
     (m : Hand State Request Answer) (first : State) where
   -- With its ticket it has the machine now, and has seen the whole history, in which it made no entry since it saw it last.
   pub record Enters (t : ℕ) (m' : Hand State Request Answer) : Type 0 where
@@ -105,15 +130,21 @@ module _ {State Request Answer : Type 0} (step : State → Request → Stepped S
     pub fits : Fits (run step first m.0.seen) request
     pub accepts : Accepts step Fits room first desk.machine
 
-module _ {State Request Answer : Type 0} (step : State → Request → Stepped State Answer) (Fits : State → Request → Type 0) (room : State → ℕ) where
+module _ {State Request Answer : Type 0} (step : State → Request → Stepped State Answer)
+    (Fits : State → Request → Type 0) (room : State → ℕ) where
   -- a load of `serving` by a seat with a ticket
-  abbrev pub turn_awaited : Step (Desk State Request) → Hand State Request Answer → ℕ → Hand State Request Answer → Type 0
-  turn_awaited at m found m' = (t : ℕ) (first : State) → m.0.stage ≡ Waits t → m.0.first ≡ Some first →
-      (found ≤ t) × IfSome m.0.read (λ n. n ≤ found) × MatchBool (found == t) (Enters step Fits room m first t m') (m' ≡ m)
+  abbrev pub turn_awaited : Step (Desk State Request) → Hand State Request Answer → ℕ
+      → Hand State Request Answer → Type 0
+  turn_awaited at m found m' =
+      (t : ℕ) (first : State) → m.0.stage ≡ Waits t → m.0.first ≡ Some first →
+      (found ≤ t) × IfSome m.0.read (λ n. n ≤ found)
+      × MatchBool (found == t) (Enters step Fits room m first t m') (m' ≡ m)
 
   -- the step that raises `serving`: what was asked of the machine ends the history, and the slot is back
-  abbrev pub turn_ended : Step (Desk State Request) → Hand State Request Answer → ℕ → Hand State Request Answer → Type 0
-  turn_ended at m found m' = (t : ℕ) (first : State) (desk : Desk State Request) (request : Request) →
+  abbrev pub turn_ended : Step (Desk State Request) → Hand State Request Answer → ℕ
+      → Hand State Request Answer → Type 0
+  turn_ended at m found m' =
+      (t : ℕ) (first : State) (desk : Desk State Request) (request : Request) →
       m.0.stage ≡ Holds t → m.0.first ≡ Some first → m.1 ≡ (0, desk) ∷ [] → IsAsked desk request →
       EndsTurn step first request m m'
 
@@ -176,11 +207,13 @@ module _ {State Request Answer : Type 0} where
   was v = record { numbers = v.numbers; seen = v.seen }
 
   -- a note was joined to a view
-  abbrev pub with_note : View State Request Answer → View State Request Answer → View State Request Answer
+  abbrev pub with_note : View State Request Answer → View State Request Answer
+      → View State Request Answer
   with_note v w = record v { seen = longer v.seen w.seen; former = was v ∷ was w ∷ v.former }
 
   -- a seat was joined to a view, with its numbers
-  abbrev pub with_seat : View State Request Answer → View State Request Answer → View State Request Answer
+  abbrev pub with_seat : View State Request Answer → View State Request Answer
+      → View State Request Answer
   with_seat v w = record v {
     numbers = v.numbers ++ w.numbers;
     seen = longer v.seen w.seen;
@@ -191,8 +224,11 @@ module _ {State Request Answer : Type 0} where
 
   -- what a look tells of what was joined to a view
   abbrev pub Tells : View State Request Answer → Type 0
-  Tells v = All (λ former. IsPrefix former.seen v.seen × All (λ n. entries_of n v.seen ≡ entries_of n former.seen) former.numbers) v.former
+  Tells v = All
+      (λ former. IsPrefix former.seen v.seen
+      × All (λ n. entries_of n v.seen ≡ entries_of n former.seen) former.numbers) v.former
 
   -- a load of `serving` once others were joined to the seat
-  abbrev pub looked : Step (Desk State Request) → Hand State Request Answer → ℕ → Hand State Request Answer → Type 0
+  abbrev pub looked : Step (Desk State Request) → Hand State Request Answer → ℕ
+      → Hand State Request Answer → Type 0
   looked at m found m' = (m' ≡ (record m.0 { former = [] }, m.1)) × Tells m.0

@@ -20,22 +20,27 @@ ticket_of Idle = None
 ticket_of (Waits t) = Some t
 ticket_of (Holds t) = Some t
 
-module _ {State Request Answer : Type 0} (step : State → Request → Stepped State Answer) (Fits : State → Request → Type 0) (room : State → ℕ) where
+module _ {State Request Answer : Type 0} (step : State → Request → Stepped State Answer)
+    (Fits : State → Request → Type 0) (room : State → ℕ) where
   -- A machine takes what the first one took, with as many answers.
   pub record Accepts (first now : State) : Type 0 where
     pub same_room : room now ≡ room first
     pub still_fits : (request : Request) → Fits first request → Fits now request
 
   -- A former one saw a front of what is seen now, in which all entries stood that were made under its numbers.
-  abbrev pub WasSeen : List (Entry Request Answer) → ℕ → (ℕ → ℕ) → ℕ → View State Request Answer → Former Request Answer → Type 0
+  abbrev pub WasSeen : List (Entry Request Answer) → ℕ → (ℕ → ℕ) → ℕ → View State Request Answer
+      → Former Request Answer → Type 0
   WasSeen history given bearer id v former =
       IsPrefix former.seen v.seen
-      × All (λ n. (n < given) × (bearer n ≡ id) × (entries_of n history ≡ entries_of n former.seen) × (entries_of n v.seen ≡ entries_of n former.seen)) former.numbers
+      × All (λ n. (n < given) × (bearer n ≡ id) × (entries_of n history ≡ entries_of n former.seen)
+      × (entries_of n v.seen ≡ entries_of n former.seen)) former.numbers
 
 -- of the view of the seat `id`, in a table with this history and so many tickets and numbers in use, of each of which
 -- there is one view: its owner, its bearer
-module _ {State Request Answer : Type 0} (step : State → Request → Stepped State Answer) (Fits : State → Request → Type 0) (room : State → ℕ)
-    (first : State) (history : List (Entry Request Answer)) (ticket given : ℕ) (owner bearer : ℕ → ℕ) (id : ℕ) (v : View State Request Answer) where
+module _ {State Request Answer : Type 0} (step : State → Request → Stepped State Answer)
+    (Fits : State → Request → Type 0) (room : State → ℕ)
+    (first : State) (history : List (Entry Request Answer)) (ticket given : ℕ)
+    (owner bearer : ℕ → ℕ) (id : ℕ) (v : View State Request Answer) where
   -- It bears this number, and has seen all entries that were made under it.
   abbrev pub IsBorne : ℕ → Type 0
   IsBorne n = (n < given) × (bearer n ≡ id) × (entries_of n history ≡ entries_of n v.seen)
@@ -57,26 +62,33 @@ module _ {State Request Answer : Type 0} (step : State → Request → Stepped S
     pub ticket_full_is : v.ticket_full ≡ true → ticket ≡ 2 ^ 62
     pub serving_full_is : v.serving_full ≡ true → length history ≡ 2 ^ 62
 
-module _ {State Request Answer : Type 0} (step : State → Request → Stepped State Answer) (Fits : State → Request → Type 0) (room : State → ℕ) where
+module _ {State Request Answer : Type 0} (step : State → Request → Stepped State Answer)
+    (Fits : State → Request → Type 0) (room : State → ℕ) where
   abbrev pub LockTable : Type 0
   LockTable = table.State (Desk State Request) (View State Request Answer)
 
   -- the slot has the machine that the history leaves
   abbrev pub IsHome : State → List (Entry Request Answer) → LockTable → Type 0
-  IsHome first history s = (desk : Desk State Request) × (s.homes ≡ some desk ∷ []) × (desk.machine ≡ run step first history)
+  IsHome first history s = (desk : Desk State Request) × (s.homes ≡ some desk ∷ [])
+      × (desk.machine ≡ run step first history)
 
   -- the machine is with a seat
   abbrev pub IsOut : LockTable → Type 0
-  IsOut s = (s.homes ≡ none ∷ []) × ((id : ℕ) × (v : View State Request Answer) × (t : ℕ) × (get_elem? s.views id ≡ some v) × (v.stage ≡ Holds t))
+  IsOut s = (s.homes ≡ none ∷ [])
+      × ((id : ℕ) × (v : View State Request Answer) × (t : ℕ) × (get_elem? s.views id ≡ some v)
+      × (v.stage ≡ Holds t))
 
   -- Each ticket in use is that of a call in which its owner is.
   abbrev pub EachTicketIsOwned : LockTable → List (Entry Request Answer) → ℕ → (ℕ → ℕ) → Type 0
   EachTicketIsOwned s history ticket owner = (t : ℕ) → length history ≤ t → t < ticket
-      → (v : View State Request Answer) × (get_elem? s.views (owner t) ≡ some v) × (ticket_of v.stage ≡ Some t)
+      → (v : View State Request Answer) × (get_elem? s.views (owner t) ≡ some v)
+      × (ticket_of v.stage ≡ Some t)
 
   -- Each view of the table knows what is so of it.
-  abbrev pub EachViewKnows : LockTable → State → List (Entry Request Answer) → ℕ → ℕ → (ℕ → ℕ) → (ℕ → ℕ) → Type 0
-  EachViewKnows s first history ticket given owner bearer = (id : ℕ) (v : View State Request Answer) → get_elem? s.views id ≡ some v
+  abbrev pub EachViewKnows : LockTable → State → List (Entry Request Answer) → ℕ → ℕ → (ℕ → ℕ)
+      → (ℕ → ℕ) → Type 0
+  EachViewKnows s first history ticket given owner bearer =
+      (id : ℕ) (v : View State Request Answer) → get_elem? s.views id ≡ some v
       → Knows step Fits room first history ticket given owner bearer id v
 
   pub record Kept (start : Start State) (s : LockTable) : Type 0 where

@@ -48,5 +48,6 @@ Acts plant panel now piece used Rest session =
 -- What a call of `act` with this piece does: it acts so behind each past that the session stands for and the piece may go on.
 abbrev pub ActsOn : Session → List ℕ → ℕ → Act → Session → Type 0
 ActsOn before piece used act after =
-    (plant : PlantData) (panel : ℕ) (past : Past) → StandsFor plant panel before past → MayGoOn past piece
+    (plant : PlantData) (panel : ℕ) (past : Past) → StandsFor plant panel before past
+    → MayGoOn past piece
     → Acts plant panel (with_bytes (take used piece) past) piece used act after

@@ -38,7 +38,8 @@ AllAsk (item ∷ items) [] = ⊥
 -- What a panel sends to the plant, where the first item has this number.
 abbrev pub sent_to_plant : ℕ → ℕ → List Asked → List Request
 sent_to_plant panel item [] = []
-sent_to_plant panel item (Sent message ∷ others) = Told panel item message ∷ sent_to_plant panel (item + 1) others
+sent_to_plant panel item (Sent message ∷ others) =
+    Told panel item message ∷ sent_to_plant panel (item + 1) others
 sent_to_plant panel item (Nothing ∷ others) = sent_to_plant panel (item + 1) others
 sent_to_plant panel item (Repeat ∷ others) = sent_to_plant panel (item + 1) others
 sent_to_plant panel item (Refused ∷ others) = sent_to_plant panel (item + 1) others

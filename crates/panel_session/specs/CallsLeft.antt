@@ -39,4 +39,5 @@ LeavesLess before length used act after =
 -- Where a session awaited the answers to this request, fewer calls are left once it was answered.
 abbrev pub IsNearer : Session → Request → Session → Type 0
 IsNearer before request after =
-    (plant : PlantData) (panel : ℕ) (past : Past) → Awaits plant panel before past request → calls_left after < calls_left before
+    (plant : PlantData) (panel : ℕ) (past : Past) → Awaits plant panel before past request
+    → calls_left after < calls_left before

@@ -23,8 +23,11 @@ AwaitsSoFar = (plant : PlantData) (panel : ℕ) (session : Session) (past : Past
     → (request : Request) → Awaits plant panel session past request → IsSoFar plant panel past
 
 -- behind a past and from a state of a machine, two turns of one piece are the same, and so are the bytes that are sent in them
-abbrev pub TurnsAreOne : {State : Type 0} → (State → Request → Stepped State Answer) → (State → Request → Type 0) → Type 0
-TurnsAreOne {State} step Takes = (plant : PlantData) (panel : ℕ) (past : Past) (machine : State) (turn other : Turn) (more less : List ℕ)
+abbrev pub TurnsAreOne : {State : Type 0} → (State → Request → Stepped State Answer)
+    → (State → Request → Type 0) → Type 0
+TurnsAreOne {State} step Takes =
+    (plant : PlantData) (panel : ℕ) (past : Past) (machine : State) (turn other : Turn)
+    (more less : List ℕ)
     → IsWorked step Takes plant panel past machine turn more
     → IsWorked step Takes plant panel past machine other less
     → turn.piece ≡ other.piece → (turn ≡ other) × (more ≡ less)
@@ -40,4 +43,5 @@ abbrev pub TurnsAreSent : Type 0
 TurnsAreSent = (plant : PlantData) (panel : ℕ) (session : Session) (past : Past)
     → StandsFor plant panel session past → past.now ≡ unread
     → IsText plant (items (bytes_of past.turns)) (entries_of past.turns) past.sent
-    ⊎ IsText plant (items (bytes_of past.turns)) (entries_of past.turns) (past.sent ++ outgoing_of session)
+    ⊎ IsText plant (items (bytes_of past.turns)) (entries_of past.turns)
+    (past.sent ++ outgoing_of session)

@@ -13,4 +13,5 @@ use Rattle.panel_session.specs.Session.{with_outbox}
 -- The session ends with what is left in the outbox.
 abbrev pub LendsOutbox : MutBor Session → MutBor (Placed Answer) → Fml
 LendsOutbox session outbox =
-    Lends (the_row (record { mir = named 0; lft = [] })) (out_box.the_row answer.the_row) session outbox (with_outbox session.now)
+    Lends (the_row (record { mir = named 0; lft = [] }))
+    (out_box.the_row answer.the_row) session outbox (with_outbox session.now)

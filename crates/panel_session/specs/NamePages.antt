@@ -24,13 +24,16 @@ page_from command matrix level size names first =
 abbrev pub all_pages : ℕ → ℕ → ℕ → ℕ → Option (List (List ℕ)) → List (List ℕ)
 all_pages command matrix level size None = []
 all_pages command matrix level size (Some names) =
-    map (λ page. page_from command matrix level size names (page_first size page)) (range_with_len 0 (page_count size (length names)))
+    map (λ page. page_from command matrix level size names (page_first size page))
+    (range_with_len 0 (page_count size (length names)))
 
 -- the DATA of the page of one name, where there is a name of this number
-abbrev pub one_page : ℕ → ℕ → ℕ → ℕ → ℕ → Option (List (List ℕ)) → List (List ℕ)
+abbrev pub one_page : ℕ → ℕ → ℕ → ℕ → ℕ → Option (List (List ℕ))
+    → List (List ℕ)
 one_page command matrix level size number None = []
 one_page command matrix level size number (Some names) =
-    if nat_lt number (length names) then page_text command matrix level size number (page_names true size number names) ∷ []
+    if nat_lt number (length names)
+    then page_text command matrix level size number (page_names true size number names) ∷ []
     else []
 
 -- The DATA of the pages of the plant's names that a message asks for, in order: all pages of a level's sources or of a
@@ -40,8 +43,10 @@ name_pages plant (SourceNamesAsk matrix level size) =
     all_pages source_page_command matrix level size (names_of_sources plant matrix level)
 name_pages plant (SourceNameAsk matrix level size number) =
     one_page source_page_command matrix level size number (names_of_sources plant matrix level)
-name_pages plant (DestNamesAsk matrix size) = all_pages dest_page_command matrix 0 size (names_of_dests plant matrix)
-name_pages plant (DestNameAsk matrix size number) = one_page dest_page_command matrix 0 size number (names_of_dests plant matrix)
+name_pages plant (DestNamesAsk matrix size) =
+    all_pages dest_page_command matrix 0 size (names_of_dests plant matrix)
+name_pages plant (DestNameAsk matrix size number) =
+    one_page dest_page_command matrix 0 size number (names_of_dests plant matrix)
 name_pages plant message = []
 
 -- their frames

@@ -34,27 +34,33 @@ level_of Dests = 0
 -- its DATA, and how it ends
 abbrev pub data_of : PlantData → NamePage → List ℕ
 data_of plant page =
-    page_data (command_of page.names) page.matrix (level_of page.names) page.one page.size page.first (names_of plant page.matrix page.names)
+    page_data (command_of page.names) page.matrix
+    (level_of page.names) page.one page.size page.first (names_of plant page.matrix page.names)
 
 abbrev pub end_of : PlantData → NamePage → Paged
 end_of plant page = page_end page.one page.size page.first (names_of plant page.matrix page.names)
 
 -- the DATA of all pages of names from this number on
-abbrev pub pages_from : ℕ → ℕ → ℕ → ℕ → ℕ → Option (List (List ℕ)) → List (List ℕ)
+abbrev pub pages_from : ℕ → ℕ → ℕ → ℕ → ℕ → Option (List (List ℕ))
+    → List (List ℕ)
 pages_from command matrix level size first None = []
 pages_from command matrix level size first (Some names) =
-    map (λ page. page_from command matrix level size names (first + page_first size page)) (range_with_len 0 (page_count size (length names - first)))
+    map (λ page. page_from command matrix level size names (first + page_first size page))
+    (range_with_len 0 (page_count size (length names - first)))
 
 -- the DATA of a page and of those behind it
-abbrev pub pages_behind : ℕ → ℕ → ℕ → ℕ → Bool → ℕ → Option (List (List ℕ)) → List (List ℕ)
+abbrev pub pages_behind : ℕ → ℕ → ℕ → ℕ → Bool → ℕ → Option (List (List ℕ))
+    → List (List ℕ)
 pages_behind command matrix level size one first names =
-    if one then one_page command matrix level size first names else pages_from command matrix level size first names
+    if one then one_page command matrix level size first names
+    else pages_from command matrix level size first names
 
 -- those that are left to be sent, and their frames
 abbrev pub pages_left : PlantData → Option NamePage → List (List ℕ)
 pages_left plant None = []
 pages_left plant (Some page) =
-    pages_behind (command_of page.names) page.matrix (level_of page.names) page.size page.one page.first (names_of plant page.matrix page.names)
+    pages_behind (command_of page.names) page.matrix
+    (level_of page.names) page.size page.one page.first (names_of plant page.matrix page.names)
 
 abbrev pub frames_left : PlantData → Option NamePage → List (List ℕ)
 frames_left plant left = map frame (pages_left plant left)
@@ -70,7 +76,8 @@ HasRoomFor page output = 10 * length output.bytes ≤ 20 + 276 * page.first
 -- A page of names was added to an output, and these are left: in the end the same is sent.
 abbrev pub AddsNames : PlantData → NamePage → Output → Option NamePage → Output → Type 0
 AddsNames plant page output left output_then =
-    with_frames (frames_left plant left) output_then ≡ with_frames (frames_left plant (Some page)) output
+    with_frames (frames_left plant left) output_then
+    ≡ with_frames (frames_left plant (Some page)) output
 
 -- the numbers that a page may yet begin at
 abbrev pub numbers_left : Option NamePage → ℕ

@@ -20,4 +20,6 @@ pub record IsFilling (page : Page) : Type 0 where
 -- An answer was added to a page and an output: whatever comes behind it, the same is sent in the end.
 abbrev pub Adds : Answer → Page → Output → Page → Output → Type 0
 Adds answer page output page_then output_then =
-    (others : List Answer) → with_frames (frames_behind page_then others) output_then ≡ with_frames (frames_behind page (answer ∷ others)) output
+    (others : List Answer)
+    → with_frames (frames_behind page_then others) output_then
+    ≡ with_frames (frames_behind page (answer ∷ others)) output

@@ -22,7 +22,12 @@ some_frame [] = None
 some_frame (byte ∷ bytes) = Some (byte ∷ bytes)
 
 abbrev pub output_of : Inside → Output
-output_of outgoing = record { bytes = outgoing.bytes.items; last = some_frame outgoing.last.items; repeats = outgoing.repeats }
+output_of outgoing =
+    record {
+      bytes = outgoing.bytes.items;
+      last = some_frame outgoing.last.items;
+      repeats = outgoing.repeats;
+    }
 
 -- the most bytes that are sent at once: an ACK and the pages of all names of a level
 abbrev pub most_bytes : ℕ

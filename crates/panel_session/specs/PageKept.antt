@@ -3,4 +3,10 @@ use Rattle.swp08_messages.specs.Dump.{Page}
 use Rattle.panel_session.specs.declared.dump_page.DumpPage.TheInside.{Inside}
 
 abbrev pub kept_page : Inside → Page
-kept_page page = record { matrix = page.matrix; level = page.level; first = page.first; sources = page.sources.items }
+kept_page page =
+    record {
+      matrix = page.matrix;
+      level = page.level;
+      first = page.first;
+      sources = page.sources.items;
+    }

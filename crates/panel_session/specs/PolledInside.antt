@@ -7,4 +7,5 @@ use Rattle.panel_session.specs.declared.stage.Stage.TheVariants.{Poll, End}
 -- A poll without an answer is the last, and so is the 32nd.
 abbrev pub HasPolled : List Answer → ℕ → Stage → Type 0
 HasPolled answers polls stage =
-    ((stage ≡ End) × ((answers ≡ []) ⊎ (polls ≡ 32))) ⊎ ((stage ≡ Poll) × (answers ≢ []) × (polls ≢ 32))
+    ((stage ≡ End) × ((answers ≡ []) ⊎ (polls ≡ 32))) ⊎
+    ((stage ≡ Poll) × (answers ≢ []) × (polls ≢ 32))

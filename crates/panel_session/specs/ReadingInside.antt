@@ -10,7 +10,8 @@ use Rattle.panel_session.specs.Session.{Stands, outgoing_of}
 use Rattle.panel_session.specs.Acting.{Acts, MayGoOn}
 
 -- It stands for this past, nothing is asked or to be sent, and it reads.
-pub record IsReading (plant : PlantData) (panel : ℕ) (session : Session) (past : Past) : Type 0 where
+pub record IsReading (plant : PlantData) (panel : ℕ) (session : Session)
+    (past : Past) : Type 0 where
   pub stands : Stands plant panel session past
   pub none_asked : session.outbox.items ≡ []
   pub stage : session.stage ≡ Read
@@ -29,7 +30,8 @@ HasRead plant panel now false session = IsReading plant panel session now
 -- What reading on does: it acts so behind each past of a session that reads, where the piece may go on.
 abbrev pub ReadsOn : Session → List ℕ → ℕ → Act → Session → Type 0
 ReadsOn before piece used act after =
-    (plant : PlantData) (panel : ℕ) (past : Past) → IsReading plant panel before past → MayGoOn past piece
+    (plant : PlantData) (panel : ℕ) (past : Past) → IsReading plant panel before past
+    → MayGoOn past piece
     → Acts plant panel (with_bytes (take used piece) past) piece used act after
 
 -- The same, up to the end of an item: whether something is to be sent.

@@ -55,7 +55,8 @@ pub record Stands (plant : PlantData) (panel : ℕ) (session : Session) (past : 
 -- polled before.
 unfoldable pub StandsFor : PlantData → ℕ → Session → Past → Type 0
 StandsFor plant panel session past =
-    Stands plant panel session past × (session.outbox.items ≡ []) × (session.stage ≡ PollStage → past.now.polls ≢ [])
+    Stands plant panel session past × (session.outbox.items ≡ [])
+    × (session.stage ≡ PollStage → past.now.polls ≢ [])
 
 -- A request is what a session asks at this stage.
 abbrev pub AsksAt : Stage → Kept → Request → Type 0
@@ -67,19 +68,22 @@ AsksAt End kept request = ⊥
 -- The session stands for this past, and this request of it wasn't answered yet.
 unfoldable pub Awaits : PlantData → ℕ → Session → Past → Request → Type 0
 Awaits plant panel session past request =
-    Stands plant panel session past × (session.unsent ≡ false) × AsksAt session.stage (kept_of session) request
+    Stands plant panel session past × (session.unsent ≡ false)
+    × AsksAt session.stage (kept_of session) request
 
 -- These answers to a request were taken: the session stands for each past in which it awaited them, with the entry of the
 -- request and the answers, whichever seat asked.
 abbrev pub TakesAnswers : Session → Request → List Answer → Session → Type 0
 TakesAnswers before request answers after =
     (plant : PlantData) (panel seat : ℕ) (past : Past) → Awaits plant panel before past request
-    → StandsFor plant panel after (with_entry (record { seat = seat; request = request; answers = answers }) past)
+    → StandsFor plant panel after
+    (with_entry (record { seat = seat; request = request; answers = answers }) past)
 
 -- A session that stood for some past stands for nothing yet, as a new one of its panel.
 abbrev pub BeginsAnew : Session → Session → Type 0
 BeginsAnew before after =
-    (plant : PlantData) (panel : ℕ) (past : Past) → StandsFor plant panel before past → StandsFor plant panel after nothing_yet
+    (plant : PlantData) (panel : ℕ) (past : Past) → StandsFor plant panel before past
+    → StandsFor plant panel after nothing_yet
 
 -- So does one that awaited the answers to some request.
 abbrev pub BeginsAnewUnanswered : Session → Session → Type 0

@@ -9,7 +9,15 @@ use Rattle.panel_session.specs.Text.{Output}
 -- what a session keeps between its turns: it reads next, has not polled since, and all its output was sent
 abbrev pub between_turns : ℕ → ℕ → ℕ → Output → Kept
 between_turns panel items turns output =
-    record { panel = panel; stage = Read; items = items; turns = turns; polls = 0; output = output; unsent = false }
+    record {
+      panel = panel;
+      stage = Read;
+      items = items;
+      turns = turns;
+      polls = 0;
+      output = output;
+      unsent = false;
+    }
 
 -- What a session of a panel of this plant has done where all its turns are over: something is kept of it.
 pub record Settled (plant : PlantData) (panel : ℕ) (past : Past) : Type 0 where

@@ -38,7 +38,8 @@ IsTold item (Named message) entries = Unit {0}
 -- So it is with each item from this number on.
 abbrev pub AllTold : ℕ → List Asked → List PlantEntry → Type 0
 AllTold item [] entries = Unit {0}
-AllTold item (asked ∷ others) entries = IsTold item asked entries × AllTold (item + 1) others entries
+AllTold item (asked ∷ others) entries =
+    IsTold item asked entries × AllTold (item + 1) others entries
 
 -- No entry is of an item from this number on, or of a poll behind it.
 pub record NoneFrom (item : ℕ) (entries : List PlantEntry) : Type 0 where

@@ -16,7 +16,8 @@ taken_output plant Nothing output = output
 taken_output plant Repeat output = repeated (emptied output)
 taken_output plant Refused output = with_control nak (emptied output)
 taken_output plant Noted output = with_control ack (emptied output)
-taken_output plant (Named message) output = with_frames (name_frames plant message) (with_control ack (emptied output))
+taken_output plant (Named message) output =
+    with_frames (name_frames plant message) (with_control ack (emptied output))
 taken_output plant (Sent message) output = with_control ack (emptied output)
 
 -- the bytes that are sent for it
@@ -25,7 +26,8 @@ sent_by plant Nothing output = []
 sent_by plant Repeat output = (repeated (emptied output)).bytes
 sent_by plant Refused output = nak
 sent_by plant Noted output = ack
-sent_by plant (Named message) output = (with_frames (name_frames plant message) (with_control ack (emptied output))).bytes
+sent_by plant (Named message) output =
+    (with_frames (name_frames plant message) (with_control ack (emptied output))).bytes
 sent_by plant (Sent message) output = ack
 
 -- Something is sent for it, or nothing.

@@ -29,7 +29,8 @@ no_page = page_at 0 0 0
 -- A page goes on with a destination: it is the next one of the page's level, and the page has fewer than 64.
 abbrev pub goes_on : Page → ℕ → ℕ → ℕ → Bool
 goes_on page matrix level dest =
-    page.matrix == matrix && page.level == level && page.first + length page.sources == dest && nat_lt (length page.sources) page_dests
+    page.matrix == matrix && page.level == level && page.first + length page.sources == dest
+    && nat_lt (length page.sources) page_dests
 
 -- the page with the source of one destination more
 abbrev pub with_source : Option ℕ → Page → Page
@@ -43,7 +44,8 @@ page_frames page = if length page.sources == 0 then [] else frame (page_text pag
 -- dump tells is gathered in pages: a page is sent once it doesn't go on with what comes next, or nothing does.
 abbrev pub frames_behind : Page → List Answer → List (List ℕ)
 frames_behind page [] = page_frames page
-frames_behind page (Say message ∷ others) = page_frames page ++ frame (text message) ∷ frames_behind no_page others
+frames_behind page (Say message ∷ others) =
+    page_frames page ++ frame (text message) ∷ frames_behind no_page others
 frames_behind page (Dumped matrix level dest source ∷ others) =
     if goes_on page matrix level dest then frames_behind (with_source source page) others
     else page_frames page ++ frames_behind (with_source source (page_at matrix level dest)) others
@@ -77,7 +79,8 @@ with_frames (sent ∷ others) output = with_frames others (with_frame sent outpu
 abbrev pub repeated : Output → Output
 repeated output = elim output.last [
   | None ↦ output
-  | (Some sent) ↦ if nat_lt output.repeats 5 then record output { bytes = output.bytes ++ sent; repeats = output.repeats + 1 } else output
+  | (Some sent) ↦ if nat_lt output.repeats 5
+      then record output { bytes = output.bytes ++ sent; repeats = output.repeats + 1 } else output
 ]
 
 -- the answers of a request, where it is a poll that was made behind so many items
@@ -88,7 +91,8 @@ polled_by item (Leave panel) answers = []
 
 -- the message frames of the polls that were made behind so many items, in order: those of each poll by themselves
 abbrev pub polled_at : ℕ → List PlantEntry → List (List ℕ)
-polled_at item entries = flat_map (λ entry. frames_of (polled_by item entry.request entry.answers)) entries
+polled_at item entries =
+    flat_map (λ entry. frames_of (polled_by item entry.request entry.answers)) entries
 
 -- a request is what the item of this number sent to the plant
 abbrev pub is_told_at : ℕ → Request → Bool
@@ -98,7 +102,8 @@ is_told_at item (Leave panel) = false
 
 -- the answers to what the item of this number sent to the plant, where it has an entry
 abbrev pub told_at : ℕ → List PlantEntry → Option (List Answer)
-told_at item entries = option_map (λ entry. entry.answers) (find (λ entry. is_told_at item entry.request) entries)
+told_at item entries =
+    option_map (λ entry. entry.answers) (find (λ entry. is_told_at item entry.request) entries)
 
 -- the output once the polls that were made behind so many items were answered
 abbrev pub with_polls : ℕ → List PlantEntry → Output → Output
@@ -110,7 +115,8 @@ with_polls item entries output = with_frames (polled_at item entries) output
 -- output ends behind that ACK.
 abbrev pub output_from : PlantData → ℕ → List Asked → List PlantEntry → Output → Output
 output_from plant item [] entries output = with_polls item entries output
-output_from plant item (Nothing ∷ others) entries output = output_from plant (item + 1) others entries (with_polls item entries output)
+output_from plant item (Nothing ∷ others) entries output =
+    output_from plant (item + 1) others entries (with_polls item entries output)
 output_from plant item (Repeat ∷ others) entries output =
     output_from plant (item + 1) others entries (repeated (with_polls item entries output))
 output_from plant item (Refused ∷ others) entries output =
@@ -118,14 +124,18 @@ output_from plant item (Refused ∷ others) entries output =
 output_from plant item (Noted ∷ others) entries output =
     output_from plant (item + 1) others entries (with_control ack (with_polls item entries output))
 output_from plant item (Named message ∷ others) entries output =
-    output_from plant (item + 1) others entries (with_frames (name_frames plant message) (with_control ack (with_polls item entries output)))
+    output_from plant (item + 1) others entries
+    (with_frames (name_frames plant message)
+    (with_control ack (with_polls item entries output)))
 output_from plant item (Sent message ∷ others) entries output = elim (told_at item entries) [
   | None ↦ with_control ack (with_polls item entries output)
-  | (Some answers) ↦ output_from plant (item + 1) others entries (with_frames (frames_of answers) (with_control ack (with_polls item entries output)))
+  | (Some answers) ↦ output_from plant (item + 1) others entries
+      (with_frames (frames_of answers) (with_control ack (with_polls item entries output)))
 ]
 
 -- The text of a session: what it sends on these items, given its entries.
-pub record IsText (plant : PlantData) (items : List (Item (List ℕ))) (entries : List PlantEntry) (text : List ℕ) : Type 0 where
+pub record IsText (plant : PlantData) (items : List (Item (List ℕ))) (entries : List PlantEntry)
+    (text : List ℕ) : Type 0 where
   pub asked : List Asked
   pub items_ask : AllAsk items asked
   pub bytes : text ≡ (output_from plant 0 asked entries nothing_sent).bytes

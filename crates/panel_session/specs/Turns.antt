@@ -37,7 +37,8 @@ item_count turns = length (items (bytes_of turns))
 
 -- the poll that a turn with this piece makes behind others: it has the number of items so far, and that of the turn
 abbrev pub poll_behind : ℕ → List Turn → List ℕ → Request
-poll_behind panel before piece = Poll panel (length (items (bytes_of before ++ piece))) (length before)
+poll_behind panel before piece =
+    Poll panel (length (items (bytes_of before ++ piece))) (length before)
 
 -- A turn polls until a poll has no answer, and at most 32 times.
 pub record ArePolls (poll : Request) (polls : List PlantEntry) : Type 0 where
@@ -65,7 +66,8 @@ pub record IsTurn (panel : ℕ) (before : List Turn) (turn : Turn) : Type 0 wher
 
 -- Each turn of a session, in its place, is one.
 abbrev pub AreTurns : ℕ → List Turn → Type 0
-AreTurns panel turns = (before after : List Turn) (turn : Turn) → turns ≡ before ++ turn ∷ after → IsTurn panel before turn
+AreTurns panel turns = (before after : List Turn) (turn : Turn) → turns ≡ before ++ turn ∷ after
+    → IsTurn panel before turn
 
 -- These entries fit these reads of a panel's session: they are made turn by turn.
 pub record Fits (panel : ℕ) (reads : List (List ℕ)) (entries : List PlantEntry) : Type 0 where

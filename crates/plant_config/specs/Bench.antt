@@ -9,7 +9,12 @@ use Rattle.plant_config.specs.Plant.{PlantData}
 
 -- Its sources, and the names of its destinations.
 unfoldable pub bench_sources : List Source
-bench_sources = map (λ number. record { name = default_name source_letter number; origin = number; pool = None }) (range_with_len 0 32)
+bench_sources =
+    map (λ number. record {
+      name = default_name source_letter number;
+      origin = number;
+      pool = None;
+    }) (range_with_len 0 32)
 
 unfoldable pub bench_dest_names : List (List ℕ)
 bench_dest_names = map (default_name destination_letter) (range_with_len 0 32)
@@ -18,7 +23,14 @@ unfoldable pub bench : PlantData
 bench = record {
   title = codes "Bench";
   server = default_server;
-  levels = record { matrix = 0; level = 0; first_source = 0; sources = 32; first_dest = 0; destinations = 32 } ∷ [];
+  levels = record {
+    matrix = 0;
+    level = 0;
+    first_source = 0;
+    sources = 32;
+    first_dest = 0;
+    destinations = 32;
+  } ∷ [];
   sources = bench_sources;
   dest_names = bench_dest_names;
   pools = [];
@@ -27,7 +39,8 @@ bench = record {
   air = [];
   preview = [];
   displays = [];
-  panels = record { device = 1; port = 9001; master = false } ∷ record { device = 2; port = 9002; master = true } ∷ [];
+  panels = record { device = 1; port = 9001; master = false }
+      ∷ record { device = 2; port = 9002; master = true } ∷ [];
 }
 
 unfoldable pub bench_file : FileData
@@ -49,5 +62,6 @@ bench_file = record {
   air = [];
   preview = [];
   displays = [];
-  panels = record { device = 1; port = 9001; master = false } ∷ record { device = 2; port = 9002; master = true } ∷ [];
+  panels = record { device = 1; port = 9001; master = false }
+      ∷ record { device = 2; port = 9002; master = true } ∷ [];
 }

@@ -48,11 +48,13 @@ AllPlaced IsSo list = (place : ℕ) → IfSome (slice_get list place) (IsSo plac
 
 -- a source is local: it is of a router's own
 abbrev pub is_local : PlantData → ℕ → Bool
-is_local plant source = option_map_or (λ (found : Source). is_none found.pool) (slice_get plant.sources source) false
+is_local plant source =
+    option_map_or (λ (found : Source). is_none found.pool) (slice_get plant.sources source) false
 
 -- A number is that of a source, or of a destination, of this matrix and level.
 abbrev pub IsOf : Numbering → PlantData → ℕ → ℕ → ℕ → Type 0
-IsOf numbers plant matrix level number = IsSomeSo (level_of numbers plant number) (λ at. (at.matrix ≡ matrix) × (at.level ≡ level))
+IsOf numbers plant matrix level number =
+    IsSomeSo (level_of numbers plant number) (λ at. (at.matrix ≡ matrix) × (at.level ≡ level))
 
 -- A pool of the plant leads from where a source is to where another one is.
 pub record Leads (plant : PlantData) (origin source : ℕ) (pool : Pool) : Type 0 where
@@ -66,7 +68,8 @@ pub record IsRemote (plant : PlantData) (origin source pool : ℕ) : Type 0 wher
 
 -- A local source is its own origin, and a remote one stands for its origin.
 abbrev pub ComesFromOrigin : PlantData → ℕ → Source → Type 0
-ComesFromOrigin plant number source = MatchOption source.pool (source.origin ≡ number) (IsRemote plant source.origin number)
+ComesFromOrigin plant number source =
+    MatchOption source.pool (source.origin ≡ number) (IsRemote plant source.origin number)
 
 -- A source has a name and an origin.
 pub record IsSource (plant : PlantData) (number : ℕ) (source : Source) : Type 0 where
@@ -86,7 +89,8 @@ buses_of plant device = take device.buses (drop device.first_bus plant.buses)
 
 -- A number is that of a source of level 0.
 abbrev pub IsMainSource : PlantData → ℕ → Type 0
-IsMainSource plant source = IsSomeSo (level_of source_numbers plant source) (λ at. at.level ≡ main_level)
+IsMainSource plant source =
+    IsSomeSo (level_of source_numbers plant source) (λ at. at.level ≡ main_level)
 
 -- A device's output is a local source of level 0, and its buses are those that say so.
 pub record IsDevice (plant : PlantData) (number : ℕ) (device : Device) : Type 0 where

@@ -21,7 +21,8 @@ noted_at levels places place = option_and_then (slice_get levels) (slice_index_o
 -- Of these levels, what is noted of each matrix and level number is its level among those.
 abbrev pub AreNotedOf : List Level → List (Option ℕ) → List Level → Type 0
 AreNotedOf levels places those =
-    (matrix level : ℕ) → matrix < matrix_limit → level < level_limit → noted_at levels places (place_of matrix level) ≡ level_among those matrix level
+    (matrix level : ℕ) → matrix < matrix_limit → level < level_limit
+    → noted_at levels places (place_of matrix level) ≡ level_among those matrix level
 
 -- The levels are such as are noted, and each is.
 pub record AreNoted (levels : List Level) (places : List (Option ℕ)) : Type 0 where

@@ -53,10 +53,12 @@ AreLow = All IsLow
 
 -- the number in the whole plant of a source, and of a destination, by its place, 0 where the levels have none
 abbrev pub source_among : List Level → ℕ → ℕ → ℕ → ℕ
-source_among levels matrix level source = unwrap_or (number_among source_numbers levels matrix level source) 0
+source_among levels matrix level source =
+    unwrap_or (number_among source_numbers levels matrix level source) 0
 
 abbrev pub dest_among : List Level → ℕ → ℕ → ℕ → ℕ
-dest_among levels matrix level dest = unwrap_or (number_among dest_numbers levels matrix level dest) 0
+dest_among levels matrix level dest =
+    unwrap_or (number_among dest_numbers levels matrix level dest) 0
 
 abbrev pub root_among : List Level → RootEntry → ℕ
 root_among levels root = dest_among levels root.matrix main_level root.destination
@@ -86,7 +88,8 @@ abbrev pub buses_among : List Level → ℕ → List BusEntry → DeviceEntry �
 buses_among levels number buses device = map (bus_among levels number) (named buses device)
 
 -- a device of this number among the devices
-abbrev pub device_among : List Level → List DeviceEntry → List BusEntry → ℕ → DeviceEntry → Device
+abbrev pub device_among : List Level → List DeviceEntry → List BusEntry → ℕ → DeviceEntry
+    → Device
 device_among levels devices buses number device = record {
   output = source_among levels device.matrix main_level device.source;
   first_bus = sum_by (λ other. length (named buses other)) (take number devices);
@@ -94,16 +97,19 @@ device_among levels devices buses number device = record {
 }
 
 -- those of the first devices
-abbrev pub devices_from : List Level → List DeviceEntry → List BusEntry → List DeviceEntry → List Device
+abbrev pub devices_from : List Level → List DeviceEntry → List BusEntry → List DeviceEntry
+    → List Device
 devices_from levels devices buses front =
-    map (λ (numbered : ℕ × DeviceEntry). device_among levels devices buses numbered.0 numbered.1) (enumerate_from 0 front)
+    map (λ (numbered : ℕ × DeviceEntry). device_among levels devices buses numbered.0 numbered.1)
+    (enumerate_from 0 front)
 
 abbrev pub numbered_devices : List Level → List DeviceEntry → List BusEntry → List Device
 numbered_devices levels devices buses = devices_from levels devices buses devices
 
 abbrev pub numbered_buses : List Level → List DeviceEntry → List BusEntry → List Bus
 numbered_buses levels devices buses =
-    flat_map (λ (numbered : ℕ × DeviceEntry). buses_among levels numbered.0 buses numbered.1) (enumerate_from 0 devices)
+    flat_map (λ (numbered : ℕ × DeviceEntry). buses_among levels numbered.0 buses numbered.1)
+    (enumerate_from 0 devices)
 
 -- the order of the keys of the maps
 abbrev pub place_cmp : ℕ × ℕ × ℕ → ℕ × ℕ × ℕ → Ordering
@@ -118,26 +124,35 @@ way_of pool = (pool.from, pool.to, pool.level)
 
 -- the remote that is a source of a level, where it is one
 abbrev pub remote_among : List RemoteEntry → ℕ × ℕ × ℕ → Option RemoteEntry
-remote_among remotes at = find (λ remote. bytes_eq (remote_key remote) (at.0 ∷ at.1 ∷ at.2 ∷ [])) remotes
+remote_among remotes at =
+    find (λ remote. bytes_eq (remote_key remote) (at.0 ∷ at.1 ∷ at.2 ∷ [])) remotes
 
 -- the number of the pool that leads from a matrix to a matrix at a level
 abbrev pub pool_among : List PoolEntry → ℕ × ℕ × ℕ → Option ℕ
 pool_among pools at = position (λ pool. bytes_eq (pool_key pool) (at.0 ∷ at.1 ∷ at.2 ∷ [])) pools
 
 -- A map has what a function says.
-abbrev pub Maps : {X : Type 0} → BTreeMap (ℕ × ℕ × ℕ) X → (ℕ × ℕ × ℕ → Option X) → Type 0
+abbrev pub Maps : {X : Type 0} → BTreeMap (ℕ × ℕ × ℕ) X
+    → (ℕ × ℕ × ℕ → Option X) → Type 0
 Maps made function = (at : ℕ × ℕ × ℕ) → get place_cmp made at ≡ function at
 
 -- what a key has after a value came to another one that had none
-abbrev pub added : {X : Type 0} → Option X → ℕ × ℕ × ℕ → X → ℕ × ℕ × ℕ → Option X
-added before key value at = option_or before (if bytes_eq (key.0 ∷ key.1 ∷ key.2 ∷ []) (at.0 ∷ at.1 ∷ at.2 ∷ []) then Some value else None)
+abbrev pub added : {X : Type 0} → Option X → ℕ × ℕ × ℕ → X → ℕ × ℕ × ℕ
+    → Option X
+added before key value at =
+    option_or before
+    (if bytes_eq (key.0 ∷ key.1 ∷ key.2 ∷ []) (at.0 ∷ at.1 ∷ at.2 ∷ []) then Some value
+    else None)
 
 -- A value came to a map, unless its key had one.
-abbrev pub AddsTo : {X : Type 0} → BTreeMap (ℕ × ℕ × ℕ) X → BTreeMap (ℕ × ℕ × ℕ) X → ℕ × ℕ × ℕ → X → Type 0
-AddsTo old new key value = (at : ℕ × ℕ × ℕ) → get place_cmp new at ≡ added (get place_cmp old at) key value at
+abbrev pub AddsTo : {X : Type 0} → BTreeMap (ℕ × ℕ × ℕ) X
+    → BTreeMap (ℕ × ℕ × ℕ) X → ℕ × ℕ × ℕ → X → Type 0
+AddsTo old new key value =
+    (at : ℕ × ℕ × ℕ) → get place_cmp new at ≡ added (get place_cmp old at) key value at
 
 -- What is known of a file: its levels as the plant has them, and its remotes and its pools by what tells them apart.
-pub record Knows (file : FileData) (levels : List Level) (by_place : BTreeMap (ℕ × ℕ × ℕ) RemoteEntry) (by_way : BTreeMap (ℕ × ℕ × ℕ) ℕ) : Type 0 where
+pub record Knows (file : FileData) (levels : List Level)
+    (by_place : BTreeMap (ℕ × ℕ × ℕ) RemoteEntry) (by_way : BTreeMap (ℕ × ℕ × ℕ) ℕ) : Type 0 where
   pub numbered : levels ≡ levels_of file
   pub low : AreLow levels
   pub remotes : Maps by_place (remote_among file.remotes)
@@ -150,7 +165,8 @@ HasFewSources level = length level.source_names ≤ level_source_limit
 
 -- where a remote source comes from: its origin and its pool
 abbrev pub behind : FileData → RemoteEntry → ℕ × Option ℕ
-behind file remote = (source_number file remote.from remote.level remote.from_source, Some (pool_number file remote))
+behind file remote =
+    (source_number file remote.from remote.level remote.from_source, Some (pool_number file remote))
 
 -- where a source of a level comes from
 abbrev pub origin_with : FileData → LevelData → ℕ → Option RemoteEntry → ℕ × Option ℕ
@@ -158,7 +174,8 @@ origin_with file level number None = (source_number file level.matrix level.leve
 origin_with file level number (Some remote) = behind file remote
 
 abbrev pub origin_in : FileData → LevelData → ℕ → ℕ × Option ℕ
-origin_in file level number = origin_with file level number (remote_at file level.matrix level.level number)
+origin_in file level number =
+    origin_with file level number (remote_at file level.matrix level.level number)
 
 -- a source of this name, by where it comes from
 abbrev pub with_origin : List ℕ → ℕ × Option ℕ → Source
@@ -167,4 +184,5 @@ with_origin name origin = record { name = name; origin = origin.0; pool = origin
 -- the sources of a level that have these names
 abbrev pub sources_from : FileData → LevelData → List (List ℕ) → List Source
 sources_from file level names =
-    map (λ (named : ℕ × List ℕ). source_with file level named.1 named.0 (remote_at file level.matrix level.level named.0)) (enumerate_from 0 names)
+    map (λ (named : ℕ × List ℕ). source_with file level named.1 named.0
+    (remote_at file level.matrix level.level named.0)) (enumerate_from 0 names)

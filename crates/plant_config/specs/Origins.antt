@@ -10,15 +10,19 @@ use Rattle.plant_config.specs.IsPlant.{is_local, IsSomeSo}
 
 -- A source is one of a level of a matrix.
 abbrev pub IsSourceOf : PlantData → ℕ → ℕ → ℕ → Type 0
-IsSourceOf plant matrix level source = IsSomeSo (site_of source_numbers plant source) (λ (at : Site). (at.matrix ≡ matrix) × (at.level ≡ level))
+IsSourceOf plant matrix level source =
+    IsSomeSo (site_of source_numbers plant source)
+    (λ (at : Site). (at.matrix ≡ matrix) × (at.level ≡ level))
 
 -- Each source stands for a local one.
 abbrev pub EachOriginIsLocal : PlantData → Type 0
-EachOriginIsLocal plant = (source origin : ℕ) → origin_of plant source ≡ Some origin → is_local plant origin ≡ true
+EachOriginIsLocal plant =
+    (source origin : ℕ) → origin_of plant source ≡ Some origin → is_local plant origin ≡ true
 
 -- A local source stands for itself.
 abbrev pub LocalsAreOrigins : PlantData → Type 0
-LocalsAreOrigins plant = (source : ℕ) → is_local plant source ≡ true → origin_of plant source ≡ Some source
+LocalsAreOrigins plant =
+    (source : ℕ) → is_local plant source ≡ true → origin_of plant source ≡ Some source
 
 -- A picture comes from a router's own source.
 pub record OriginsAreLocal (plant : PlantData) : Type 0 where
@@ -33,7 +37,9 @@ pub record LeadsAcross (plant : PlantData) (origin source : ℕ) (pool : Pool) :
 
 -- The pool of each remote source leads to it from the source that it stands for.
 abbrev pub PoolsLeadAcross : PlantData → Type 0
-PoolsLeadAcross plant = (source origin pool : ℕ) → origin_of plant source ≡ Some origin → pool_of plant source ≡ Some pool → IsSomeSo (slice_get plant.pools pool) (LeadsAcross plant origin source)
+PoolsLeadAcross plant = (source origin pool : ℕ) → origin_of plant source ≡ Some origin
+    → pool_of plant source ≡ Some pool
+    → IsSomeSo (slice_get plant.pools pool) (LeadsAcross plant origin source)
 
 -- the destination that a bus is
 abbrev pub bus_dest_of : PlantData → ℕ → Option ℕ
@@ -41,4 +47,5 @@ bus_dest_of plant bus = option_map (λ (found : Bus). found.dest) (slice_get pla
 
 -- No destination is two buses.
 abbrev pub BusesDiffer : PlantData → Type 0
-BusesDiffer plant = (first second dest : ℕ) → bus_dest_of plant first ≡ Some dest → bus_dest_of plant second ≡ Some dest → first ≡ second
+BusesDiffer plant = (first second dest : ℕ) → bus_dest_of plant first ≡ Some dest
+    → bus_dest_of plant second ≡ Some dest → first ≡ second

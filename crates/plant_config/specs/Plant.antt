@@ -33,10 +33,20 @@ pub record Numbering : Type 0 where
   pub limit : ℕ
 
 abbrev pub dest_numbers : Numbering
-dest_numbers = record { first = λ level. level.first_dest; count = λ level. level.destinations; limit = level_destination_limit }
+dest_numbers =
+    record {
+      first = λ level. level.first_dest;
+      count = λ level. level.destinations;
+      limit = level_destination_limit;
+    }
 
 abbrev pub source_numbers : Numbering
-source_numbers = record { first = λ level. level.first_source; count = λ level. level.sources; limit = level_source_limit }
+source_numbers =
+    record {
+      first = λ level. level.first_source;
+      count = λ level. level.sources;
+      limit = level_source_limit;
+    }
 
 -- how many a plant has in all
 abbrev pub total : Numbering → PlantData → ℕ

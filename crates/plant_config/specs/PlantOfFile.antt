@@ -31,11 +31,14 @@ order level = level.matrix * level_limit + level.level
 
 -- the levels of a file in that order
 abbrev pub in_order : List LevelData → List LevelData
-in_order levels = flat_map (λ number. filter (λ level. order level == number) levels) (range_with_len 0 (matrix_limit * level_limit))
+in_order levels =
+    flat_map (λ number. filter (λ level. order level == number) levels)
+    (range_with_len 0 (matrix_limit * level_limit))
 
 -- how many the levels in front of a level have in all, of its sources or of its destinations
 abbrev pub count_before : (LevelData → ℕ) → List LevelData → LevelData → ℕ
-count_before count levels level = sum_by count (filter (λ other. nat_lt (order other) (order level)) levels)
+count_before count levels level =
+    sum_by count (filter (λ other. nat_lt (order other) (order level)) levels)
 
 -- a level in the plant: its first source and its first destination are behind those of the levels in front of it
 abbrev pub placed : List LevelData → LevelData → Level
@@ -54,21 +57,28 @@ levels_of file = map (placed file.levels) (in_order file.levels)
 
 -- the number in the whole plant of a source, and of a destination, by its place in the file
 abbrev pub source_number : FileData → ℕ → ℕ → ℕ → ℕ
-source_number file matrix level source = unwrap_or (number_among source_numbers (levels_of file) matrix level source) 0
+source_number file matrix level source =
+    unwrap_or (number_among source_numbers (levels_of file) matrix level source) 0
 
 abbrev pub dest_number : FileData → ℕ → ℕ → ℕ → ℕ
-dest_number file matrix level dest = unwrap_or (number_among dest_numbers (levels_of file) matrix level dest) 0
+dest_number file matrix level dest =
+    unwrap_or (number_among dest_numbers (levels_of file) matrix level dest) 0
 
 -- the remote that is a source of a level, where it is one
 abbrev pub remote_at : FileData → ℕ → ℕ → ℕ → Option RemoteEntry
-remote_at file matrix level source = find (λ remote. bytes_eq (remote_key remote) (matrix ∷ level ∷ source ∷ [])) file.remotes
+remote_at file matrix level source =
+    find (λ remote. bytes_eq (remote_key remote) (matrix ∷ level ∷ source ∷ [])) file.remotes
 
 -- the number of the pool that leads to a remote
 abbrev pub pool_number : FileData → RemoteEntry → ℕ
-pool_number file remote = position_or_len (λ pool. bytes_eq (pool_key pool) (remote.from ∷ remote.matrix ∷ remote.level ∷ [])) file.pools
+pool_number file remote =
+    position_or_len
+    (λ pool. bytes_eq (pool_key pool)
+    (remote.from ∷ remote.matrix ∷ remote.level ∷ [])) file.pools
 
 -- a source of a level: a local one is its own origin, a remote one stands for its origin
-abbrev pub source_with : FileData → LevelData → List ℕ → ℕ → Option RemoteEntry → Source
+abbrev pub source_with : FileData → LevelData → List ℕ → ℕ → Option RemoteEntry
+    → Source
 source_with file level name source None = record {
   name = name;
   origin = source_number file level.matrix level.level source;
@@ -83,7 +93,8 @@ source_with file level name source (Some remote) = record {
 -- the sources of a level, in the order of their numbers
 abbrev pub sources_at : FileData → LevelData → List Source
 sources_at file level =
-    map (λ (named : ℕ × List ℕ). source_with file level named.1 named.0 (remote_at file level.matrix level.level named.0)) (enumerate_from 0 level.source_names)
+    map (λ (named : ℕ × List ℕ). source_with file level named.1 named.0
+    (remote_at file level.matrix level.level named.0)) (enumerate_from 0 level.source_names)
 
 abbrev pub pool_in : PoolEntry → Pool
 pool_in pool = record { from = pool.from; to = pool.to; level = pool.level; ties = pool.ties }
@@ -133,8 +144,11 @@ plant_of_file file = record {
   sources = flat_map (sources_at file) (in_order file.levels);
   dest_names = flat_map (λ level. level.destination_names) (in_order file.levels);
   pools = map pool_in file.pools;
-  devices = map (λ (numbered : ℕ × DeviceEntry). device_in file numbered.0 numbered.1) (enumerate_from 0 file.devices);
-  buses = flat_map (λ (numbered : ℕ × DeviceEntry). map (bus_in file numbered.0) (named_buses file numbered.1)) (enumerate_from 0 file.devices);
+  devices = map (λ (numbered : ℕ × DeviceEntry). device_in file numbered.0 numbered.1)
+      (enumerate_from 0 file.devices);
+  buses = flat_map
+      (λ (numbered : ℕ × DeviceEntry). map (bus_in file numbered.0) (named_buses file numbered.1))
+      (enumerate_from 0 file.devices);
   air = map (root_in file) file.air;
   preview = map (root_in file) file.preview;
   displays = map (display_in file) file.displays;

@@ -14,7 +14,8 @@ pub record Site : Type 0 where
 
 -- the level of this matrix and this level number
 abbrev pub level_among : List Level → ℕ → ℕ → Option Level
-level_among levels matrix number = find (λ level. level.matrix == matrix && level.level == number) levels
+level_among levels matrix number =
+    find (λ level. level.matrix == matrix && level.level == number) levels
 
 abbrev pub level_at : PlantData → ℕ → ℕ → Option Level
 level_at plant = level_among plant.levels
@@ -23,14 +24,17 @@ level_at plant = level_among plant.levels
 -- level no such number
 abbrev pub number_among : Numbering → List Level → ℕ → ℕ → ℕ → Option ℕ
 number_among numbers levels matrix level number =
-    option_and_then (λ at. if nat_lt number (numbers.count at) then Some (numbers.first at + number) else None) (level_among levels matrix level)
+    option_and_then
+    (λ at. if nat_lt number (numbers.count at) then Some (numbers.first at + number) else None)
+    (level_among levels matrix level)
 
 abbrev pub number_at : Numbering → PlantData → ℕ → ℕ → ℕ → Option ℕ
 number_at numbers plant = number_among numbers plant.levels
 
 -- whether a number of the whole plant is among those of a level
 abbrev pub has_number : Numbering → ℕ → Level → Bool
-has_number numbers number level = nat_le (numbers.first level) number && nat_lt number (numbers.first level + numbers.count level)
+has_number numbers number level =
+    nat_le (numbers.first level) number && nat_lt number (numbers.first level + numbers.count level)
 
 -- the level that has a number
 abbrev pub level_of : Numbering → PlantData → ℕ → Option Level
@@ -39,7 +43,11 @@ level_of numbers plant number = find (has_number numbers number) plant.levels
 -- the place of what has a number
 abbrev pub site_of : Numbering → PlantData → ℕ → Option Site
 site_of numbers plant number =
-    option_map (λ at. record { matrix = at.matrix; level = at.level; number = number - numbers.first at }) (level_of numbers plant number)
+    option_map (λ at. record {
+      matrix = at.matrix;
+      level = at.level;
+      number = number - numbers.first at;
+    }) (level_of numbers plant number)
 
 -- the number of a destination by its place, and of a source by its place
 abbrev pub dest_at : PlantData → ℕ → ℕ → ℕ → Option ℕ
@@ -51,11 +59,13 @@ source_at = number_at source_numbers
 -- the place of a destination
 abbrev pub point_of : PlantData → ℕ → Option Point
 point_of plant dest =
-    option_map (λ place. record { matrix = place.matrix; level = place.level; dest = place.number }) (site_of dest_numbers plant dest)
+    option_map (λ place. record { matrix = place.matrix; level = place.level; dest = place.number })
+    (site_of dest_numbers plant dest)
 
 -- the number of a source in its level
 abbrev pub source_number_of : PlantData → ℕ → Option ℕ
-source_number_of plant source = option_map (λ place. place.number) (site_of source_numbers plant source)
+source_number_of plant source =
+    option_map (λ place. place.number) (site_of source_numbers plant source)
 
 -- A place is within the limits of a plant.
 pub record IsSite (numbers : Numbering) (at : Site) : Type 0 where
@@ -65,8 +75,10 @@ pub record IsSite (numbers : Numbering) (at : Site) : Type 0 where
 
 -- The number that a place has leads back to that place, so no two places have one number.
 abbrev pub NumbersLeadBack : Numbering → PlantData → Type 0
-NumbersLeadBack numbers plant = (matrix level number found : ℕ) → number_at numbers plant matrix level number ≡ Some found
-    → site_of numbers plant found ≡ Some (record { matrix = matrix; level = level; number = number })
+NumbersLeadBack numbers plant =
+    (matrix level number found : ℕ) → number_at numbers plant matrix level number ≡ Some found
+    → site_of numbers plant found
+    ≡ Some (record { matrix = matrix; level = level; number = number })
 
 -- The place that a number has leads back to that number, so no place has two.
 abbrev pub PlacesLeadBack : Numbering → PlantData → Type 0
@@ -75,16 +87,19 @@ PlacesLeadBack numbers plant = (found : ℕ) (at : Site) → site_of numbers pla
 
 -- The number of each place is below the count of all.
 abbrev pub NumbersAreBelow : Numbering → PlantData → Type 0
-NumbersAreBelow numbers plant = (matrix level number found : ℕ) → number_at numbers plant matrix level number ≡ Some found
+NumbersAreBelow numbers plant =
+    (matrix level number found : ℕ) → number_at numbers plant matrix level number ≡ Some found
     → found < total numbers plant
 
 -- Each number below the count of all has a place.
 abbrev pub NumbersHavePlaces : Numbering → PlantData → Type 0
-NumbersHavePlaces numbers plant = (found : ℕ) → found < total numbers plant → IsSome (site_of numbers plant found)
+NumbersHavePlaces numbers plant =
+    (found : ℕ) → found < total numbers plant → IsSome (site_of numbers plant found)
 
 -- The place of each number is within its limits.
 abbrev pub PlacesAreInRange : Numbering → PlantData → Type 0
-PlacesAreInRange numbers plant = (found : ℕ) (at : Site) → site_of numbers plant found ≡ Some at → IsSite numbers at
+PlacesAreInRange numbers plant =
+    (found : ℕ) (at : Site) → site_of numbers plant found ≡ Some at → IsSite numbers at
 
 -- A number leads to its place and back, so no two places have one number, and no place has two. The numbers are those
 -- below the count of all, and the places are within their limits.

@@ -19,7 +19,8 @@ use Rattle.plant_core.specs.Answer.{IsSayable, IsAnswerCount, room_of}
 
 -- Whoever interrogates a place is answered with this source, and with nothing else.
 abbrev pub AnswersWith : State → Point → Option ℕ → Type 0
-AnswersWith state at source = (panel item : ℕ) → (step state (Told panel item (Interrogate at))).answers ≡ Say (Tally at source) ∷ []
+AnswersWith state at source = (panel item : ℕ)
+    → (step state (Told panel item (Interrogate at))).answers ≡ Say (Tally at source) ∷ []
 
 -- A place may be given a source where it is in the plant, and the source is parked or in that level.
 pub record IsConnectable (plant : PlantData) (at : Point) (source : Option ℕ) : Type 0 where
@@ -39,7 +40,8 @@ OthersAnswerAsBefore old at new = (place : Point) (stands : Option ℕ)
 
 -- A connect is made: it is answered so, its source stands at its place, no other destination changes, and so every other
 -- place answers as before.
-pub record IsMade (old : State) (at : Point) (source : Option ℕ) (stepped : Stepped State Answer) : Type 0 where
+pub record IsMade (old : State) (at : Point) (source : Option ℕ)
+    (stepped : Stepped State Answer) : Type 0 where
   pub answer : stepped.answers ≡ Say (Connected at source) ∷ []
   pub stands : AnswersWith stepped.state at source
   pub unmoved : OthersCarryAsBefore old at stepped.state
@@ -79,7 +81,8 @@ after state (request ∷ requests) = after (step state request).state requests
 
 -- A request isn't a connect of this place.
 abbrev pub LeavesAlone : Point → Request → Type 0
-LeavesAlone at request = (panel item : ℕ) (source : Option ℕ) → request ≢ Told panel item (Connect at source)
+LeavesAlone at request =
+    (panel item : ℕ) (source : Option ℕ) → request ≢ Told panel item (Connect at source)
 
 -- the state at the start of a plant is valid
 abbrev pub StartsAreValid : Type 0
@@ -87,11 +90,13 @@ StartsAreValid = (plant : PlantData) → IsPlant plant → IsValid (start plant)
 
 -- a step from a valid state leaves a valid one
 abbrev pub StepsStayValid : Type 0
-StepsStayValid = (state : State) (request : Request) → IsValid state → IsValid (step state request).state
+StepsStayValid =
+    (state : State) (request : Request) → IsValid state → IsValid (step state request).state
 
 -- no step changes the plant
 abbrev pub StepsKeepThePlant : Type 0
-StepsKeepThePlant = (state : State) (request : Request) → (step state request).state.plant ≡ state.plant
+StepsKeepThePlant =
+    (state : State) (request : Request) → (step state request).state.plant ≡ state.plant
 
 -- changes of a valid state's plant, made as one, leave a valid state
 abbrev pub ChangesStayValid : Type 0
@@ -108,18 +113,22 @@ ConnectablesAreMade = (state : State) (panel item : ℕ) (at : Point) (source : 
 -- every other connect isn't made
 abbrev pub OthersAreNotMade : Type 0
 OthersAreNotMade = (state : State) (panel item : ℕ) (at : Point) (source : Option ℕ)
-    → ¬ IsConnectable state.plant at source → IsNotMade state at (step state (Told panel item (Connect at source)))
+    → ¬ IsConnectable state.plant at source
+    → IsNotMade state at (step state (Told panel item (Connect at source)))
 
 -- A connect that is made stands: whoever interrogates its place is answered with its source, whatever was asked meanwhile
 -- but a connect of that place.
 abbrev pub ConnectsStand : Type 0
-ConnectsStand = (state : State) (panel item : ℕ) (at : Point) (source : Option ℕ) (later : List Request)
+ConnectsStand =
+    (state : State) (panel item : ℕ) (at : Point) (source : Option ℕ) (later : List Request)
     → IsValid state → IsConnectable state.plant at source → All (LeavesAlone at) later
-    → (let new : State = (step state (Told panel item (Connect at source))).state in AnswersWith (after new later) at source)
+    → (let new : State = (step state (Told panel item (Connect at source))).state
+    in AnswersWith (after new later) at source)
 
 -- an interrogate changes nothing
 abbrev pub InterrogatesChangeNothing : Type 0
-InterrogatesChangeNothing = (state : State) (panel item : ℕ) (at : Point) → (step state (Told panel item (Interrogate at))).state ≡ state
+InterrogatesChangeNothing = (state : State) (panel item : ℕ) (at : Point)
+    → (step state (Told panel item (Interrogate at))).state ≡ state
 
 -- at the start of a plant each interrogate is answered with 'parked'
 abbrev pub StartsAnswerParked : Type 0
@@ -127,7 +136,8 @@ StartsAnswerParked = (plant : PlantData) (at : Point) → AnswersWith (start pla
 
 -- an interrogate of a place that the plant doesn't have is answered with 'parked'
 abbrev pub OutsidersAnswerParked : Type 0
-OutsidersAnswerParked = (state : State) (at : Point) → IsNone (dest_at state.plant at.matrix at.level at.dest) → AnswersWith state at None
+OutsidersAnswerParked = (state : State) (at : Point)
+    → IsNone (dest_at state.plant at.matrix at.level at.dest) → AnswersWith state at None
 
 -- a dump tells what stands
 abbrev pub DumpsTellWhatStands : Type 0
@@ -141,11 +151,13 @@ AnswersAreFew = (state : State) (request : Request) → Fits state request
 
 -- a request that fits has no more answers than there has to be room for
 abbrev pub AnswersFit : Type 0
-AnswersFit = (state : State) (request : Request) → Fits state request → length (step state request).answers ≤ room_of state.plant
+AnswersFit = (state : State) (request : Request) → Fits state request
+    → length (step state request).answers ≤ room_of state.plant
 
 -- in a valid state each answer to a request that fits can be said
 abbrev pub AnswersAreSayable : Type 0
-AnswersAreSayable = (state : State) (request : Request) → IsValid state → Fits state request → All IsSayable (step state request).answers
+AnswersAreSayable = (state : State) (request : Request) → IsValid state → Fits state request
+    → All IsSayable (step state request).answers
 
 -- no plant asks for room for more than 1,024 answers
 abbrev pub RoomsAreBounded : Type 0
@@ -158,4 +170,5 @@ ItemsHaveNoEffect = (state : State) (panel item other : ℕ) (message : Message)
 
 -- a poll's numbers of items and turns have no effect
 abbrev pub PollNumbersHaveNoEffect : Type 0
-PollNumbersHaveNoEffect = (state : State) (panel item turn other later : ℕ) → step state (Poll panel item turn) ≡ step state (Poll panel other later)
+PollNumbersHaveNoEffect = (state : State) (panel item turn other later : ℕ)
+    → step state (Poll panel item turn) ≡ step state (Poll panel other later)

@@ -31,7 +31,8 @@ OthersHear old new asker dest = (panel : ℕ)
 
 -- The board of whoever has left is as it was.
 abbrev pub BoardsOfLeaversStay : List Board → List Board → Type 0
-BoardsOfLeaversStay old new = (panel : ℕ) → has_left old panel ≡ true → board_of new panel ≡ board_of old panel
+BoardsOfLeaversStay old new =
+    (panel : ℕ) → has_left old panel ≡ true → board_of new panel ≡ board_of old panel
 
 -- No panel's notice came or went, but that of this destination's source.
 abbrev pub OtherNoticesStay : List Board → List Board → ℕ → Type 0
@@ -76,7 +77,8 @@ Remains panel requests = All (λ request. request ≢ Leave panel) requests
 
 -- A request is neither a poll nor a leave of this panel.
 abbrev pub IsNoPollOrLeave : ℕ → Request → Type 0
-IsNoPollOrLeave panel request = ((item turn : ℕ) → request ≢ Poll panel item turn) × (request ≢ Leave panel)
+IsNoPollOrLeave panel request =
+    ((item turn : ℕ) → request ≢ Poll panel item turn) × (request ≢ Leave panel)
 
 -- polls of one panel, with these items and turns
 abbrev pub polls_of : ℕ → List (ℕ × ℕ) → List Request
@@ -85,7 +87,8 @@ polls_of panel numbers = map (λ number. Poll panel number.0 number.1) numbers
 -- the answers to each of a list of requests
 abbrev pub answers_of : State → List Request → List (List Answer)
 answers_of state [] = []
-answers_of state (request ∷ requests) = (step state request).answers ∷ answers_of (step state request).state requests
+answers_of state (request ∷ requests) =
+    (step state request).answers ∷ answers_of (step state request).state requests
 
 -- what is told for each of some notices
 abbrev pub told_for : State → List (ℕ × Sort) → List (List Answer)
@@ -103,8 +106,10 @@ pub record IsServedAlike (one other : State) (request : Request) : Type 0 where
 -- A connect that changes a source gives notice to all other panels that haven't left, and to nobody else.
 abbrev pub ConnectsAreHeard : Type 0
 ConnectsAreHeard = (state : State) (panel item dest : ℕ) (at : Point) (source : Option ℕ)
-    → IsValid state → ChangesSource state at source → dest_at state.plant at.matrix at.level at.dest ≡ Some dest
-    → (let new : State = (step state (Told panel item (Connect at source))).state in IsHeard state.boards new.boards panel dest)
+    → IsValid state → ChangesSource state at source
+    → dest_at state.plant at.matrix at.level at.dest ≡ Some dest
+    → (let new : State = (step state (Told panel item (Connect at source))).state
+    in IsHeard state.boards new.boards panel dest)
 
 -- a connect that changes no source gives no notice
 abbrev pub OthersAreQuiet : Type 0
@@ -115,7 +120,8 @@ OthersAreQuiet = (state : State) (panel item : ℕ) (at : Point) (source : Optio
 -- a message that is no connect changes nothing
 abbrev pub OnlyConnectsChange : Type 0
 OnlyConnectsChange = (state : State) (panel item : ℕ) (message : Message)
-    → ((at : Point) (source : Option ℕ) → message ≢ Connect at source) → (step state (Told panel item message)).state ≡ state
+    → ((at : Point) (source : Option ℕ) → message ≢ Connect at source)
+    → (step state (Told panel item message)).state ≡ state
 
 -- a poll of a panel that has a notice tells it of one destination
 abbrev pub PollsTell : Type 0
@@ -144,19 +150,23 @@ NoticesStandUntilTold = (state : State) (panel dest : ℕ) (later : List Request
 -- polls of a panel, no more than it has notices, tell it of these in their order
 abbrev pub PollsTellInOrder : Type 0
 PollsTellInOrder = (state : State) (panel : ℕ) (numbers : List (ℕ × ℕ))
-    → IsValid state → panel < length state.plant.panels → length numbers ≤ length (notices_of state panel)
-    → answers_of state (polls_of panel numbers) ≡ told_for state (take (length numbers) (notices_of state panel))
+    → IsValid state → panel < length state.plant.panels
+    → length numbers ≤ length (notices_of state panel)
+    → answers_of state (polls_of panel numbers)
+    ≡ told_for state (take (length numbers) (notices_of state panel))
 
 -- so many polls of a panel leave it all but so many of its notices, the first
 abbrev pub PollsLeaveTheRest : Type 0
 PollsLeaveTheRest = (state : State) (panel : ℕ) (numbers : List (ℕ × ℕ))
     → IsValid state → panel < length state.plant.panels
-    → notices_of (after state (polls_of panel numbers)) panel ≡ drop (length numbers) (notices_of state panel)
+    → notices_of (after state (polls_of panel numbers)) panel
+    ≡ drop (length numbers) (notices_of state panel)
 
 -- a leave takes its panel's notices, and changes nothing of another panel
 abbrev pub LeavesAreHeeded : Type 0
 LeavesAreHeeded = (state : State) (panel : ℕ)
-    → panel < length state.boards → Leaves state.boards (step state (Leave panel)).state.boards panel
+    → panel < length state.boards
+    → Leaves state.boards (step state (Leave panel)).state.boards panel
 
 -- whoever has left has left whatever is asked
 abbrev pub LeaversStayAway : Type 0

@@ -11,7 +11,8 @@ use Rattle.plant_core.specs.State.{Spot, Crosspoints, State, IsValid}
 
 -- a spot is stored as the pair of its fields
 abbrev pub spot_code : Coded Spot
-spot_code = code_by (ℕ × Option ℕ) (coded× coded_ℕ (coded_option coded_ℕ)) (λ spot. (spot.source, spot.tie)) (λ pair. record { source = pair.0; tie = pair.1 }) (λ _. refl)
+spot_code = code_by (ℕ × Option ℕ) (coded× coded_ℕ (coded_option coded_ℕ))
+    (λ spot. (spot.source, spot.tie)) (λ pair. record { source = pair.0; tie = pair.1 }) (λ _. refl)
 
 -- crosspoints are stored as the list of their entries
 abbrev pub crosspoints_code : Coded Crosspoints
@@ -42,7 +43,8 @@ pub record AreRows (rows : List Row) (room : ℕ) : Type 0 where
 
 -- the state that a plant, its rows and its boards stand for
 abbrev pub state_of : PlantData → Kept → List Board → State
-state_of plant rows boards = record { plant = plant; crosspoints = rows.crosspoints; boards = boards }
+state_of plant rows boards =
+    record { plant = plant; crosspoints = rows.crosspoints; boards = boards }
 
 -- The rows and the boards of a plant stand for a valid state, and the rows have room for each destination and no more.
 pub record IsKept (plant : PlantData) (rows : Kept) (boards : List Board) : Type 0 where

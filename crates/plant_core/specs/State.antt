@@ -36,7 +36,8 @@ pub record State : Type 0 where
 
 -- the state at the start: every destination is parked, there are no notices, and no panel has left
 abbrev pub start : PlantData → State
-start plant = record { plant = plant; crosspoints = empty; boards = notices.start (length plant.panels) }
+start plant =
+    record { plant = plant; crosspoints = empty; boards = notices.start (length plant.panels) }
 
 -- the source of a destination, none where it is parked
 abbrev pub source_of : Crosspoints → ℕ → Option ℕ
@@ -45,7 +46,9 @@ source_of crosspoints dest = option_map (λ spot. spot.source) (get crosspoints 
 -- the source that stands at a place, by its number in its level: parked also where the plant has no such place
 abbrev pub standing : State → Point → Option ℕ
 standing state at =
-    option_and_then (λ dest. option_and_then (source_number_of state.plant) (source_of state.crosspoints dest)) (dest_at state.plant at.matrix at.level at.dest)
+    option_and_then
+    (λ dest. option_and_then (source_number_of state.plant) (source_of state.crosspoints dest))
+    (dest_at state.plant at.matrix at.level at.dest)
 
 -- A change is idle where its destination carries its source already, or is to be parked and is.
 abbrev pub is_idle : Crosspoints → Change → Bool
@@ -63,12 +66,14 @@ released crosspoints (change ∷ changes) = released (remove crosspoints change.
 -- a released destination is given its source, if it isn't to stay parked
 abbrev pub given : Crosspoints → ℕ → Option ℕ → Crosspoints
 given crosspoints dest None = crosspoints
-given crosspoints dest (Some source) = insert crosspoints dest (record { source = source; tie = chosen_tie crosspoints source })
+given crosspoints dest (Some source) =
+    insert crosspoints dest (record { source = source; tie = chosen_tie crosspoints source })
 
 -- released destinations are given their sources in the order of the list
 abbrev pub all_given : Crosspoints → List Change → Crosspoints
 all_given crosspoints [] = crosspoints
-all_given crosspoints (change ∷ changes) = all_given (given crosspoints change.dest change.source) changes
+all_given crosspoints (change ∷ changes) =
+    all_given (given crosspoints change.dest change.source) changes
 
 -- The crosspoints after a list of changes, which are made as one: an idle change does nothing, the destinations of all
 -- others are released, and then each of these is given its source.
@@ -89,11 +94,13 @@ pub record IsCrosspoint (plant : PlantData) (dest source : ℕ) : Type 0 where
 -- Each destination that isn't parked carries a source of its own level.
 abbrev pub AreCrosspoints : PlantData → Crosspoints → Type 0
 AreCrosspoints plant crosspoints =
-    (dest : ℕ) (spot : Spot) → get crosspoints dest ≡ Some spot → IsCrosspoint plant dest spot.source
+    (dest : ℕ) (spot : Spot) → get crosspoints dest ≡ Some spot
+    → IsCrosspoint plant dest spot.source
 
 -- No destination has a tie.
 abbrev pub HaveNoTies : Crosspoints → Type 0
-HaveNoTies crosspoints = (dest : ℕ) (spot : Spot) → get crosspoints dest ≡ Some spot → spot.tie ≡ None
+HaveNoTies crosspoints =
+    (dest : ℕ) (spot : Spot) → get crosspoints dest ≡ Some spot → spot.tie ≡ None
 
 -- A state is valid where its plant is, each destination carries a source of its own level, and none has a tie. Each panel
 -- of the plant has a board, with notices of the plant's destinations, none where the panel has left. No event gives a

@@ -32,12 +32,15 @@ wanted plant at (Some number) = option_map Some (source_at plant at.matrix at.le
 -- The change that a connect asks for, `None` where the destination or the source is out of range.
 abbrev pub change_of : PlantData → Point → Option ℕ → Option Change
 change_of plant at source =
-    option_and_then (λ dest. option_map (λ carried. record { dest = dest; source = carried }) (wanted plant at source)) (dest_at plant at.matrix at.level at.dest)
+    option_and_then
+    (λ dest. option_map (λ carried. record { dest = dest; source = carried })
+    (wanted plant at source)) (dest_at plant at.matrix at.level at.dest)
 
 -- The boards once a panel has changed a destination's source: all are marked but its own. A mark changes nothing where the
 -- panel has left.
 abbrev pub noticed : List Board → ℕ → ℕ → List Board
-noticed boards asker dest = slice_set (map (λ board. marked board dest Source) boards) asker (board_of boards asker)
+noticed boards asker dest =
+    slice_set (map (λ board. marked board dest Source) boards) asker (board_of boards asker)
 
 -- a change is made as a list of one
 abbrev pub with_change : State → Change → State
@@ -46,17 +49,21 @@ with_change state change = record state { crosspoints = applied state.crosspoint
 -- the state after a panel's change: an idle one gives no notice
 abbrev pub changed : State → ℕ → Change → State
 changed state asker change = record (with_change state change) {
-  boards = if is_idle state.crosspoints change then state.boards else noticed state.boards asker change.dest;
+  boards = if is_idle state.crosspoints change then state.boards
+      else noticed state.boards asker change.dest;
 }
 
 -- A connect that is in range is made and answered so; else the answer is the source that stands.
-abbrev pub connected : State → ℕ → Point → Option ℕ → Option Change → Stepped State Answer
+abbrev pub connected : State → ℕ → Point → Option ℕ → Option Change
+    → Stepped State Answer
 connected state panel at source None = says state (Tally at (standing state at))
-connected state panel at source (Some change) = says (changed state panel change) (Connected at source)
+connected state panel at source (Some change) =
+    says (changed state panel change) (Connected at source)
 
 -- how many destinations a level has, none where the plant has no such level
 abbrev pub dest_count : PlantData → ℕ → ℕ → ℕ
-dest_count plant matrix level = option_map_or (λ at. at.destinations) (level_at plant matrix level) 0
+dest_count plant matrix level =
+    option_map_or (λ at. at.destinations) (level_at plant matrix level) 0
 
 -- what a dump tells of a place: the source that stands there
 abbrev pub dumped_at : State → Point → Answer
@@ -72,8 +79,10 @@ dumped state matrix level =
 -- answered here.
 abbrev pub answered : State → ℕ → Message → Stepped State Answer
 answered state panel (Interrogate at) = says state (Tally at (standing state at))
-answered state panel (Connect at source) = connected state panel at source (change_of state.plant at source)
-answered state panel (DumpAsk matrix level) = record { state = state; answers = dumped state matrix level }
+answered state panel (Connect at source) =
+    connected state panel at source (change_of state.plant at source)
+answered state panel (DumpAsk matrix level) =
+    record { state = state; answers = dumped state matrix level }
 answered state panel message = record { state = state; answers = [] }
 
 -- a plant's place as messages have it
@@ -88,7 +97,9 @@ told_at state at = Say (Connected at (standing state at))
 -- none, says nothing.
 abbrev pub notice_of : State → Option (ℕ × Sort) → List Answer
 notice_of state None = []
-notice_of state (Some (dest, Source)) = option_to_list (option_map (λ place. told_at state (message_place place)) (point_of state.plant dest))
+notice_of state (Some (dest, Source)) =
+    option_to_list
+    (option_map (λ place. told_at state (message_place place)) (point_of state.plant dest))
 notice_of state (Some (dest, Protect)) = []
 
 -- the answers to a poll, which are for the panel's next notice
@@ -102,4 +113,5 @@ step state (Poll panel item turn) = record {
   state = record state { boards = with_take state.boards panel };
   answers = poll_answers state panel;
 }
-step state (Leave panel) = record { state = record state { boards = with_leave state.boards panel }; answers = [] }
+step state (Leave panel) =
+    record { state = record state { boards = with_leave state.boards panel }; answers = [] }

@@ -25,7 +25,8 @@ entries_in (Entries least most) document found = []
 
 -- the entries of a section of a document
 abbrev pub entries_of : SectionKeys → Members → List Members
-entries_of section document = entries_in section.form document (get_member (section_name section.section) document)
+entries_of section document =
+    entries_in section.form document (get_member (section_name section.section) document)
 
 -- the value that is given where a key is absent
 abbrev pub given : Default → Option Data
@@ -36,7 +37,9 @@ given Optional = None
 
 -- the value that a section gives where this key is absent
 abbrev pub given_in : SectionKeys → Field → Option Data
-given_in section field = option_and_then (λ row. given row.default) (find (λ row. same_field row.field field) section.keys)
+given_in section field =
+    option_and_then (λ row. given row.default)
+    (find (λ row. same_field row.field field) section.keys)
 
 -- the value of a key in an entry of a section: what is found there, or else what is given
 abbrev pub value_at : SectionKeys → Field → Members → Option Data

@@ -8,7 +8,11 @@ use Rattle.plant_file.specs.Rows.{Number, Words, Flag, Names, Required, Required
 
 -- the keys in front of all sections
 abbrev pub top_keys : SectionKeys
-top_keys = record { section = sections.Top; form = Document; keys = key fields.Title (Words 1 40) Required ∷ [] }
+top_keys = record {
+  section = sections.Top;
+  form = Document;
+  keys = key fields.Title (Words 1 40) Required ∷ [];
+}
 
 -- how the plant is served; times are in milliseconds, and sessions are counted for each panel
 abbrev pub server_keys : SectionKeys
@@ -74,7 +78,8 @@ abbrev pub device_keys : SectionKeys
 device_keys = record {
   section = sections.Device;
   form = Entries 0 64;
-  keys = key fields.Name a_name Required ∷ key fields.Matrix a_matrix Required ∷ key fields.Source a_source Required ∷ [];
+  keys = key fields.Name a_name Required ∷ key fields.Matrix a_matrix Required
+      ∷ key fields.Source a_source Required ∷ [];
 }
 
 -- a destination of level 0 that is a bus of a device; without a switch it is always on

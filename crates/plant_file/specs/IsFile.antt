@@ -36,7 +36,8 @@ pub record IsLinkedDevice (file : FileData) (device : DeviceEntry) : Type 0 wher
 
 -- A switch is a destination of the plant.
 abbrev pub IsLinkedSwitch : FileData → SwitchEntry → Type 0
-IsLinkedSwitch file switch = has_destination file switch.matrix switch.level switch.destination ≡ true
+IsLinkedSwitch file switch =
+    has_destination file switch.matrix switch.level switch.destination ≡ true
 
 -- A bus is a destination of the plant and belongs to a device of it, and so is its switch, where it has one.
 pub record IsLinkedBus (file : FileData) (bus : BusEntry) : Type 0 where
@@ -46,7 +47,8 @@ pub record IsLinkedBus (file : FileData) (bus : BusEntry) : Type 0 where
 
 -- What is on air or on preview, or has a display, is a destination of the plant.
 abbrev pub IsMainDestination : FileData → ℕ → ℕ → Type 0
-IsMainDestination file matrix destination = has_destination file matrix main_level destination ≡ true
+IsMainDestination file matrix destination =
+    has_destination file matrix main_level destination ≡ true
 
 abbrev pub IsLinkedRoot : FileData → RootEntry → Type 0
 IsLinkedRoot file root = IsMainDestination file root.matrix root.destination

@@ -21,7 +21,8 @@ place section entry field = record { section = section; entry = entry; field = f
 -- a number that isn't from `low` to `high`
 abbrev pub range_faults : Place → ℤ → ℕ → ℕ → List PlantFault
 range_faults at value low high =
-    if int_le (pos low) value && int_le value (pos high) then [] else OutOfRange at value (pos low) (pos high) ∷ []
+    if int_le (pos low) value && int_le value (pos high) then []
+    else OutOfRange at value (pos low) (pos high) ∷ []
 
 -- a text: first its length, then each of its bytes
 abbrev pub text_faults : Place → ℕ → ℕ → List ℕ → List PlantFault
@@ -45,7 +46,8 @@ abbrev pub value_faults : Place → Members → Kind → Data → List PlantFaul
 value_faults at entry (Number low high) (integer value) = range_faults at value low high
 value_faults at entry (Words low high) value = words_faults at low high value
 value_faults at entry Flag (boolean flag) = []
-value_faults at entry (Names limit) (array names) = names_faults at (number_in (found_at limit entry)) (values names)
+value_faults at entry (Names limit) (array names) =
+    names_faults at (number_in (found_at limit entry)) (values names)
 value_faults at entry kind value = WrongType at ∷ []
 
 -- an absent key
@@ -92,8 +94,10 @@ form_faults at (Entries least most) None = range_faults at (pos 0) least most
 -- a section: first the whole of it, then its entries in order
 unfoldable pub section_faults : Members → SectionKeys → List PlantFault
 section_faults document section =
-    form_faults (place section.section 0 fields.Whole) section.form (get_member (section_name section.section) document)
-    ++ flat_map (λ (numbered : ℕ × Members). entry_faults section numbered.0 numbered.1) (enumerate_from 0 (entries_of section document))
+    form_faults (place section.section 0 fields.Whole) section.form
+    (get_member (section_name section.section) document)
+    ++ flat_map (λ (numbered : ℕ × Members). entry_faults section numbered.0 numbered.1)
+    (enumerate_from 0 (entries_of section document))
 
 -- all sections, in the order of the table
 abbrev pub sections_faults : Members → List PlantFault

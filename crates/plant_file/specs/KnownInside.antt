@@ -17,7 +17,9 @@ abbrev pub pair_cmp : ℕ × ℕ → ℕ × ℕ → Ordering
 pair_cmp one other = ordering_then (nat_cmp one.0 other.0) (nat_cmp one.1 other.1)
 
 abbrev pub triple_cmp : ℕ × ℕ × ℕ → ℕ × ℕ × ℕ → Ordering
-triple_cmp one other = ordering_then (ordering_then (nat_cmp one.0 other.0) (nat_cmp one.1 other.1)) (nat_cmp one.2 other.2)
+triple_cmp one other =
+    ordering_then (ordering_then (nat_cmp one.0 other.0) (nat_cmp one.1 other.1))
+    (nat_cmp one.2 other.2)
 
 -- the order of names
 abbrev pub name_cmp : List ℕ → List ℕ → Ordering
@@ -30,12 +32,16 @@ no_counts = record { sources = 0; destinations = 0 }
 abbrev pub widened : Option Counts → LevelData → Counts
 widened before level =
     let counts = unwrap_or before no_counts in
-    record { sources = max counts.sources level.sources; destinations = max counts.destinations level.destinations }
+    record {
+      sources = max counts.sources level.sources;
+      destinations = max counts.destinations level.destinations;
+    }
 
 -- A table has a matrix and level exactly where there is such a level.
 abbrev pub KnowsEachLevel : BTreeMap (ℕ × ℕ) Counts → List LevelData → Type 0
 KnowsEachLevel known levels = (m l : ℕ)
-    → is_some (map.get pair_cmp known (m, l)) ≡ list_any (λ at. at.matrix == m && at.level == l) levels
+    → is_some (map.get pair_cmp known (m, l))
+    ≡ list_any (λ at. at.matrix == m && at.level == l) levels
 
 -- The sources that it counts of them are those that some such level has, and so are the destinations.
 abbrev pub KnowsEachSource : BTreeMap (ℕ × ℕ) Counts → List LevelData → Type 0
@@ -63,16 +69,22 @@ pool_place pool = (pool.from, pool.to, pool.level)
 
 -- A set knows remotes, pools and devices by what tells them apart.
 abbrev pub KnowsRemotes : BTreeSet (ℕ × ℕ × ℕ) → List RemoteEntry → Type 0
-KnowsRemotes known remotes = (m l s : ℕ) → set.contains triple_cmp known (m, l, s) ≡ list_any (λ remote. remote.matrix == m && remote.level == l && remote.source == s) remotes
+KnowsRemotes known remotes = (m l s : ℕ)
+    → set.contains triple_cmp known (m, l, s)
+    ≡ list_any (λ remote. remote.matrix == m && remote.level == l && remote.source == s) remotes
 
 abbrev pub KnowsPools : BTreeSet (ℕ × ℕ × ℕ) → List PoolEntry → Type 0
-KnowsPools known pools = (f t l : ℕ) → set.contains triple_cmp known (f, t, l) ≡ list_any (λ pool. pool.from == f && pool.to == t && pool.level == l) pools
+KnowsPools known pools = (f t l : ℕ)
+    → set.contains triple_cmp known (f, t, l)
+    ≡ list_any (λ pool. pool.from == f && pool.to == t && pool.level == l) pools
 
 abbrev pub KnowsDevices : BTreeSet (List ℕ) → List DeviceEntry → Type 0
-KnowsDevices known devices = (name : List ℕ) → set.contains name_cmp known name ≡ list_any (λ device. bytes_eq device.name name) devices
+KnowsDevices known devices = (name : List ℕ)
+    → set.contains name_cmp known name ≡ list_any (λ device. bytes_eq device.name name) devices
 
 -- Tables know a plant file.
-pub record IsKnown (levels : BTreeMap (ℕ × ℕ) Counts) (remotes pools : BTreeSet (ℕ × ℕ × ℕ)) (devices : BTreeSet (List ℕ)) (file : FileData) : Type 0 where
+pub record IsKnown (levels : BTreeMap (ℕ × ℕ) Counts) (remotes pools : BTreeSet (ℕ × ℕ × ℕ))
+    (devices : BTreeSet (List ℕ)) (file : FileData) : Type 0 where
   pub levels_known : KnowsLevels levels file.levels
   pub remotes_known : KnowsRemotes remotes file.remotes
   pub pools_known : KnowsPools pools file.pools

@@ -19,11 +19,13 @@ has_level file matrix level = list_any (λ at. at.matrix == matrix && at.level =
 
 abbrev pub has_source : FileData → ℕ → ℕ → ℕ → Bool
 has_source file matrix level source =
-    list_any (λ at. at.matrix == matrix && at.level == level && nat_lt source at.sources) file.levels
+    list_any (λ at. at.matrix == matrix && at.level == level
+    && nat_lt source at.sources) file.levels
 
 abbrev pub has_destination : FileData → ℕ → ℕ → ℕ → Bool
 has_destination file matrix level destination =
-    list_any (λ at. at.matrix == matrix && at.level == level && nat_lt destination at.destinations) file.levels
+    list_any (λ at. at.matrix == matrix && at.level == level
+    && nat_lt destination at.destinations) file.levels
 
 abbrev pub has_device : FileData → List ℕ → Bool
 has_device file name = list_any (λ device. bytes_eq device.name name) file.devices
@@ -31,11 +33,13 @@ has_device file name = list_any (λ device. bytes_eq device.name name) file.devi
 -- a source of a level is a remote one
 abbrev pub is_remote : FileData → ℕ → ℕ → ℕ → Bool
 is_remote file matrix level source =
-    list_any (λ remote. remote.matrix == matrix && remote.level == level && remote.source == source) file.remotes
+    list_any (λ remote. remote.matrix == matrix && remote.level == level
+    && remote.source == source) file.remotes
 
 -- a pool leads from a matrix to a matrix, at a level
 abbrev pub has_pool : FileData → ℕ → ℕ → ℕ → Bool
-has_pool file from to level = list_any (λ pool. pool.from == from && pool.to == to && pool.level == level) file.pools
+has_pool file from to level =
+    list_any (λ pool. pool.from == from && pool.to == to && pool.level == level) file.pools
 
 -- devices, buses, roots and displays are all at level 0 of their matrix
 abbrev pub main_level : ℕ
@@ -74,7 +78,8 @@ abbrev pub switch_unknown : FileData → Option SwitchEntry → List Field
 switch_unknown file None = []
 switch_unknown file (Some switch) =
     key_unless (has_level file switch.matrix switch.level) fields.SwitchLevel
-    ++ key_unless (has_destination file switch.matrix switch.level switch.destination) fields.SwitchDestination
+    ++ key_unless (has_destination file switch.matrix switch.level switch.destination)
+    fields.SwitchDestination
 
 -- a bus is of no device, or is no destination of the plant, or its switch is none
 abbrev pub bus_unknown : FileData → BusEntry → List Field
@@ -90,17 +95,27 @@ unknown_faults file =
     ++ each_faults NoSuchThing sections.Pool (pool_unknown file) file.pools
     ++ each_faults NoSuchThing sections.Device (device_unknown file) file.devices
     ++ each_faults NoSuchThing sections.Bus (bus_unknown file) file.buses
-    ++ each_faults NoSuchThing sections.Air (λ root. destination_unknown file root.matrix root.destination) file.air
-    ++ each_faults NoSuchThing sections.Preview (λ root. destination_unknown file root.matrix root.destination) file.preview
-    ++ each_faults NoSuchThing sections.Display (λ display. destination_unknown file display.matrix display.destination) file.displays
+    ++ each_faults NoSuchThing sections.Air
+    (λ root. destination_unknown file root.matrix root.destination) file.air
+    ++ each_faults NoSuchThing sections.Preview
+    (λ root. destination_unknown file root.matrix root.destination) file.preview
+    ++ each_faults NoSuchThing sections.Display
+    (λ display. destination_unknown file display.matrix display.destination) file.displays
 
 -- a remote stands for a source that is a remote one itself; a device's output is a remote source
 unfoldable pub not_local_faults : FileData → List PlantFault
 not_local_faults file =
-    each_faults NotLocal sections.Remote (λ remote. key_if (is_remote file remote.from remote.level remote.from_source) fields.FromSource) file.remotes
-    ++ each_faults NotLocal sections.Device (λ device. key_if (is_remote file device.matrix main_level device.source) fields.Source) file.devices
+    each_faults NotLocal sections.Remote
+    (λ remote. key_if (is_remote file remote.from remote.level remote.from_source)
+    fields.FromSource)
+    file.remotes
+    ++ each_faults NotLocal sections.Device
+    (λ device. key_if (is_remote file device.matrix main_level device.source) fields.Source)
+    file.devices
 
 -- no pool leads to a remote, from the matrix of the source that it stands for
 unfoldable pub no_pool_faults : FileData → List PlantFault
 no_pool_faults file =
-    each_faults NoPool sections.Remote (λ remote. key_unless (has_pool file remote.from remote.matrix remote.level) fields.From) file.remotes
+    each_faults NoPool sections.Remote
+    (λ remote. key_unless (has_pool file remote.from remote.matrix remote.level) fields.From)
+    file.remotes

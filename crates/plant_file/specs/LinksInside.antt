@@ -17,21 +17,26 @@ first_field [] = None
 first_field (field ∷ more) = Some field
 
 -- the faults of the entries from this number on, by a rule that sees the entry alone
-abbrev pub faults_from : {X : Type 0} → (Place → PlantFault) → Section → (X → List Field) → ℕ → List X → List PlantFault
+abbrev pub faults_from : {X : Type 0} → (Place → PlantFault) → Section → (X → List Field)
+    → ℕ → List X → List PlantFault
 faults_from {X} fault section rule number entries =
-    flat_map (λ (numbered : ℕ × X). map (λ field. fault (place section numbered.0 field)) (rule numbered.1)) (enumerate_from number (drop number entries))
+    flat_map (λ (numbered : ℕ × X). map (λ field. fault (place section numbered.0 field))
+    (rule numbered.1)) (enumerate_from number (drop number entries))
 
 -- a remote stands for a remote source
 abbrev pub remote_not_local : FileData → RemoteEntry → List Field
-remote_not_local file remote = key_if (is_remote file remote.from remote.level remote.from_source) fields.FromSource
+remote_not_local file remote =
+    key_if (is_remote file remote.from remote.level remote.from_source) fields.FromSource
 
 -- a device's output is a remote source
 abbrev pub device_not_local : FileData → DeviceEntry → List Field
-device_not_local file device = key_if (is_remote file device.matrix main_level device.source) fields.Source
+device_not_local file device =
+    key_if (is_remote file device.matrix main_level device.source) fields.Source
 
 -- no pool leads to a remote
 abbrev pub remote_unreached : FileData → RemoteEntry → List Field
-remote_unreached file remote = key_unless (has_pool file remote.from remote.matrix remote.level) fields.From
+remote_unreached file remote =
+    key_unless (has_pool file remote.from remote.matrix remote.level) fields.From
 
 -- what entries name that isn't there, or isn't local, or isn't reached
 abbrev pub link_faults : FileData → List PlantFault

@@ -56,4 +56,6 @@ IsIn document at = IsInEntry document at ⊎ ((at.field ≡ fields.Whole) × (at
 
 -- A fault is one of a text: this is no document, or the fault is at a place in its document. It isn't want of memory.
 abbrev pub IsFaultOf : List ℕ → PlantFault → Type 0
-IsFaultOf text fault = (fault ≡ NotToml) ⊎ IsSomeAnd (parse_document text) (λ document. IsSomeAnd (place_of fault) (IsIn document))
+IsFaultOf text fault =
+    (fault ≡ NotToml) ⊎ IsSomeAnd (parse_document text)
+    (λ document. IsSomeAnd (place_of fault) (IsIn document))

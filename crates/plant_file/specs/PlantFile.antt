@@ -18,7 +18,9 @@ use Rattle.plant_file.specs.Links.{unknown_faults, not_local_faults, no_pool_fau
 
 -- the faults of the data, in the order of the checks
 abbrev pub data_faults : FileData → List PlantFault
-data_faults file = sum_faults file ++ twice_faults file ++ unknown_faults file ++ not_local_faults file ++ no_pool_faults file
+data_faults file =
+    sum_faults file ++ twice_faults file ++ unknown_faults file ++ not_local_faults file
+    ++ no_pool_faults file
 
 -- the faults of a document, in the order of the checks: first those of its sections, then those of its data
 abbrev pub faults_of : Members → List PlantFault
@@ -30,11 +32,14 @@ file_of document = unless_fault (data_of document) (first_fault (faults_of docum
 
 -- The plant of a text. A text that isn't UTF-8 is no TOML document.
 unfoldable pub file_of_text : List ℕ → Result FileData PlantFault
-file_of_text text = if is_utf8 text then option_map_or file_of (parse_document text) (Err NotToml) else Err NotToml
+file_of_text text =
+    if is_utf8 text then option_map_or file_of (parse_document text) (Err NotToml) else Err NotToml
 
 -- where a fault is, as it is printed
 abbrev pub place_text : Place → List ℕ
-place_text at = codes " at " ++ section_name at.section ++ codes " " ++ decimal at.entry ++ codes " " ++ field_name at.field
+place_text at =
+    codes " at " ++ section_name at.section ++ codes " " ++ decimal at.entry ++ codes " "
+    ++ field_name at.field
 
 -- a fault as it is printed
 unfoldable pub fault_text : PlantFault → List ℕ

@@ -10,7 +10,8 @@ IsFrom low high number = (low ≤ number) × (number ≤ high)
 
 -- A text has from `low` to `high` bytes, each of them printable.
 abbrev pub IsWords : ℕ → ℕ → List ℕ → Type 0
-IsWords low high text = IsFrom low high (length text) × All (IsFrom first_printable last_printable) text
+IsWords low high text =
+    IsFrom low high (length text) × All (IsFrom first_printable last_printable) text
 
 abbrev pub IsName : List ℕ → Type 0
 IsName = IsWords shortest_name longest_name

@@ -16,7 +16,8 @@ default_name letter number = letter ++ decimal number
 
 -- The names of so many things, which are numbered from 0: those of the file for the first, and default names for the others.
 abbrev pub names_of : List ℕ → ℕ → List (List ℕ) → List (List ℕ)
-names_of letter count names = names ++ map (default_name letter) (range_with_len (length names) (count - length names))
+names_of letter count names =
+    names ++ map (default_name letter) (range_with_len (length names) (count - length names))
 
 -- the letters of default names
 abbrev pub source_letter : List ℕ
@@ -52,7 +53,8 @@ level_of entry =
       sources = sources;
       destinations = destinations;
       source_names = names_of source_letter sources (texts_at level_keys fields.SourceNames entry);
-      destination_names = names_of destination_letter destinations (texts_at level_keys fields.DestinationNames entry);
+      destination_names = names_of destination_letter destinations
+          (texts_at level_keys fields.DestinationNames entry);
     }
 
 abbrev pub remote_of : Members → RemoteEntry

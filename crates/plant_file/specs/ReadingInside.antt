@@ -31,8 +31,10 @@ abbrev pub is_printable : ℕ → Bool
 is_printable byte = nat_le first_printable byte && nat_le byte last_printable
 
 -- a value of a kind that isn't limited by another key: what is read of it, or its first fault
-abbrev pub value_answer : {X : Type 0} → (Option Data → X) → Place → Kind → Data → Result X PlantFault
-value_answer read at kind value = unless_fault (read (Some value)) (first_fault (value_faults at no_members kind value))
+abbrev pub value_answer : {X : Type 0} → (Option Data → X) → Place → Kind → Data
+    → Result X PlantFault
+value_answer read at kind value =
+    unless_fault (read (Some value)) (first_fault (value_faults at no_members kind value))
 
 -- the faults of a value that must be an array of names
 abbrev pub array_faults : Place → ℕ → Data → List PlantFault
@@ -40,13 +42,17 @@ array_faults at most (array items) = names_faults at most (values items)
 array_faults at most value = WrongType at ∷ []
 
 -- a key of an entry: what is read of its value, or its first fault
-unfoldable pub key_answer : {X : Type 0} → (Option Data → X) → Section → ℕ → Members → Key → Result X PlantFault
+unfoldable pub key_answer : {X : Type 0} → (Option Data → X) → Section → ℕ → Members
+    → Key → Result X PlantFault
 key_answer read section number entry row =
-    unless_fault (read (option_or (found_at row.field entry) (given row.default))) (first_fault (key_faults section number entry row))
+    unless_fault (read (option_or (found_at row.field entry) (given row.default)))
+    (first_fault (key_faults section number entry row))
 
 -- keys of an entry, in their order: what is read of the entry, or the first fault of these keys
-unfoldable pub keys_answer : {X : Type 0} → X → Section → ℕ → Members → List Key → Result X PlantFault
-keys_answer read section number entry keys = unless_fault read (first_fault (flat_map (key_faults section number entry) keys))
+unfoldable pub keys_answer : {X : Type 0} → X → Section → ℕ → Members → List Key
+    → Result X PlantFault
+keys_answer read section number entry keys =
+    unless_fault read (first_fault (flat_map (key_faults section number entry) keys))
 
 -- the keys of a bus's switch, and the same keys where the switch is there
 abbrev pub switch_keys : List Key
@@ -64,8 +70,10 @@ abbrev pub switch_in : Members → Option SwitchEntry
 switch_in entry = option_map (λ matrix. switch_of entry) (found_at fields.SwitchMatrix entry)
 
 -- an entry of a section: what is read of it, or its first fault
-abbrev pub entry_answer : {X : Type 0} → (Members → X) → SectionKeys → ℕ → Members → Result X PlantFault
-entry_answer read section number entry = keys_answer (read entry) section.section number entry section.keys
+abbrev pub entry_answer : {X : Type 0} → (Members → X) → SectionKeys → ℕ → Members
+    → Result X PlantFault
+entry_answer read section number entry =
+    keys_answer (read entry) section.section number entry section.keys
 
 -- the keys of a section under another name
 abbrev pub keys_at : SectionKeys → Section → SectionKeys
@@ -76,9 +84,11 @@ abbrev pub names_in : List ℕ → ℕ → Option Data → List (List ℕ)
 names_in letter count found = names_of letter count (texts_in found)
 
 -- some values that must be names, behind texts that were read: all texts, or the first fault
-unfoldable pub texts_going : Place → List (List ℕ) → List Value → Result (List (List ℕ)) PlantFault
+unfoldable pub texts_going : Place → List (List ℕ) → List Value
+    → Result (List (List ℕ)) PlantFault
 texts_going at done left =
-    unless_fault (done ++ filter_map as_str (map view left)) (first_fault (flat_map (words_faults at shortest_name longest_name) (map view left)))
+    unless_fault (done ++ filter_map as_str (map view left))
+    (first_fault (flat_map (words_faults at shortest_name longest_name) (map view left)))
 
 -- some values that must be names: their texts, or the first fault
 abbrev pub texts_answer : Place → List Value → Result (List (List ℕ)) PlantFault
@@ -86,7 +96,8 @@ texts_answer at items = texts_going at [] items
 
 -- a value that must be an array of at most so many names: their texts, or the first fault
 unfoldable pub names_answer : Place → ℕ → Data → Result (List (List ℕ)) PlantFault
-names_answer at most value = unless_fault (texts_in (Some value)) (first_fault (array_faults at most value))
+names_answer at most value =
+    unless_fault (texts_in (Some value)) (first_fault (array_faults at most value))
 
 -- the tables among some values
 abbrev pub tables : List Value → List Members
@@ -97,40 +108,57 @@ abbrev pub are_tables : List Value → Bool
 are_tables items = list_all (λ item. is_some (as_table (view item))) items
 
 -- the array of a section of entries: its tables, or the first fault of its form
-unfoldable pub form_answer : Section → ℕ → ℕ → Members → Result (List Members) PlantFault
+unfoldable pub form_answer : Section → ℕ → ℕ → Members
+    → Result (List Members) PlantFault
 form_answer section least most document =
     let found = get_member (section_name section) document in
-    unless_fault (entries_in (Entries least most) document found) (first_fault (form_faults (place section 0 fields.Whole) (Entries least most) found))
+    unless_fault (entries_in (Entries least most) document found)
+    (first_fault (form_faults (place section 0 fields.Whole) (Entries least most) found))
 
 -- a section of a document: what is read of each entry, or the first fault
-unfoldable pub section_answer : {X : Type 0} → (Members → X) → SectionKeys → Members → Result (List X) PlantFault
-section_answer read section document = unless_fault (map read (entries_of section document)) (first_fault (section_faults document section))
+unfoldable pub section_answer : {X : Type 0} → (Members → X) → SectionKeys → Members
+    → Result (List X) PlantFault
+section_answer read section document =
+    unless_fault (map read (entries_of section document))
+    (first_fault (section_faults document section))
 
 -- a section that has one entry alone: what is read of it, or the first fault
-unfoldable pub only_answer : {X : Type 0} → (Members → X) → SectionKeys → Members → Result X PlantFault
-only_answer read section document = unless_fault (read (only_entry section document)) (first_fault (section_faults document section))
+unfoldable pub only_answer : {X : Type 0} → (Members → X) → SectionKeys → Members
+    → Result X PlantFault
+only_answer read section document =
+    unless_fault (read (only_entry section document))
+    (first_fault (section_faults document section))
 
 -- the faults of a section's entries, of which the first has this number
 abbrev pub entries_faults : SectionKeys → ℕ → List Members → List PlantFault
 entries_faults section number entries =
-    flat_map (λ (numbered : ℕ × Members). entry_faults section numbered.0 numbered.1) (enumerate_from number entries)
+    flat_map (λ (numbered : ℕ × Members). entry_faults section numbered.0 numbered.1)
+    (enumerate_from number entries)
 
 -- the entries of a section: what is read of each, or the first fault
-abbrev pub entries_answer : {X : Type 0} → (Members → X) → SectionKeys → List Members → Result (List X) PlantFault
-entries_answer read section entries = unless_fault (map read entries) (first_fault (entries_faults section 0 entries))
+abbrev pub entries_answer : {X : Type 0} → (Members → X) → SectionKeys → List Members
+    → Result (List X) PlantFault
+entries_answer read section entries =
+    unless_fault (map read entries) (first_fault (entries_faults section 0 entries))
 
 -- the same where these were read, and these values are left
-abbrev pub entries_going : {X : Type 0} → (Members → X) → SectionKeys → List X → List Value → Result (List X) PlantFault
+abbrev pub entries_going : {X : Type 0} → (Members → X) → SectionKeys → List X
+    → List Value → Result (List X) PlantFault
 entries_going read section done left =
-    unless_fault (done ++ map read (tables left)) (first_fault (entries_faults section (length done) (tables left)))
+    unless_fault (done ++ map read (tables left))
+    (first_fault (entries_faults section (length done) (tables left)))
 
 -- sections of a document, in their order: what is read of it, or the first fault of these sections
-unfoldable pub sections_answer : {X : Type 0} → X → Members → List SectionKeys → Result X PlantFault
-sections_answer read document sections = unless_fault read (first_fault (flat_map (section_faults document) sections))
+unfoldable pub sections_answer : {X : Type 0} → X → Members → List SectionKeys
+    → Result X PlantFault
+sections_answer read document sections =
+    unless_fault read (first_fault (flat_map (section_faults document) sections))
 
 -- the document of a text
 unfoldable pub document_answer : List ℕ → Result Members PlantFault
-document_answer text = if is_utf8 text then option_map_or (λ document. Ok document) (parse_document text) (Err NotToml) else Err NotToml
+document_answer text =
+    if is_utf8 text then option_map_or (λ document. Ok document) (parse_document text) (Err NotToml)
+    else Err NotToml
 
 -- what the sections of a document say, or the first fault of theirs
 abbrev pub sections_in : Result Members PlantFault → Result FileData PlantFault

@@ -18,19 +18,25 @@ key_if is_so field = if is_so then field ∷ [] else []
 
 -- A rule names the keys at which an entry breaks it, the first one first, and sees the entries in front of it. These are
 -- the faults of all entries, in order.
-abbrev pub rule_faults : {X : Type 0} → (Place → PlantFault) → Section → (List X → X → List Field) → List X → List PlantFault
+abbrev pub rule_faults : {X : Type 0} → (Place → PlantFault) → Section
+    → (List X → X → List Field) → List X → List PlantFault
 rule_faults {X} fault section rule entries =
-    flat_map (λ (numbered : ℕ × X). map (λ field. fault (place section numbered.0 field)) (rule (take numbered.0 entries) numbered.1)) (enumerate_from 0 entries)
+    flat_map (λ (numbered : ℕ × X). map (λ field. fault (place section numbered.0 field))
+    (rule (take numbered.0 entries) numbered.1)) (enumerate_from 0 entries)
 
 -- the same of a rule that sees the entry alone
-abbrev pub each_faults : {X : Type 0} → (Place → PlantFault) → Section → (X → List Field) → List X → List PlantFault
-each_faults fault section rule entries = rule_faults fault section (λ before entry. rule entry) entries
+abbrev pub each_faults : {X : Type 0} → (Place → PlantFault) → Section → (X → List Field)
+    → List X → List PlantFault
+each_faults fault section rule entries =
+    rule_faults fault section (λ before entry. rule entry) entries
 
 -- The levels have too many sources in all, or too many destinations.
 unfoldable pub sum_faults : FileData → List PlantFault
 sum_faults file =
-    range_faults (place sections.Level 0 fields.Sources) (pos (sum_by (λ level. level.sources) file.levels)) 1 all_sources_limit
-    ++ range_faults (place sections.Level 0 fields.Destinations) (pos (sum_by (λ level. level.destinations) file.levels)) 1 all_destinations_limit
+    range_faults (place sections.Level 0 fields.Sources)
+    (pos (sum_by (λ level. level.sources) file.levels)) 1 all_sources_limit
+    ++ range_faults (place sections.Level 0 fields.Destinations)
+    (pos (sum_by (λ level. level.destinations) file.levels)) 1 all_destinations_limit
 
 -- a list has this one: a text, or numbers one behind the other
 abbrev pub is_among : List (List ℕ) → List ℕ → Bool
@@ -38,7 +44,9 @@ is_among known one = list_any (bytes_eq one) known
 
 -- some text is twice in a list
 abbrev pub has_twice : List (List ℕ) → Bool
-has_twice names = list_any (λ (numbered : ℕ × List ℕ). is_among (take numbered.0 names) numbered.1) (enumerate_from 0 names)
+has_twice names =
+    list_any (λ (numbered : ℕ × List ℕ). is_among (take numbered.0 names) numbered.1)
+    (enumerate_from 0 names)
 
 -- an entry in front of this one has the same: the same text, or the same numbers
 abbrev pub twice_at : {X : Type 0} → Field → (X → List ℕ) → List X → X → List Field
@@ -78,7 +86,9 @@ level_twice before level =
 
 -- two devices have the same name, or the same output
 abbrev pub device_twice : List DeviceEntry → DeviceEntry → List Field
-device_twice before device = twice_at fields.Name (λ other. other.name) before device ++ twice_at fields.Source output_key before device
+device_twice before device =
+    twice_at fields.Name (λ other. other.name) before device
+    ++ twice_at fields.Source output_key before device
 
 -- Two entries of a section have the same key: the later one is at fault. The place names the last number of the key.
 unfoldable pub twice_faults : FileData → List PlantFault

@@ -11,14 +11,16 @@ use Rattle.plant_file.specs.FileData.{LevelData, FileData}
 use Rattle.plant_file.specs.Rules.{key_if, is_among, has_twice, twice_at, level_twice, device_twice, remote_key, pool_key, bus_key, root_key, display_key, panel_key}
 
 -- the first place at which one of these entries breaks a rule, where the others stand in front of them
-abbrev pub first_place_from : {X : Type 0} → Section → (List X → X → List Field) → List X → List X → Option Place
+abbrev pub first_place_from : {X : Type 0} → Section → (List X → X → List Field) → List X
+    → List X → Option Place
 first_place_from section rule before [] = None
 first_place_from section rule before (entry ∷ more) =
     option_or
     (option_map (place section (length before)) (slice_get (rule before entry) 0))
     (first_place_from section rule (before ++ entry ∷ []) more)
 
-abbrev pub first_place : {X : Type 0} → Section → (List X → X → List Field) → List X → Option Place
+abbrev pub first_place : {X : Type 0} → Section → (List X → X → List Field) → List X
+    → Option Place
 first_place section rule entries = first_place_from section rule [] entries
 
 -- the index of the first of these keys that stood in front of itself, where the others stand in front of them
@@ -34,12 +36,14 @@ first_twice keys = first_twice_from [] keys
 abbrev pub earlier : Option Place → Option Place → Option Place
 earlier None second = second
 earlier (Some first) None = Some first
-earlier (Some first) (Some second) = if nat_le first.entry second.entry then Some first else Some second
+earlier (Some first) (Some second) =
+    if nat_le first.entry second.entry then Some first else Some second
 
 -- the keys at which a level has a name twice
 abbrev pub names_twice : LevelData → List Field
 names_twice level =
-    key_if (has_twice level.source_names) fields.SourceNames ++ key_if (has_twice level.destination_names) fields.DestinationNames
+    key_if (has_twice level.source_names) fields.SourceNames
+    ++ key_if (has_twice level.destination_names) fields.DestinationNames
 
 -- the first place of a file at which an entry has the key of one in front of it
 unfoldable pub twice_place : FileData → Option Place

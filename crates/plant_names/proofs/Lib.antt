@@ -1,6 +1,6 @@
 mod NameLists
 mod TableLemmas
 mod PageLemmas
-mod LevelLemmas
-mod LookupLemmas
+pub mod LevelLemmas
+pub mod LookupLemmas
 mod Worked

@@ -13,8 +13,12 @@ place_of name names = position (bytes_eq name) names
 -- the source of this name at a level, and the destination: none where the plant has no such level or the level no such name
 abbrev pub source_named : PlantData → ℕ → ℕ → List ℕ → Option ℕ
 source_named plant matrix level name =
-    option_and_then (λ at. option_map (λ place. at.first_source + place) (place_of name (source_names plant at))) (level_at plant matrix level)
+    option_and_then
+    (λ at. option_map (λ place. at.first_source + place)
+    (place_of name (source_names plant at))) (level_at plant matrix level)
 
 abbrev pub dest_named : PlantData → ℕ → ℕ → List ℕ → Option ℕ
 dest_named plant matrix level name =
-    option_and_then (λ at. option_map (λ place. at.first_dest + place) (place_of name (dest_names plant at))) (level_at plant matrix level)
+    option_and_then
+    (λ at. option_map (λ place. at.first_dest + place) (place_of name (dest_names plant at)))
+    (level_at plant matrix level)

@@ -39,7 +39,8 @@ pub record IsTable {X : Type 0} (entry : ℕ → X) (count : ℕ) (entries : Lis
   pub each : (place : ℕ) → place < count → slice_get entries place ≡ Some (entry place)
 
 -- Tables are those of a plant.
-pub record IsIndex (plant : PlantData) (levels : List (Option Named)) (lowest : List (Option Level)) : Type 0 where
+pub record IsIndex (plant : PlantData) (levels : List (Option Named))
+    (lowest : List (Option Level)) : Type 0 where
   pub is : IsPlant plant
   pub all_levels : IsTable (placed plant) 256 levels
   pub lowest_levels : IsTable (lowest_level plant) 16 lowest

@@ -33,7 +33,8 @@ two_bytes number = number / 256 ∷ number % 256 ∷ []
 -- the DATA of a page: the command, matrix and level, the size, the number of the first name, how many names, and the names
 abbrev pub page_text : ℕ → ℕ → ℕ → ℕ → ℕ → List (List ℕ) → List ℕ
 page_text command matrix level size first names =
-    command ∷ (matrix * 16 + level) ∷ size ∷ (two_bytes first ++ length names ∷ flat_map (fitted (bytes_of_size size)) names)
+    command ∷ (matrix * 16 + level) ∷ size
+    ∷ (two_bytes first ++ length names ∷ flat_map (fitted (bytes_of_size size)) names)
 
 -- The commands of pages.
 abbrev pub source_page_command : ℕ
@@ -48,7 +49,8 @@ names_from size first names = take (most_names size) (drop first names)
 
 -- the names of the page that begins at this number, or of the page of one name
 abbrev pub page_names : Bool → ℕ → ℕ → List (List ℕ) → List (List ℕ)
-page_names one size first names = if one then take 1 (drop first names) else names_from size first names
+page_names one size first names =
+    if one then take 1 (drop first names) else names_from size first names
 
 -- How a page of a level's names ends: there is none where the plant has no such level or no name of this number; it is the
 -- last where one name was asked for or no more names follow; else the next page begins at this number.
@@ -60,10 +62,12 @@ page_end one size first (Some names) =
     else More (first + most_names size)
 
 -- the DATA of a page of a level's names, no bytes where there is no page
-abbrev pub page_data : ℕ → ℕ → ℕ → Bool → ℕ → ℕ → Option (List (List ℕ)) → List ℕ
+abbrev pub page_data : ℕ → ℕ → ℕ → Bool → ℕ → ℕ → Option (List (List ℕ))
+    → List ℕ
 page_data command matrix level one size first None = []
 page_data command matrix level one size first (Some names) =
-    if nat_lt first (length names) then page_text command matrix level size first (page_names one size first names) else []
+    if nat_lt first (length names)
+    then page_text command matrix level size first (page_names one size first names) else []
 
 -- the level whose names the destinations of a matrix have: its lowest one in the plant
 abbrev pub lowest_level : PlantData → ℕ → Option Level

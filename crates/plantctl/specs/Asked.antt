@@ -31,7 +31,8 @@ pub record AskCheck (words : List (List ℕ)) (before : World) (plant : PlantDat
   pub leads : LeadsTo word before plant
 
 -- The words ask to replay the script of this name on this plant, which has remote sources, or none.
-pub record AskOn (words : List (List ℕ)) (before : World) (plant : PlantData) (name : List ℕ) (remotes : Bool) : Type 0 where
+pub record AskOn (words : List (List ℕ)) (before : World) (plant : PlantData) (name : List ℕ)
+    (remotes : Bool) : Type 0 where
   pub word : List ℕ
   pub ask : Ask words (Replay word name)
   pub leads : LeadsTo word before plant
@@ -39,7 +40,8 @@ pub record AskOn (words : List (List ℕ)) (before : World) (plant : PlantData) 
 
 -- The words ask to replay the script of this name on this plant, which is built, and behind the plant's word the files hold
 -- this of the name.
-pub record AskReplay (words : List (List ℕ)) (before : World) (plant : PlantData) (name : List ℕ) (held : Held) : Type 0 where
+pub record AskReplay (words : List (List ℕ)) (before : World) (plant : PlantData) (name : List ℕ)
+    (held : Held) : Type 0 where
   pub on : AskOn words before plant name false
   pub held_is : held ≡ before.held name (next_opening on.word name)
 
@@ -47,7 +49,8 @@ pub record AskReplay (words : List (List ℕ)) (before : World) (plant : PlantDa
 -- to a plant which is built, the script's.
 abbrev pub WantsFile : List (List ℕ) → World → List ℕ → Held → Type 0
 WantsFile words before name held =
-    (AskFile words name × (held ≡ before.held name 0)) ⊎ ((plant : PlantData) × AskReplay words before plant name held)
+    (AskFile words name × (held ≡ before.held name 0)) ⊎
+    ((plant : PlantData) × AskReplay words before plant name held)
 
 -- The words name this file: as the plant's or as the script's.
 abbrev pub NamesFile : List (List ℕ) → List ℕ → Type 0
@@ -61,16 +64,19 @@ ShowsFile (Holds text) plant = (length text ≤ longest_plant) × (plant_of_text
 
 -- A plant's word leads to this plant, and the files show it.
 abbrev pub ShowsPlant : List ℕ → World → PlantData → Type 0
-ShowsPlant word before plant = MatchBool (is_bench word) (plant ≡ bench) (ShowsFile (before.held word 0) plant)
+ShowsPlant word before plant =
+    MatchBool (is_bench word) (plant ≡ bench) (ShowsFile (before.held word 0) plant)
 
 -- The words ask to replay the script of this name on this plant, which the files show, and which has remote sources, or none.
-pub record AskShown (words : List (List ℕ)) (before : World) (plant : PlantData) (name : List ℕ) (remotes : Bool) : Type 0 where
+pub record AskShown (words : List (List ℕ)) (before : World) (plant : PlantData) (name : List ℕ)
+    (remotes : Bool) : Type 0 where
   pub word : List ℕ
   pub ask : Ask words (Replay word name)
   pub shows : ShowsPlant word before plant
   pub remotes_are : has_remotes plant ≡ remotes
 
 -- Such a script, and behind the plant's word the files hold this of it.
-pub record AskHeld (words : List (List ℕ)) (before : World) (plant : PlantData) (name : List ℕ) (held : Held) : Type 0 where
+pub record AskHeld (words : List (List ℕ)) (before : World) (plant : PlantData) (name : List ℕ)
+    (held : Held) : Type 0 where
   pub on : AskShown words before plant name false
   pub held_is : before.held name (next_opening on.word name) ≡ held

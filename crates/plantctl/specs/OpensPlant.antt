@@ -50,7 +50,8 @@ is_bench word = bytes_eq word (codes "bench")
 
 -- A plant's word leads to a plant or to an end, where the files hold this of its first opening.
 abbrev pub OpensPlant : List ℕ → Held → Result PlantData End → Type 0
-OpensPlant word held opened = MatchBool (is_bench word) (OpensBench opened) (OpensFile word held opened)
+OpensPlant word held opened =
+    MatchBool (is_bench word) (OpensBench opened) (OpensFile word held opened)
 
 -- Behind the plant the run goes on with it, or it has ended.
 abbrev pub GoesOn : (PlantData → End → Type 0) → Result PlantData End → End → Type 0

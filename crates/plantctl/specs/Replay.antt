@@ -18,7 +18,8 @@ IfFits script P = (length script ≤ longest_script) × P
 -- The replay on this plant of the script of this name, which the files hold so, ends with its cause. Memory runs out before
 -- a line is worked, so that nothing was written. That the files had a fault shows in their count, for every command alike.
 abbrev pub ReplayEnds : PlantData → List ℕ → Held → End → Type 0
-ReplayEnds plant name held (Done output) = IfHeld held (λ script. IfFits script (IsReplay plant script output))
+ReplayEnds plant name held (Done output) =
+    IfHeld held (λ script. IfFits script (IsReplay plant script output))
 ReplayEnds plant name held NoMemory = IfHeld held (λ script. Unit {0})
 ReplayEnds plant name held Usage = ⊥
 ReplayEnds plant name held (FileMissing missing) = (missing ≡ name) × MayBeMissing held
@@ -26,7 +27,8 @@ ReplayEnds plant name held (FileFault failed) = failed ≡ name
 ReplayEnds plant name held (PlantRefused fault) = ⊥
 ReplayEnds plant name held PlantTooLong = ⊥
 ReplayEnds plant name held NotBuilt = ⊥
-ReplayEnds plant name held (LineRefused number) = IfHeld held (λ script. IfFits script (IsFirstBad plant script number))
+ReplayEnds plant name held (LineRefused number) =
+    IfHeld held (λ script. IfFits script (IsFirstBad plant script number))
 ReplayEnds plant name held ScriptTooLong = IfHeld held (λ script. longest_script < length script)
 
 -- whether a plant has a remote source
@@ -35,4 +37,5 @@ has_remotes plant = list_any (λ source. is_some source.pool) plant.sources
 
 -- No script is replayed on a plant with remote sources yet, and such a plant says so.
 abbrev pub BuiltReplayEnds : PlantData → List ℕ → Held → End → Type 0
-BuiltReplayEnds plant name held end = MatchBool (has_remotes plant) (end ≡ NotBuilt) (ReplayEnds plant name held end)
+BuiltReplayEnds plant name held end =
+    MatchBool (has_remotes plant) (end ≡ NotBuilt) (ReplayEnds plant name held end)

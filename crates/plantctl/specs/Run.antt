@@ -15,11 +15,13 @@ use Rattle.plantctl.specs.Replay.{BuiltReplayEnds}
 -- A command ends so, in a world that is so before it: its plant's word leads to a plant with which it goes on, or to the end.
 abbrev pub CommandEnds : Command → World → End → Type 0
 CommandEnds (Check word) before end =
-    (opened : Result PlantData End) × OpensPlant word (before.held word 0) opened × GoesOn CheckEnds opened end
+    (opened : Result PlantData End) × OpensPlant word (before.held word 0) opened
+    × GoesOn CheckEnds opened end
 CommandEnds (Replay word name) before end =
     (opened : Result PlantData End)
     × OpensPlant word (before.held word 0) opened
-    × GoesOn (λ plant. BuiltReplayEnds plant name (before.held name (next_opening word name))) opened end
+    × GoesOn (λ plant. BuiltReplayEnds plant name
+    (before.held name (next_opening word name))) opened end
 
 -- The files were left alone.
 pub record LeavesAlone (before now : Shelf) : Type 0 where
@@ -28,7 +30,8 @@ pub record LeavesAlone (before now : Shelf) : Type 0 where
 
 -- This file was opened at most once: each opening finds what it would have found before, or the next one is gone.
 abbrev pub OpensAtMostOnce : List ℕ → Shelf → Shelf → Type 0
-OpensAtMostOnce name before now = Stays (before.held name) (now.held name) ⊎ CountsOn (before.held name) (now.held name)
+OpensAtMostOnce name before now =
+    Stays (before.held name) (now.held name) ⊎ CountsOn (before.held name) (now.held name)
 
 -- At most this file was opened, once, and given back, and no sink was made. What the files hold of other names stays.
 pub record ReadsOnly (name : List ℕ) (before now : Shelf) : Type 0 where
@@ -38,7 +41,8 @@ pub record ReadsOnly (name : List ℕ) (before now : Shelf) : Type 0 where
 
 -- what a plant's word leaves of the files: no file is opened for the bench plant
 abbrev pub LeavesPlant : List ℕ → Shelf → Shelf → Type 0
-LeavesPlant word before now = MatchBool (is_bench word) (LeavesAlone before now) (ReadsOnly word before now)
+LeavesPlant word before now =
+    MatchBool (is_bench word) (LeavesAlone before now) (ReadsOnly word before now)
 
 -- The plant's file was read only, and behind it the script's, which isn't opened where the plant is refused.
 pub record ReadsBoth (word name : List ℕ) (before now : Shelf) (end : End) : Type 0 where

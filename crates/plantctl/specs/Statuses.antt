@@ -104,15 +104,18 @@ pub record RefusedLength (words : List (List ℕ)) (before now : World) : Type 0
 
 -- A plant file is refused where it is too long or has a fault.
 abbrev pub IsRefusedPlant : List ℕ → Type 0
-IsRefusedPlant text = (longest_plant < length text) ⊎ ((fault : PlantFault) × (plant_of_text text ≡ Err fault))
+IsRefusedPlant text =
+    (longest_plant < length text) ⊎ ((fault : PlantFault) × (plant_of_text text ≡ Err fault))
 
 -- A script is accepted where it isn't too long and has a replay text on the plant.
 abbrev pub IsAccepted : PlantData → List ℕ → Type 0
-IsAccepted plant script = (length script ≤ longest_script) × ((output : List ℕ) × IsReplay plant script output)
+IsAccepted plant script =
+    (length script ≤ longest_script) × ((output : List ℕ) × IsReplay plant script output)
 
 -- A script is refused where it is too long or has a line without a form.
 abbrev pub IsRefused : PlantData → List ℕ → Type 0
-IsRefused plant script = (longest_script < length script) ⊎ ((number : ℕ) × IsFirstBad plant script number)
+IsRefused plant script =
+    (longest_script < length script) ⊎ ((number : ℕ) × IsFirstBad plant script number)
 
 -- A run was kept from its end: memory ran out, the files had a fault, or a write failed, which their counts show.
 abbrev pub WasKept : World → World → ℕ → Type 0
@@ -124,10 +127,12 @@ WasKept before now status =
 -- Every run ends with one of seven statuses.
 abbrev pub IsKnown : ℕ → Type 0
 IsKnown status =
-    (status ≡ 0) ⊎ (status ≡ 1) ⊎ (status ≡ 2) ⊎ (status ≡ 3) ⊎ (status ≡ 4) ⊎ (status ≡ 5) ⊎ (status ≡ 7)
+    (status ≡ 0) ⊎ (status ≡ 1) ⊎ (status ≡ 2) ⊎ (status ≡ 3) ⊎ (status ≡ 4) ⊎ (status ≡ 5) ⊎
+    (status ≡ 7)
 
 abbrev pub StatusesAreKnown : Type 0
-StatusesAreKnown = (words : List (List ℕ)) (before now : World) (status : ℕ) → RunEnds words before now status → IsKnown status
+StatusesAreKnown = (words : List (List ℕ)) (before now : World) (status : ℕ)
+    → RunEnds words before now status → IsKnown status
 
 -- A run that ends with 0 has checked its plant or replayed its script.
 abbrev pub ZeroHasDone : Type 0
@@ -136,11 +141,13 @@ ZeroHasDone = (words : List (List ℕ)) (before now : World)
 
 -- A run that ends with 1 ran out of memory.
 abbrev pub OneRanOutOfMemory : Type 0
-OneRanOutOfMemory = (words : List (List ℕ)) (before now : World) → RunEnds words before now 1 → RanOutOfMemory words before now
+OneRanOutOfMemory = (words : List (List ℕ)) (before now : World) → RunEnds words before now 1
+    → RanOutOfMemory words before now
 
 -- The words of a run that ends with 2 have no form.
 abbrev pub TwoHasNoForm : Type 0
-TwoHasNoForm = (words : List (List ℕ)) (before now : World) → RunEnds words before now 2 → HasNoForm words
+TwoHasNoForm =
+    (words : List (List ℕ)) (before now : World) → RunEnds words before now 2 → HasNoForm words
 
 -- A run that ends with 2 has written the usage line and nothing else.
 abbrev pub TwoTellsUsage : Type 0
@@ -165,7 +172,8 @@ NoPlantEndsWithThree = (words : List (List ℕ)) (before now : World) (status : 
 
 -- A script that is missing leads to 3, unless the run is kept from its end.
 abbrev pub NoScriptEndsWithThree : Type 0
-NoScriptEndsWithThree = (words : List (List ℕ)) (before now : World) (status : ℕ) (plant : PlantData) (name : List ℕ)
+NoScriptEndsWithThree =
+    (words : List (List ℕ)) (before now : World) (status : ℕ) (plant : PlantData) (name : List ℕ)
     → AskHeld words before plant name NoFile
     → RunEnds words before now status → (status ≡ 3) ⊎ WasKept before now status
 
@@ -177,20 +185,23 @@ FourHasCause = (words : List (List ℕ)) (before now : World)
 
 -- A plant file that is refused leads to 4, whatever the script, unless the run is kept from its end.
 abbrev pub RefusedPlantEndsWithFour : Type 0
-RefusedPlantEndsWithFour = (words : List (List ℕ)) (before now : World) (status : ℕ) (name text : List ℕ)
+RefusedPlantEndsWithFour =
+    (words : List (List ℕ)) (before now : World) (status : ℕ) (name text : List ℕ)
     → AskFile words name → before.held name 0 ≡ Holds text → IsRefusedPlant text
     → RunEnds words before now status → (status ≡ 4) ⊎ WasKept before now status
 
 -- So does a replay on a plant that isn't built.
 abbrev pub NotBuiltEndsWithFour : Type 0
-NotBuiltEndsWithFour = (words : List (List ℕ)) (before now : World) (status : ℕ) (plant : PlantData) (name : List ℕ)
+NotBuiltEndsWithFour =
+    (words : List (List ℕ)) (before now : World) (status : ℕ) (plant : PlantData) (name : List ℕ)
     → AskShown words before plant name true
     → RunEnds words before now status → (status ≡ 4) ⊎ WasKept before now status
 
 -- Where a run ends with 4, no script was opened: what the files hold of every name stays but of the plant file's.
 abbrev pub FourOpensNoScript : Type 0
 FourOpensNoScript = (words : List (List ℕ)) (before now : World) (name : List ℕ)
-    → RunEnds words before now 4 → (AskFile words name → ⊥) → Stays (before.held name) (now.held name)
+    → RunEnds words before now 4 → (AskFile words name → ⊥)
+    → Stays (before.held name) (now.held name)
 
 -- Where a run ends with 5, its script was refused for a line or for its length.
 abbrev pub FiveHasCause : Type 0
@@ -199,19 +210,24 @@ FiveHasCause = (words : List (List ℕ)) (before now : World)
 
 -- A script that is refused leads to 5, unless the run is kept from its end.
 abbrev pub RefusedEndsWithFive : Type 0
-RefusedEndsWithFive = (words : List (List ℕ)) (before now : World) (status : ℕ) (plant : PlantData) (name script : List ℕ)
+RefusedEndsWithFive =
+    (words : List (List ℕ)) (before now : World) (status : ℕ) (plant : PlantData)
+    (name script : List ℕ)
     → AskHeld words before plant name (Holds script) → IsRefused plant script
     → RunEnds words before now status → (status ≡ 5) ⊎ WasKept before now status
 
 -- A script that is accepted leads to 0, unless the run is kept from its end.
 abbrev pub AcceptedEndsWithZero : Type 0
-AcceptedEndsWithZero = (words : List (List ℕ)) (before now : World) (status : ℕ) (plant : PlantData) (name script : List ℕ)
+AcceptedEndsWithZero =
+    (words : List (List ℕ)) (before now : World) (status : ℕ) (plant : PlantData)
+    (name script : List ℕ)
     → AskHeld words before plant name (Holds script) → IsAccepted plant script
     → RunEnds words before now status → (status ≡ 0) ⊎ WasKept before now status
 
 -- A plant that is to be checked leads to 0, unless the run is kept from its end.
 abbrev pub PlantEndsWithZero : Type 0
-PlantEndsWithZero = (words : List (List ℕ)) (before now : World) (status : ℕ) (word : List ℕ) (plant : PlantData)
+PlantEndsWithZero =
+    (words : List (List ℕ)) (before now : World) (status : ℕ) (word : List ℕ) (plant : PlantData)
     → Ask words (Check word) → ShowsPlant word before plant
     → RunEnds words before now status → (status ≡ 0) ⊎ WasKept before now status
 
@@ -234,7 +250,8 @@ SourcesComeBack = (words : List (List ℕ)) (before now : World) (status : ℕ)
 abbrev pub NoSinkIsMade : Type 0
 NoSinkIsMade = (words : List (List ℕ)) (before now : World) (status : ℕ)
     → RunEnds words before now status
-    → (now.custody.sinks_out ≡ before.custody.sinks_out) × (now.custody.sinks_back ≡ before.custody.sinks_back)
+    → (now.custody.sinks_out ≡ before.custody.sinks_out)
+    × (now.custody.sinks_back ≡ before.custody.sinks_back)
 
 -- What the files hold of a name that the words don't name stays.
 abbrev pub OtherNamesStay : Type 0
@@ -245,7 +262,8 @@ OtherNamesStay = (words : List (List ℕ)) (before now : World) (status : ℕ) (
 -- The files' count of faults stays, unless a run ends with 3 or 7.
 abbrev pub FileFaultsStay : Type 0
 FileFaultsStay = (words : List (List ℕ)) (before now : World) (status : ℕ)
-    → RunEnds words before now status → status ≢ 3 → status ≢ 7 → now.file_faults ≡ before.file_faults
+    → RunEnds words before now status → status ≢ 3 → status ≢ 7
+    → now.file_faults ≡ before.file_faults
 
 -- It rises by one at most.
 abbrev pub FileFaultsRiseOnce : Type 0

@@ -105,22 +105,27 @@ pub record IsFrontOf (stop : Stop) (end : End) (before now : Option (List ℕ)) 
 abbrev pub StopComesTo : Stop → End → Option (List ℕ) → Option (List ℕ) → Type 0
 StopComesTo stops.NoMemory end before now = IsFrontOf stops.NoMemory end before now
 StopComesTo stops.Usage end before now = IsFrontOf stops.Usage end before now
-StopComesTo (stops.FileMissing name) end before now = IsFrontOf (stops.FileMissing name) end before now
+StopComesTo (stops.FileMissing name) end before now =
+    IsFrontOf (stops.FileMissing name) end before now
 StopComesTo (stops.FileFault name) end before now = IsFrontOf (stops.FileFault name) end before now
-StopComesTo (stops.PlantRefused why) end before now = IsFrontOf (stops.PlantRefused why) end before now
+StopComesTo (stops.PlantRefused why) end before now =
+    IsFrontOf (stops.PlantRefused why) end before now
 StopComesTo stops.PlantTooLong end before now = IsFrontOf stops.PlantTooLong end before now
 StopComesTo stops.NotBuilt end before now = IsFrontOf stops.NotBuilt end before now
-StopComesTo (stops.LineRefused number) end before now = IsFrontOf (stops.LineRefused number) end before now
+StopComesTo (stops.LineRefused number) end before now =
+    IsFrontOf (stops.LineRefused number) end before now
 StopComesTo stops.ScriptTooLong end before now = IsFrontOf stops.ScriptTooLong end before now
 StopComesTo stops.OutputFault end before now = AppendsPart (text_of end) before now
 
 -- What was done, or a stop, comes to this end.
-abbrev pub ComesTo : {T : Type 0} → Result T Stop → End → Option (List ℕ) → Option (List ℕ) → Type 0
+abbrev pub ComesTo : {T : Type 0} → Result T Stop → End → Option (List ℕ)
+    → Option (List ℕ) → Type 0
 ComesTo (Ok done) end before now = (status_of end ≡ 0) × (now ≡ appended before (text_of end))
 ComesTo (Err stop) end before now = StopComesTo stop end before now
 
 -- It comes to an end that has this cause.
-pub record StopsFor {T : Type 0} (result : Result T Stop) (Cause : End → Type 0) (before now : Option (List ℕ)) : Type 0 where
+pub record StopsFor {T : Type 0} (result : Result T Stop) (Cause : End → Type 0)
+    (before now : Option (List ℕ)) : Type 0 where
   pub end : End
   pub cause : Cause end
   pub comes : ComesTo result end before now
@@ -136,10 +141,13 @@ number_of_end (Ok done) = 0
 number_of_end (Err stop) = stop_status stop
 
 -- A report answered this status: the line of the stop was appended, or a write failed behind a shorter front of it.
-abbrev pub Reports : {T : Type 0} → Result T Stop → ℕ → Option (List ℕ) → Option (List ℕ) → ℕ → ℕ → Type 0
+abbrev pub Reports : {T : Type 0} → Result T Stop → ℕ → Option (List ℕ)
+    → Option (List ℕ) → ℕ → ℕ → Type 0
 Reports result status before now faults_before faults_now =
-    ((status ≡ number_of_end result) × (now ≡ appended before (rest_of result)) × (faults_now ≡ faults_before))
-    ⊎ ((status ≡ output_failed) × AppendsPart (rest_of result) before now × (faults_now ≡ one_more faults_before))
+    ((status ≡ number_of_end result) × (now ≡ appended before (rest_of result))
+    × (faults_now ≡ faults_before))
+    ⊎ ((status ≡ output_failed) × AppendsPart (rest_of result) before now
+    × (faults_now ≡ one_more faults_before))
 
 -- A stop has yet to write all of this end's text: it has the end's status, line and fault, and no write failed.
 pub record IsStopOf (stop : Stop) (end : End) : Type 0 where
@@ -154,7 +162,8 @@ OpensAs Opens (Ok plant) = Opens (Ok plant)
 OpensAs Opens (Err stop) = (end : End) × Opens (Err end) × IsStopOf stop end
 
 -- Once a plant's word has led to a plant, the next opening of a name finds this.
-abbrev pub AreNext : List ℕ → (List ℕ → ℕ → Held) → (List ℕ → ℕ → Held) → Type 0
+abbrev pub AreNext : List ℕ → (List ℕ → ℕ → Held) → (List ℕ → ℕ → Held)
+    → Type 0
 AreNext word before now = (name : List ℕ) → now name 0 ≡ before name (next_opening word name)
 
 -- the stop for a fault of a file, which is this one where the file is too long, and for a fault of a replay
@@ -172,7 +181,8 @@ stop_of_replay replays.OutputFault = stops.OutputFault
 -- A stop says this fault of a plant file's text, or that memory ran out.
 abbrev pub SaysFault : PlantFault → Stop → Type 0
 SaysFault fault stops.NoMemory = Unit {0}
-SaysFault fault (stops.PlantRefused why) = (string_bytes why ≡ fault_text fault) × (fault ≢ plants.NoMemory)
+SaysFault fault (stops.PlantRefused why) =
+    (string_bytes why ≡ fault_text fault) × (fault ≢ plants.NoMemory)
 SaysFault fault stops.Usage = ⊥
 SaysFault fault (stops.FileMissing name) = ⊥
 SaysFault fault (stops.FileFault name) = ⊥
@@ -188,7 +198,8 @@ asked (commands.Check plant) = Check plant.now
 asked (commands.Replay plant script) = Replay plant.now script.now
 
 -- A command came to the report.
-pub record CommandStops {T : Type 0} (command : Command) (before now : World) (result : Result T Stop) : Type 0 where
+pub record CommandStops {T : Type 0} (command : Command) (before now : World)
+    (result : Result T Stop) : Type 0 where
   pub end : End
   pub ends : CommandEnds command before end
   pub files : LeavesFiles command (shelf before) (shelf now) end
@@ -198,7 +209,8 @@ pub record CommandStops {T : Type 0} (command : Command) (before now : World) (r
   pub output_faults : now.output_faults ≡ counted (stopped_by_output result) before.output_faults
 
 -- A run came to its report.
-pub record RunStops {T : Type 0} (words : List (List ℕ)) (before now : World) (result : Result T Stop) : Type 0 where
+pub record RunStops {T : Type 0} (words : List (List ℕ)) (before now : World)
+    (result : Result T Stop) : Type 0 where
   pub end : End
   pub cause : EndsAtWords words before now end ⊎ EndsByCommand words before now end
   pub comes : ComesTo result end before.written now.written

@@ -15,7 +15,8 @@ pub record World : Type 0 where
 
 -- The world of these files and this output: what the files hold and handed out, how often they failed, what was written to
 -- the output, and how often that failed, are what their types say of them.
-abbrev pub world : {F K : Type 0} → (F → List ℕ → ℕ → Held) → (F → Custody) → (F → ℕ) → (K → Option (List ℕ)) → (K → ℕ) → F → K → World
+abbrev pub world : {F K : Type 0} → (F → List ℕ → ℕ → Held) → (F → Custody)
+    → (F → ℕ) → (K → Option (List ℕ)) → (K → ℕ) → F → K → World
 world held custody file_faults written output_faults files out = record {
   held = held files;
   custody = custody files;
@@ -34,5 +35,6 @@ abbrev pub shelf : World → Shelf
 shelf world = record { held = world.held; custody = world.custody }
 
 -- what files show by what their type says of them
-abbrev pub shelf_of : {F : Type 0} → (F → List ℕ → ℕ → Held) → (F → Custody) → F → Shelf
+abbrev pub shelf_of : {F : Type 0} → (F → List ℕ → ℕ → Held) → (F → Custody) → F
+    → Shelf
 shelf_of held custody files = record { held = held files; custody = custody files }

@@ -14,7 +14,8 @@ use Rattle.panel_session.specs.Turns.{EndIn}
 -- DATA are those of a page of names.
 abbrev pub IsPageOfNames : List ℕ → Type 0
 IsPageOfNames bytes =
-    (command matrix level size first : ℕ) × (names : List (List ℕ)) × (bytes ≡ pages.page_text command matrix level size first names)
+    (command matrix level size first : ℕ) × (names : List (List ℕ))
+    × (bytes ≡ pages.page_text command matrix level size first names)
 
 -- A frame that tells a panel something: that of a message, of a page of a dump, or of a page of names.
 abbrev pub IsTelling : List ℕ → Type 0
@@ -30,7 +31,8 @@ in_a_row frames = flat_map (λ bytes. bytes) frames
 -- What an item is answered with: a bad frame with NAK and nothing else; a good one with ACK, and then frames that tell
 -- something; an ACK with nothing; a NAK with nothing, or with one such frame.
 abbrev pub IsAnswered : Item (List ℕ) → List ℕ → Type 0
-IsAnswered (Good carried) bytes = (frames : List (List ℕ)) × AllByRecursion IsTelling frames × (bytes ≡ ack ++ in_a_row frames)
+IsAnswered (Good carried) bytes =
+    (frames : List (List ℕ)) × AllByRecursion IsTelling frames × (bytes ≡ ack ++ in_a_row frames)
 IsAnswered Bad bytes = bytes ≡ nak
 IsAnswered Ack bytes = bytes ≡ []
 IsAnswered Nak bytes = (bytes ≡ []) ⊎ IsTelling bytes

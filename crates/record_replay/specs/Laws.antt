@@ -46,7 +46,8 @@ is_leave (requests.Leave panel) = true
 
 -- All entries of a turn are by the panel's seat, and none is a leave.
 abbrev pub IsSeated : Deed → Type 0
-IsSeated (Turned panel piece entries sent) = All (λ entry. (entry.seat ≡ panel) × (is_leave entry.request ≡ false)) entries
+IsSeated (Turned panel piece entries sent) =
+    All (λ entry. (entry.seat ≡ panel) × (is_leave entry.request ≡ false)) entries
 IsSeated (Left panel) = Unit {0}
 
 -- the piece and the bytes of a turn, where it is of this panel
@@ -70,14 +71,17 @@ abbrev pub session_in : ℕ → List PlantEntry → List PlantEntry
 session_in panel history = filter (λ entry. not (is_leave entry.request)) (entries_of panel history)
 
 -- A panel's session makes these entries of these pieces, and what it sends is its text of them.
-pub record IsSession (plant : PlantData) (panel : ℕ) (pieces : List (List ℕ)) (entries : List PlantEntry) (sent : List ℕ) : Type 0 where
+pub record IsSession (plant : PlantData) (panel : ℕ) (pieces : List (List ℕ))
+    (entries : List PlantEntry) (sent : List ℕ) : Type 0 where
   pub fits : turns.Fits panel pieces entries
   pub text : IsText plant (items (flat_map (λ piece. piece) pieces)) entries sent
 
 -- In the history of these deeds the session of each panel is one: of the pieces that it read in them, with the bytes that
 -- it sent.
 abbrev pub AreSessions : PlantData → List Deed → Type 0
-AreSessions plant deeds = (panel : ℕ) → IsSession plant panel (pieces_of panel deeds) (session_in panel (history_of deeds)) (sent_of panel deeds)
+AreSessions plant deeds = (panel : ℕ)
+    → IsSession plant panel (pieces_of panel deeds) (session_in panel (history_of deeds))
+    (sent_of panel deeds)
 
 -- A script's lines that aren't skipped spell the works of these deeds, and the output shows each of them. Their history is
 -- legal from the start of the plant, and behind each deed the session of each panel is one.

@@ -21,7 +21,8 @@ SpellsNoNumber text = (number : ℕ) → NumberSpells text number → ⊥
 
 -- A text spells the number of no panel of the plant, or that of this panel.
 abbrev pub SpellsNoPanel : PlantData → List ℕ → Type 0
-SpellsNoPanel plant text = (number : ℕ) → NumberSpells text number → number < length plant.panels → ⊥
+SpellsNoPanel plant text =
+    (number : ℕ) → NumberSpells text number → number < length plant.panels → ⊥
 
 abbrev pub SpellsPanel : PlantData → List ℕ → ℕ → Type 0
 SpellsPanel plant text panel = NumberSpells text panel × (panel < length plant.panels)

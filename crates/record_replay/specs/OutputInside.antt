@@ -9,51 +9,66 @@ use Rattle.record_replay.specs.Script.{line_feed}
 
 -- The text was put into an output whose sink had these bytes and this count of faults before it. No write failed: what
 -- isn't in the buffer any more was given to the sink.
-pub record IsWhole (text buffer : List ℕ) (before now : Option (List ℕ)) (count_before count_now : ℕ) : Type 0 where
+pub record IsWhole (text buffer : List ℕ) (before now : Option (List ℕ))
+    (count_before count_now : ℕ) : Type 0 where
   pub given : List ℕ
   pub text_is : text ≡ given ++ buffer
   pub appends : now ≡ appended before given
   pub count : count_now ≡ count_before
 
 -- A write failed: a shorter front of the text was given to the sink, and nothing more ever will be.
-pub record IsCut (text : List ℕ) (before now : Option (List ℕ)) (count_before count_now : ℕ) : Type 0 where
+pub record IsCut (text : List ℕ) (before now : Option (List ℕ))
+    (count_before count_now : ℕ) : Type 0 where
   pub appends : AppendsPart text before now
   pub count : count_now ≡ one_more count_before
 
 -- One of the two, by whether the output failed.
-abbrev pub IsPut : Bool → List ℕ → List ℕ → Option (List ℕ) → Option (List ℕ) → ℕ → ℕ → Type 0
-IsPut false text buffer before now count_before count_now = IsWhole text buffer before now count_before count_now
-IsPut true text buffer before now count_before count_now = IsCut text before now count_before count_now
+abbrev pub IsPut : Bool → List ℕ → List ℕ → Option (List ℕ) → Option (List ℕ)
+    → ℕ → ℕ → Type 0
+IsPut false text buffer before now count_before count_now =
+    IsWhole text buffer before now count_before count_now
+IsPut true text buffer before now count_before count_now =
+    IsCut text before now count_before count_now
 
 -- This text was put into an output so far, whose sink showed these bytes and this count of faults before it. What the sink
 -- shows, and its count, are functions of it.
-abbrev pub HasPut : {K : Type 0} → (K → Option (List ℕ)) → (K → ℕ) → Option (List ℕ) → ℕ → List ℕ → Output K → Type 0
+abbrev pub HasPut : {K : Type 0} → (K → Option (List ℕ)) → (K → ℕ) → Option (List ℕ)
+    → ℕ → List ℕ → Output K → Type 0
 HasPut written faults before count text output =
-    IsPut output.failed text output.buffer.now before (written output.out.now) count (faults output.out.now)
+    IsPut output.failed text output.buffer.now before (written output.out.now) count
+    (faults output.out.now)
 
 -- Nothing was put into an output yet, whose sink is so.
-abbrev pub HasNothing : {K : Type 0} → (K → Option (List ℕ)) → (K → ℕ) → K → Output K → Type 0
+abbrev pub HasNothing : {K : Type 0} → (K → Option (List ℕ)) → (K → ℕ) → K
+    → Output K → Type 0
 HasNothing written faults sink output = HasPut written faults (written sink) (faults sink) [] output
 
 -- Whatever text was put into an output, these bytes were put behind it.
-abbrev pub GoesOn : {K : Type 0} → (K → Option (List ℕ)) → (K → ℕ) → List ℕ → Output K → Output K → Type 0
+abbrev pub GoesOn : {K : Type 0} → (K → Option (List ℕ)) → (K → ℕ) → List ℕ
+    → Output K → Output K → Type 0
 GoesOn written faults more old new = (before : Option (List ℕ)) (count : ℕ) (text : List ℕ)
-    → HasPut written faults before count text old → HasPut written faults before count (text ++ more) new
+    → HasPut written faults before count text old
+    → HasPut written faults before count (text ++ more) new
 
 -- These bytes were put into an output. Its sink is the same.
-pub record Puts {K : Type 0} (written : K → Option (List ℕ)) (faults : K → ℕ) (more : List ℕ) (old new : Output K) : Type 0 where
+pub record Puts {K : Type 0} (written : K → Option (List ℕ)) (faults : K → ℕ) (more : List ℕ)
+    (old new : Output K) : Type 0 where
   pub same_sink : new.out.ghost_name ≡ old.out.ghost_name
   pub puts : GoesOn written faults more old new
 
 -- All that was put into an output was given to its sink, which is so now.
-abbrev pub IsAllGiven : {K : Type 0} → (K → Option (List ℕ)) → (K → ℕ) → Output K → K → Type 0
+abbrev pub IsAllGiven : {K : Type 0} → (K → Option (List ℕ)) → (K → ℕ) → Output K
+    → K → Type 0
 IsAllGiven written faults output now = (before : Option (List ℕ)) (count : ℕ) (text : List ℕ)
-    → HasPut written faults before count text output → (written now ≡ appended before text) × (faults now ≡ count)
+    → HasPut written faults before count text output → (written now ≡ appended before text)
+    × (faults now ≡ count)
 
 -- A write failed: a shorter front of what was put into an output was given to its sink, which is so now.
-abbrev pub IsCutShort : {K : Type 0} → (K → Option (List ℕ)) → (K → ℕ) → Output K → K → Type 0
+abbrev pub IsCutShort : {K : Type 0} → (K → Option (List ℕ)) → (K → ℕ) → Output K
+    → K → Type 0
 IsCutShort written faults output now = (before : Option (List ℕ)) (count : ℕ) (text : List ℕ)
-    → HasPut written faults before count text output → IsCut text before (written now) count (faults now)
+    → HasPut written faults before count text output
+    → IsCut text before (written now) count (faults now)
 
 -- whether there are bytes
 abbrev pub are_some : List ℕ → Bool
@@ -61,7 +76,8 @@ are_some [] = false
 are_some (byte ∷ bytes) = true
 
 -- These bytes were put in hexadecimal into the line of a turn.
-pub record Gives {K : Type 0} (written : K → Option (List ℕ)) (faults : K → ℕ) (bytes : List ℕ) (old new : Output K) : Type 0 where
+pub record Gives {K : Type 0} (written : K → Option (List ℕ)) (faults : K → ℕ) (bytes : List ℕ)
+    (old new : Output K) : Type 0 where
   pub puts : Puts written faults (encode_upper bytes) old new
   pub some : new.some ≡ (old.some || are_some bytes)
 

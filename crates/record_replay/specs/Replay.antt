@@ -58,7 +58,8 @@ Works plant (Read panel piece) stand line next =
     × (line ≡ turn_line panel more)
     × (next ≡ behind_turn panel turn more stand)
 Works plant (Leave panel) stand line next =
-    (line ≡ leave_line panel) × (next ≡ record stand { state = (step stand.state (requests.Leave panel)).state })
+    (line ≡ leave_line panel)
+    × (next ≡ record stand { state = (step stand.state (requests.Leave panel)).state })
 
 -- Works that are done one after the other lead from one stand to another, with these output lines.
 abbrev pub AllWork : PlantData → List Work → Stand → List ℕ → Stand → Type 0
@@ -78,13 +79,15 @@ pub record IsReplay (plant : PlantData) (script output : List ℕ) : Type 0 wher
   pub all_work : AllWork plant works (begun plant) output last
 
 -- A sink was given the script's replay text.
-pub record HasReplayed (plant : PlantData) (script : List ℕ) (before now : Option (List ℕ)) : Type 0 where
+pub record HasReplayed (plant : PlantData) (script : List ℕ)
+    (before now : Option (List ℕ)) : Type 0 where
   pub output : List ℕ
   pub replay : IsReplay plant script output
   pub appends : now ≡ appended before output
 
 -- A sink was given a front of the script's replay text.
-pub record HasReplayedFront (plant : PlantData) (script : List ℕ) (before now : Option (List ℕ)) : Type 0 where
+pub record HasReplayedFront (plant : PlantData) (script : List ℕ)
+    (before now : Option (List ℕ)) : Type 0 where
   pub output : List ℕ
   pub replay : IsReplay plant script output
   pub appends : AppendsPart output before now

@@ -75,7 +75,8 @@ HexSpells hex bytes = decode_of (filter (λ byte. not (byte == space)) hex) ≡ 
 abbrev pub HasForm : List ℕ → List ℕ → Work → Type 0
 HasForm line digits (Read panel []) = line ≡ codes "poll " ++ digits
 HasForm line digits (Read panel (byte ∷ bytes)) =
-    (hex : List ℕ) × (line ≡ codes "> " ++ digits ++ codes " " ++ hex) × HexSpells hex (byte ∷ bytes)
+    (hex : List ℕ) × (line ≡ codes "> " ++ digits ++ codes " " ++ hex)
+    × HexSpells hex (byte ∷ bytes)
 HasForm line digits (Leave panel) = line ≡ codes "leave " ++ digits
 
 -- A line spells a piece of work of one of the plant's panels.
@@ -89,7 +90,8 @@ pub record LineSpells (plant : PlantData) (line : List ℕ) (work : Work) : Type
 -- The lines spell these works, one each, in order.
 abbrev pub LinesSpell : PlantData → List (List ℕ) → List Work → Type 0
 LinesSpell plant [] [] = Unit {0}
-LinesSpell plant (line ∷ others) (work ∷ works) = LineSpells plant line work × LinesSpell plant others works
+LinesSpell plant (line ∷ others) (work ∷ works) =
+    LineSpells plant line work × LinesSpell plant others works
 LinesSpell plant [] (work ∷ works) = ⊥
 LinesSpell plant (line ∷ others) [] = ⊥
 

@@ -16,7 +16,8 @@ use Rattle.record_replay.specs.Answered.{AnswersItems}
 
 -- the frame of a message is read as one good item with the message's DATA
 abbrev pub MessageFramesAreItems : Type 0
-MessageFramesAreItems = (message : Message) → InRange message → IsReadAs (frame (text message)) (Good (text message) ∷ [])
+MessageFramesAreItems = (message : Message) → InRange message
+    → IsReadAs (frame (text message)) (Good (text message) ∷ [])
 
 -- a message's DATA spell it
 abbrev pub TextsSpellTheirMessage : Type 0
@@ -24,20 +25,24 @@ TextsSpellTheirMessage = (message : Message) → InRange message → Spells (tex
 
 -- and no other
 abbrev pub TextsSpellNoOther : Type 0
-TextsSpellNoOther = (message other : Message) → InRange message → Spells (text message) other → other ≡ message
+TextsSpellNoOther =
+    (message other : Message) → InRange message → Spells (text message) other → other ≡ message
 
 -- a script has a replay text on each plant, or a first bad line there
 abbrev pub ScriptsReplayOrAreBad : Type 0
 ScriptsReplayOrAreBad = (plant : PlantData) (script : List ℕ)
-    → ((output : List ℕ) × IsReplay plant script output) ⊎ ((number : ℕ) × IsFirstBad plant script number)
+    → ((output : List ℕ) × IsReplay plant script output) ⊎
+    ((number : ℕ) × IsFirstBad plant script number)
 
 -- a script has one replay text
 abbrev pub ReplayTextsAreOne : Type 0
-ReplayTextsAreOne = (plant : PlantData) (script a b : List ℕ) → IsReplay plant script a → IsReplay plant script b → a ≡ b
+ReplayTextsAreOne = (plant : PlantData) (script a b : List ℕ) → IsReplay plant script a
+    → IsReplay plant script b → a ≡ b
 
 -- a script has one first bad line
 abbrev pub FirstBadsAreOne : Type 0
-FirstBadsAreOne = (plant : PlantData) (script : List ℕ) (m n : ℕ) → IsFirstBad plant script m → IsFirstBad plant script n → m ≡ n
+FirstBadsAreOne = (plant : PlantData) (script : List ℕ) (m n : ℕ) → IsFirstBad plant script m
+    → IsFirstBad plant script n → m ≡ n
 
 -- no script has a replay text and a first bad line
 abbrev pub BadsDoNotReplay : Type 0

@@ -52,7 +52,8 @@ pub record MayDo (need : ℕ) (plant : PlantData) (stage : Stage) : Type 0 where
   pub within : used + need < 2 ^ 63
 
 -- A piece of work was done: from where the stage stood it leads to where it stands now, and this is its text.
-pub record HasDone (plant : PlantData) (work : Work) (stand : Stand) (used : ℕ) (after : Stage) (text : List ℕ) : Type 0 where
+pub record HasDone (plant : PlantData) (work : Work) (stand : Stand) (used : ℕ) (after : Stage)
+    (text : List ℕ) : Type 0 where
   pub next : Stand
   pub works : Works plant work stand text next
   pub stands : StandsAt plant after next (used + need_of work)
@@ -64,19 +65,23 @@ DoesWork plant work before after IsPut =
     → (text : List ℕ) × IsPut text × HasDone plant work stand used after text
 
 -- The works of one line were done, none where it is skipped.
-pub record HasDoneLine (plant : PlantData) (line : List ℕ) (works : List Work) (stand : Stand) (used : ℕ) (after : Stage) (text : List ℕ) : Type 0 where
+pub record HasDoneLine (plant : PlantData) (line : List ℕ) (works : List Work) (stand : Stand)
+    (used : ℕ) (after : Stage) (text : List ℕ) : Type 0 where
   pub next : Stand
   pub all_work : AllWork plant works stand text next
   pub stands : StandsAt plant after next (used + length line)
 
-abbrev pub DoesLine : PlantData → List ℕ → Stage → Stage → (List ℕ → Type 0) → Type 0
+abbrev pub DoesLine : PlantData → List ℕ → Stage → Stage → (List ℕ → Type 0)
+    → Type 0
 DoesLine plant line before after IsPut =
-    (stand : Stand) (used : ℕ) (works : List Work) → StandsAt plant before stand used → used + length line < 2 ^ 63
+    (stand : Stand) (used : ℕ) (works : List Work) → StandsAt plant before stand used
+    → used + length line < 2 ^ 63
     → LinesSpell plant (worked (line ∷ [])) works
     → (text : List ℕ) × IsPut text × HasDoneLine plant line works stand used after text
 
 -- Some of the works of a script were done, with this text, and this is left of the script, whose lines spell the others.
-pub record IsOnTheWay (plant : PlantData) (works : List Work) (stand : Stand) (all : ℕ) (rest : List ℕ) (now : Stage) (IsPut : List ℕ → Type 0) : Type 0 where
+pub record IsOnTheWay (plant : PlantData) (works : List Work) (stand : Stand) (all : ℕ)
+    (rest : List ℕ) (now : Stage) (IsPut : List ℕ → Type 0) : Type 0 where
   pub done : List Work
   pub left : List Work
   pub works_are : works ≡ done ++ left
@@ -90,14 +95,17 @@ pub record IsOnTheWay (plant : PlantData) (works : List Work) (stand : Stand) (a
   pub within : used + length rest ≤ all
 
 -- So it is from wherever the stage may have stood.
-abbrev pub GoesOn : PlantData → List ℕ → List ℕ → Stage → Stage → (List ℕ → Type 0) → Type 0
+abbrev pub GoesOn : PlantData → List ℕ → List ℕ → Stage → Stage
+    → (List ℕ → Type 0) → Type 0
 GoesOn plant script rest before now IsPut =
-    (stand : Stand) (used : ℕ) (works : List Work) → StandsAt plant before stand used → used + length script < 2 ^ 63
+    (stand : Stand) (used : ℕ) (works : List Work) → StandsAt plant before stand used
+    → used + length script < 2 ^ 63
     → LinesSpell plant (worked (lines script)) works
     → IsOnTheWay plant works stand (used + length script) rest now IsPut
 
 -- The works of a script were done, all of them or a front, behind which the others may still be done.
-pub record HasDoneScript (plant : PlantData) (works : List Work) (stand : Stand) (failed : Bool) (text : List ℕ) : Type 0 where
+pub record HasDoneScript (plant : PlantData) (works : List Work) (stand : Stand) (failed : Bool)
+    (text : List ℕ) : Type 0 where
   pub done : List Work
   pub left : List Work
   pub works_are : works ≡ done ++ left
@@ -106,8 +114,10 @@ pub record HasDoneScript (plant : PlantData) (works : List Work) (stand : Stand)
   pub settled : IsSettled plant next
   pub whole : failed ≡ false → left ≡ []
 
-abbrev pub DoesScript : PlantData → List ℕ → Stage → Bool → (List ℕ → Type 0) → Type 0
+abbrev pub DoesScript : PlantData → List ℕ → Stage → Bool → (List ℕ → Type 0)
+    → Type 0
 DoesScript plant script before failed IsPut =
-    (stand : Stand) (used : ℕ) (works : List Work) → StandsAt plant before stand used → used + length script < 2 ^ 63
+    (stand : Stand) (used : ℕ) (works : List Work) → StandsAt plant before stand used
+    → used + length script < 2 ^ 63
     → LinesSpell plant (worked (lines script)) works
     → (text : List ℕ) × IsPut text × HasDoneScript plant works stand failed text

@@ -23,7 +23,8 @@ limit_of (NumberLow number) = 256
 
 -- the destination that these bytes give
 abbrev pub point_of : ℕ → ℕ → ℕ → Point
-point_of place high low = record { matrix = place / 16; level = place % 16; dest = high / 16 % 8 * part + low }
+point_of place high low =
+    record { matrix = place / 16; level = place % 16; dest = high / 16 % 8 * part + low }
 
 -- the source that these bytes give
 abbrev pub source_of : ℕ → ℕ → Option ℕ
@@ -89,7 +90,8 @@ abbrev pub first_bad : ℕ → List Field → List ℕ → Option ReadFault
 first_bad place [] bytes = None
 first_bad place (field ∷ fields) [] = None
 first_bad place (field ∷ fields) (byte ∷ bytes) =
-    if nat_lt byte (limit_of field) then first_bad (place + 1) fields bytes else Some (BadField place byte)
+    if nat_lt byte (limit_of field) then first_bad (place + 1) fields bytes
+    else Some (BadField place byte)
 
 -- Bytes behind a command are of another number than the fields, or one isn't below its field's limit.
 abbrev pub fault_of : List Field → List ℕ → Option ReadFault

@@ -16,7 +16,8 @@ pub record HasUnknownCommand (bytes : List ℕ) (command : ℕ) : Type 0 where
 -- No DATA that has this command and so many bytes behind it spells a message.
 abbrev pub NoneOfLength : ℕ → ℕ → Type 0
 NoneOfLength command count =
-    (behind : List ℕ) (message : Message) → length behind ≡ count → Spells (command ∷ behind) message → ⊥
+    (behind : List ℕ) (message : Message) → length behind ≡ count
+    → Spells (command ∷ behind) message → ⊥
 
 -- Some message has this command, its text has so many bytes as are wanted, and no DATA with the command and so many
 -- bytes behind it as these spells a message.
@@ -34,7 +35,8 @@ HasWrongLength (command ∷ behind) wanted = HasWrongCount command behind wanted
 -- No DATA that begins with this command, these bytes and this one, and has so many bytes behind them, spells a message.
 abbrev pub NoneGoesOn : ℕ → List ℕ → ℕ → ℕ → Type 0
 NoneGoesOn command front byte count =
-    (more : List ℕ) (message : Message) → length more ≡ count → Spells (command ∷ (front ++ byte ∷ more)) message → ⊥
+    (more : List ℕ) (message : Message) → length more ≡ count
+    → Spells (command ∷ (front ++ byte ∷ more)) message → ⊥
 
 -- The byte at this place behind the command is the first that is wrong: with the bytes in front of it, DATA of so many
 -- bytes spells a message if it goes on in some way, and with this byte too it spells none, however it goes on.

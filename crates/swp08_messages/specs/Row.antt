@@ -20,7 +20,8 @@ destination at = MatrixLevel at.matrix at.level ∷ DestHigh at.dest ∷ DestLow
 -- a crosspoint, which is a destination and the source at it: matrix with level, multiplier, the two low parts
 abbrev pub crosspoint : Point → Option ℕ → List Field
 crosspoint at source =
-    MatrixLevel at.matrix at.level ∷ CrosspointHigh at.dest source ∷ DestLow at.dest ∷ SourceLow source ∷ []
+    MatrixLevel at.matrix at.level ∷ CrosspointHigh at.dest source ∷ DestLow at.dest
+    ∷ SourceLow source ∷ []
 
 -- a level: its matrix with its number
 abbrev pub one_level : ℕ → ℕ → List Field
@@ -51,8 +52,11 @@ row (Connect at source) = record { command = 2; kind = Plant; fields = crosspoin
 row (Tally at source) = record { command = 3; kind = Report; fields = crosspoint at source }
 row (Connected at source) = record { command = 4; kind = Report; fields = crosspoint at source }
 row (DumpAsk matrix level) = record { command = 21; kind = Plant; fields = one_level matrix level }
-row (SourceNamesAsk matrix level size) = record { command = 100; kind = Names; fields = source_names matrix level size }
+row (SourceNamesAsk matrix level size) =
+    record { command = 100; kind = Names; fields = source_names matrix level size }
 row (SourceNameAsk matrix level size number) =
     record { command = 101; kind = Names; fields = source_name matrix level size number }
-row (DestNamesAsk matrix size) = record { command = 102; kind = Names; fields = dest_names matrix size }
-row (DestNameAsk matrix size number) = record { command = 103; kind = Names; fields = dest_name matrix size number }
+row (DestNamesAsk matrix size) =
+    record { command = 102; kind = Names; fields = dest_names matrix size }
+row (DestNameAsk matrix size number) =
+    record { command = 103; kind = Names; fields = dest_name matrix size number }

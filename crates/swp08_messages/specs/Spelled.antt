@@ -9,7 +9,8 @@ use Rattle.swp08_messages.specs.Text.{InRange}
 -- The bytes are those of the fields, one each, but for the bits that aren't looked at.
 abbrev pub SpellFields : List ℕ → List Field → Type 0
 SpellFields [] [] = Unit {0}
-SpellFields (byte ∷ bytes) (field ∷ fields) = (looked_at field byte ≡ byte_of field) × SpellFields bytes fields
+SpellFields (byte ∷ bytes) (field ∷ fields) =
+    (looked_at field byte ≡ byte_of field) × SpellFields bytes fields
 SpellFields [] (field ∷ fields) = ⊥
 SpellFields (byte ∷ bytes) [] = ⊥
 

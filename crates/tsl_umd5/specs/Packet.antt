@@ -50,7 +50,8 @@ message_text m = word m.index ++ word m.control ++ word (length m.text) ++ m.tex
 
 -- CONTROL: the right lamp in bits 0 and 1, the text's in 2 and 3, the left one in 4 and 5, the brightness in 6 and 7
 abbrev pub control_of : Display → ℕ
-control_of d = lamp_code d.right + 4 * lamp_code d.middle + 16 * lamp_code d.left + 64 * d.brightness
+control_of d =
+    lamp_code d.right + 4 * lamp_code d.middle + 16 * lamp_code d.left + 64 * d.brightness
 
 -- the message that says what a display shows
 abbrev pub message_of : Display → Message
@@ -113,7 +114,8 @@ IsPacketText bytes = (p : Contents) × IsTextOf bytes p
 -- Whichever screen and displays a packet was of, this display stands behind them.
 abbrev pub AddsDisplay : Display → List ℕ → List ℕ → Type 0
 AddsDisplay display before after =
-    (screen : ℕ) (ds : List Display) → before ≡ packet_text screen ds → after ≡ packet_text screen (ds ++ display ∷ [])
+    (screen : ℕ) (ds : List Display) → before ≡ packet_text screen ds
+    → after ≡ packet_text screen (ds ++ display ∷ [])
 
 -- no two packets have one text
 abbrev pub OneText : Type 0

@@ -12,7 +12,8 @@ use Rattle.tsl_umd5.specs.Packet.{Display, Message, Contents}
 
 -- goes on with what was read; the first fault is the answer
 infixl 10 ◌>>=◌
-abbrev pub ◌>>=◌ : {A B : Type 0} → Result A TslFault → (A → Result B TslFault) → Result B TslFault
+abbrev pub ◌>>=◌ : {A B : Type 0} → Result A TslFault → (A → Result B TslFault)
+    → Result B TslFault
 (Ok x) >>= f = f x
 (Err e) >>= f = Err e
 
@@ -25,7 +26,14 @@ unfoldable pub front : List ℕ → Option (Message × List ℕ)
 front (i₀ ∷ i₁ ∷ c₀ ∷ c₁ ∷ n₀ ∷ n₁ ∷ bytes) =
     let len = number n₀ n₁ in
     if nat_lt (length bytes) len then None
-    else Some (record { index = number i₀ i₁; control = number c₀ c₁; text = take len bytes }, drop len bytes)
+    else Some (
+      record {
+        index = number i₀ i₁;
+        control = number c₀ c₁;
+        text = take len bytes;
+      },
+      drop len bytes,
+    )
 front bytes = None
 
 -- what a message says, by the bits of its CONTROL
@@ -48,7 +56,8 @@ unfoldable pub judged : ℕ → Message → Result Display TslFault
 judged place m =
     let unprintable = position (λ b. not (is_printable b)) m.text in
     if nat_le 256 m.control then Err (ReservedBits m.index)
-    else option_map_or (λ offset. Err (NotAscii (place + message_head + offset))) unprintable (Ok (display_of m))
+    else option_map_or (λ offset. Err (NotAscii (place + message_head + offset))) unprintable
+    (Ok (display_of m))
 
 -- the displays of messages one after another, at most so many of them, the first of which begins at a place
 unfoldable pub messages_at : ℕ → ℕ → List ℕ → Result (List Display) TslFault
@@ -72,9 +81,11 @@ contents (p₀ ∷ p₁ ∷ ver ∷ flags ∷ s₀ ∷ s₁ ∷ bytes) =
     if not (found == wanted) then Err (WrongCount found wanted)
     else if not (ver == version) then Err (Version ver)
     else if not (flags == plain_flags) then Err (Flags flags)
-    else (all_at packet_head bytes >>= λ displays. Ok (record { screen = number s₀ s₁; displays = displays }))
+    else (all_at packet_head bytes >>= λ displays. Ok
+    (record { screen = number s₀ s₁; displays = displays }))
 contents bytes = Err (Short (length bytes))
 
 -- the screen and the displays of a packet, or the first rule that the bytes break
 unfoldable pub reading : List ℕ → Result Contents TslFault
-reading bytes = if nat_lt max_packet (length bytes) then Err (TooLong (length bytes)) else contents bytes
+reading bytes =
+    if nat_lt max_packet (length bytes) then Err (TooLong (length bytes)) else contents bytes

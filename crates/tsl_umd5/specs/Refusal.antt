@@ -31,7 +31,8 @@ pub record FirstUnprintable (text : List ℕ) (offset : ℕ) : Type 0 where
 abbrev pub IsWrong : ℕ → Message → TslFault → Type 0
 IsWrong place m (ReservedBits index) = (256 ≤ m.control) × (index ≡ m.index)
 IsWrong place m (NotAscii n) =
-    (m.control < 256) × (offset : ℕ) × FirstUnprintable m.text offset × (n ≡ place + message_head + offset)
+    (m.control < 256) × (offset : ℕ) × FirstUnprintable m.text offset
+    × (n ≡ place + message_head + offset)
 IsWrong place m fault = ⊥
 
 -- what is wrong at the front of bytes that begin at a place
@@ -61,6 +62,8 @@ IsRefused bytes (Short n) = ((n ≡ length bytes) × (n < packet_head)) ⊎ HasB
 IsRefused bytes (WrongCount found wanted) =
     IsSized bytes × (behind : List ℕ) × (wanted < 2 ^ 16) × (bytes ≡ word wanted ++ behind)
     × (found ≡ length behind) × (found ≢ wanted)
-IsRefused bytes (Version v) = IsSized bytes × (behind : List ℕ) × (bytes ≡ with_count (v ∷ behind)) × (v ≢ version)
-IsRefused bytes (Flags f) = IsSized bytes × (behind : List ℕ) × (bytes ≡ with_count (version ∷ f ∷ behind)) × (f ≢ plain_flags)
+IsRefused bytes (Version v) =
+    IsSized bytes × (behind : List ℕ) × (bytes ≡ with_count (v ∷ behind)) × (v ≢ version)
+IsRefused bytes (Flags f) = IsSized bytes × (behind : List ℕ)
+    × (bytes ≡ with_count (version ∷ f ∷ behind)) × (f ≢ plain_flags)
 IsRefused bytes fault = HasBadMessage bytes fault
