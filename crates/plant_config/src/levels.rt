@@ -1,11 +1,13 @@
-//! The levels of a plant, each found by its matrix and its number in one look.
+//! The levels of a plant, each found in one look: by its matrix and its number, and by what it has.
 
-ghost use Rattle.std.specs.Prelude.{◌≡◌, ◌+◌, ◌*◌, ◌<◌, ◌≤◌, All, length, IfOk};
-ghost use Rattle.plant_config.specs.Limits.{matrix_limit, level_limit, all_levels_limit};
-ghost use Rattle.plant_config.specs.Sites.{level_among};
-ghost use Rattle.plant_config.specs.LevelsInside.{IsInGrid, AreNoted, place_of};
+ghost use Rattle.std.specs.Prelude.{◌≡◌, ◌+◌, ◌*◌, ◌^◌, ◌<◌, ◌≤◌, All, length, find, sum, IfOk};
+ghost use Rattle.plant_config.specs.Limits.{matrix_limit, level_limit, all_levels_limit, all_destinations_limit, all_sources_limit};
+ghost use Rattle.plant_config.specs.Plant.{dest_numbers, source_numbers};
+ghost use Rattle.plant_config.specs.Sites.{level_among, has_number};
+ghost use Rattle.plant_config.specs.LevelsInside.{IsInGrid, AreNoted, AreNumbered, LeadToLevels, place_of, level_by, indices_from};
 
 use crate::limits::{LEVELS_OF_A_MATRIX, MATRICES};
+use crate::numbers::{DestId, SourceId};
 use crate::records::Level;
 use std::alloc::{AllocError, Global};
 use std::marker::Model;
@@ -19,6 +21,9 @@ pub(crate) struct Levels {
     levels: Vec<Level>,
     // Where in the list each matrix and level number has its level.
     places: [Option<u8>; PLACES],
+    // Where in the list the level of each destination of the plant is, and that of each source.
+    of_dests: Vec<u8>,
+    of_sources: Vec<u8>,
 }
 
 impl Model for Levels {
@@ -27,22 +32,32 @@ impl Model for Levels {
 
     ghost Value = { List Level };
 
-    ghost use Rattle.plant_config.specs.LevelsInside.{AreNoted};
+    ghost use Rattle.plant_config.specs.LevelsInside.{AreFound};
 
     ghost view = { λ levels. levels.levels.items };
 
-    ghost invariant = { λ levels. AreNoted levels.levels.items levels.places };
+    ghost invariant = { λ levels. AreFound levels.levels.items levels.places
+        levels.of_dests.items levels.of_sources.items };
 }
 
 impl Levels {
     /// These levels. Of two with one matrix and number the first is found.
-    pub(crate) fn of(levels: Vec<Level>) -> Levels
+    pub(crate) fn of(alloc: Global, levels: Vec<Level>) -> Result<Levels, AllocError>
         requires in_grid { All IsInGrid levels.items }
         requires few { length levels.items ≤ all_levels_limit }
-        ensures { result ≡ levels.items }
+        requires dests { AreNumbered dest_numbers all_destinations_limit levels.items }
+        requires sources { AreNumbered source_numbers all_sources_limit levels.items }
+        ensures { IfOk result (λ made. made ≡ levels.items) }
     {
         let places = noted(levels.as_slice());
-        Levels { levels, places }
+        let of_dests = of_dests(alloc, levels.as_slice())?;
+        let of_sources = of_sources(alloc, levels.as_slice())?;
+        Ok(Levels {
+            levels,
+            places,
+            of_dests,
+            of_sources,
+        })
     }
 
     /// Equal levels.
@@ -52,6 +67,8 @@ impl Levels {
         Ok(Levels {
             levels: self.levels.as_slice().to_vec(alloc)?,
             places: self.places,
+            of_dests: self.of_dests.as_slice().to_vec(alloc)?,
+            of_sources: self.of_sources.as_slice().to_vec(alloc)?,
         })
     }
 
@@ -73,6 +90,24 @@ impl Levels {
         } else {
             None
         }
+    }
+
+    /// The level that has this destination.
+    pub(crate) fn of_dest(&self, dest: DestId) -> Option<Level>
+        ensures { result ≡ find (has_number dest_numbers dest) self.now }
+    {
+        level_by(self.levels.as_slice(), self.of_dests.as_slice(), dest.get())
+    }
+
+    /// The level that has this source.
+    pub(crate) fn of_source(&self, source: SourceId) -> Option<Level>
+        ensures { result ≡ find (has_number source_numbers source) self.now }
+    {
+        level_by(
+            self.levels.as_slice(),
+            self.of_sources.as_slice(),
+            source.get(),
+        )
     }
 }
 
@@ -98,4 +133,49 @@ fn noted(levels: &[Level]) -> [Option<u8>; PLACES]
         places[place_of(level.matrix, level.level)] = Some(index as u8);
     }
     places
+}
+
+// The level whose index stands at a number.
+fn level_by(levels: &[Level], indices: &[u8], number: u32) -> Option<Level>
+    ensures { result ≡ level_by levels.now indices.now number }
+{
+    let index = *indices.get(number as usize)?;
+    levels.get(usize::from(index)).copied()
+}
+
+// Where in the list the level of each destination is.
+fn of_dests(alloc: Global, levels: &[Level]) -> Result<Vec<u8>, AllocError>
+    requires few { length levels.now ≤ all_levels_limit }
+    requires dests { AreNumbered dest_numbers all_destinations_limit levels.now }
+    ensures { IfOk result (λ made. LeadToLevels dest_numbers levels.now made.items) }
+{
+    let counts: Vec<u32> = levels
+        .iter()
+        .map(|level| level.destinations)
+        .collect(alloc)?;
+    indices(alloc, counts.as_slice())
+}
+
+// Where in the list the level of each source is.
+fn of_sources(alloc: Global, levels: &[Level]) -> Result<Vec<u8>, AllocError>
+    requires few { length levels.now ≤ all_levels_limit }
+    requires sources { AreNumbered source_numbers all_sources_limit levels.now }
+    ensures { IfOk result (λ made. LeadToLevels source_numbers levels.now made.items) }
+{
+    let counts: Vec<u32> = levels.iter().map(|level| level.sources).collect(alloc)?;
+    indices(alloc, counts.as_slice())
+}
+
+// The indices from 0 on, each as often as its count says. A byte has room for each: a plant has 256 levels at most.
+fn indices(alloc: Global, counts: &[u32]) -> Result<Vec<u8>, AllocError>
+    requires few { length counts.now ≤ all_levels_limit }
+    requires fits { sum counts.now < 2 ^ 32 }
+    ensures { IfOk result (λ made. made.items ≡ indices_from 0 counts.now) }
+{
+    let total: u32 = counts.iter().sum();
+    let mut indices = Vec::with_capacity(alloc, total as usize)?;
+    for (index, count) in counts.iter().enumerate() {
+        indices.resize(indices.len() + *count as usize, index as u8)?;
+    }
+    Ok(indices)
 }

@@ -69,7 +69,7 @@ fn with_levels(
         preview: parts::roots(alloc, levels, file.preview())?,
         displays: parts::displays(alloc, levels, file.displays())?,
         panels: parts::panels(alloc, file.panels())?,
-        levels: Levels::of(made),
+        levels: Levels::of(alloc, made)?,
     };
     Ok(Plant {
         parts: Box::new(alloc, parts)?,

@@ -78,7 +78,7 @@ impl Plant {
         let parts = Parts {
             title: Text::of(alloc, "Bench")?,
             server: Server::given(alloc)?,
-            levels: Levels::of([level].to_vec(alloc)?),
+            levels: Levels::of(alloc, [level].to_vec(alloc)?)?,
             sources: bench_sources(alloc)?,
             dest_names: bench_dest_names(alloc)?,
             pools: Vec::new(alloc),
@@ -133,8 +133,8 @@ impl Plant {
         self.parts.panels.as_slice()
     }
 
-    // The level of this matrix and this level number.
-    fn level_at(&self, matrix: u8, level: u8) -> Option<Level>
+    /// The level of this matrix and this level number. `None` where the plant has no such level.
+    pub fn level_at(&self, matrix: u8, level: u8) -> Option<Level>
         ensures at { result ≡ level_at self.now matrix level }
         ensures plant { IsPlant self.now }
     {
@@ -180,10 +180,7 @@ impl Plant {
         ensures found { result ≡ level_of dest_numbers self.now dest }
         ensures plant { IsPlant self.now }
     {
-        self.levels()
-            .iter()
-            .copied()
-            .find(|level| level.has_dest(dest))
+        self.parts.levels.of_dest(dest)
     }
 
     // The level that has this source.
@@ -191,10 +188,7 @@ impl Plant {
         ensures found { result ≡ level_of source_numbers self.now source }
         ensures plant { IsPlant self.now }
     {
-        self.levels()
-            .iter()
-            .copied()
-            .find(|level| level.has_source(source))
+        self.parts.levels.of_source(source)
     }
 
     /// The place of a destination.

@@ -1,7 +1,5 @@
 //! The parts of a plant.
 
-ghost use Rattle.std.specs.Prelude.{◌≡◌};
-
 use crate::numbers::{DestId, DeviceId, PoolId, SourceId};
 use plant_file::Name;
 
@@ -20,27 +18,6 @@ pub struct Level {
     pub first_dest: u32,
     /// 1 to 1024.
     pub destinations: u32,
-}
-
-impl Level {
-    ghost use Rattle.plant_config.specs.Plant.{dest_numbers, source_numbers};
-    ghost use Rattle.plant_config.specs.Sites.{has_number};
-
-    /// Whether this destination is of the level.
-    pub(crate) fn has_dest(&self, dest: DestId) -> bool
-        ensures { result ≡ has_number dest_numbers dest self.now }
-    {
-        let dest = dest.get();
-        self.first_dest <= dest && dest - self.first_dest < self.destinations
-    }
-
-    /// Whether this source is of the level.
-    pub(crate) fn has_source(&self, source: SourceId) -> bool
-        ensures { result ≡ has_number source_numbers source self.now }
-    {
-        let source = source.get();
-        self.first_source <= source && source - self.first_source < self.sources
-    }
 }
 
 /// A source: its name, and where its picture comes from.

@@ -40,6 +40,8 @@ fn bench_is_one_level_and_two_panels(rt: HostRuntime) -> Result<(), Fail> {
         master: true,
     };
     assert_eq!(rt; plant.levels(), [level].as_slice());
+    assert_eq!(rt; plant.level_at(0, 0), Some(level));
+    assert_eq!(rt; plant.level_at(0, 1), None);
     assert_eq!(rt; plant.panels(), [panel, master].as_slice());
     assert_eq!(rt; plant.destination_count(), 32);
     Ok(())
