@@ -96,7 +96,8 @@ impl Plant {
 
     /// An equal plant.
     pub fn copy(&self, alloc: Global) -> Result<Plant, AllocError>
-        ensures { IfOk result (λ plant. plant ≡ self.now) }
+        ensures equal { IfOk result (λ plant. plant ≡ self.now) }
+        ensures plant { IsPlant self.now }
     {
         let parts = Parts {
             title: self.parts.title.copy(alloc)?,
