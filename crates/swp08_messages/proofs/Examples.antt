@@ -1,19 +1,25 @@
 -- The definitions at worked DATA.
-use Rattle.std.proofs.Common.{◌≡◌, [], ◌∷◌, Some, None, refl, arith}
-use Rattle.swp08_messages.specs.declared.message.Message.TheVariants.{Interrogate, Connect, Tally, Connected, DumpAsk, SourceNameAsk, DestNamesAsk}
+use Rattle.std.proofs.Common.{◌≡◌, true, false, inl, inr, [], ◌∷◌, Some, None, refl, arith}
+use Rattle.swp08_messages.specs.declared.message.Message.TheVariants.{Interrogate, Connect, Tally, Connected, ProtectAsk, ProtectConnected, DumpAsk, SourceNameAsk, DestNamesAsk, Store, Go, GoDone, Entry}
+use Rattle.swp08_messages.specs.declared.go_status.GoStatus.TheVariants.{Protected}
+use Rattle.swp08_messages.specs.declared.validity.Validity.TheVariants.{Last}
+use Rattle.swp08_messages.specs.declared.point.Point.{Point}
 use Rattle.swp08_messages.specs.declared.fault.ReadFault.TheVariants.{WrongLength}
 use Rattle.swp08_messages.specs.Text.{text}
 use Rattle.swp08_messages.specs.Dump.{dump_text}
 use Rattle.swp08_messages.specs.Spelled.{Spells}
 use Rattle.swp08_messages.specs.Refused.{IsRefused}
 
-interrogates_5 : text (Interrogate (record { matrix = 0; level = 0; dest = 5 })) ≡ 1 ∷ 0 ∷ 0 ∷ 5 ∷ []
+abbrev five : Point
+five = record { matrix = 0; level = 0; dest = 5 }
+
+interrogates_5 : text (Interrogate five) ≡ 1 ∷ 0 ∷ 0 ∷ 5 ∷ []
 interrogates_5 = refl
 
-connects_5_to_3 : text (Connect (record { matrix = 0; level = 0; dest = 5 }) (Some 3)) ≡ 2 ∷ 0 ∷ 0 ∷ 5 ∷ 3 ∷ []
+connects_5_to_3 : text (Connect five (Some 3)) ≡ 2 ∷ 0 ∷ 0 ∷ 5 ∷ 3 ∷ []
 connects_5_to_3 = refl
 
-tells_5_parked : text (Tally (record { matrix = 0; level = 0; dest = 5 }) None) ≡ 3 ∷ 0 ∷ 7 ∷ 5 ∷ 127 ∷ []
+tells_5_parked : text (Tally five None) ≡ 3 ∷ 0 ∷ 7 ∷ 5 ∷ 127 ∷ []
 tells_5_parked = refl
 
 tells_1000_connected_to_300 : text (Connected (record { matrix = 14; level = 9; dest = 1000 }) (Some 300)) ≡ 4 ∷ 233 ∷ 114 ∷ 104 ∷ 44 ∷ []
@@ -34,16 +40,16 @@ names_in_another_way = record {
   in_range = (omega arith, (omega arith, tt));
   behind = 0x2F ∷ 1 ∷ [];
   parts = refl;
-  fields = (refl, (refl, tt));
+  fields = inl (refl, (refl, tt));
 }
 
 -- bits 3 and 7 of a multiplier aren't looked at, nor bits 0 to 2 of an interrogate's
-a_connect_in_another_way : Spells (2 ∷ 0 ∷ 0x88 ∷ 5 ∷ 3 ∷ []) (Connect (record { matrix = 0; level = 0; dest = 5 }) (Some 3))
+a_connect_in_another_way : Spells (2 ∷ 0 ∷ 0x88 ∷ 5 ∷ 3 ∷ []) (Connect five (Some 3))
 a_connect_in_another_way = record {
   in_range = ((omega arith, omega arith), ((omega arith, omega arith), (omega arith, (omega arith, tt))));
   behind = 0 ∷ 0x88 ∷ 5 ∷ 3 ∷ [];
   parts = refl;
-  fields = (refl, (refl, (refl, (refl, tt))));
+  fields = inl (refl, (refl, (refl, (refl, tt))));
 }
 
 an_interrogate_in_another_way : Spells (1 ∷ 0 ∷ 0xFF ∷ 5 ∷ []) (Interrogate (record { matrix = 0; level = 0; dest = 901 }))
@@ -51,8 +57,35 @@ an_interrogate_in_another_way = record {
   in_range = ((omega arith, omega arith), (omega arith, (omega arith, tt)));
   behind = 0 ∷ 0xFF ∷ 5 ∷ [];
   parts = refl;
-  fields = (refl, (refl, (refl, tt)));
+  fields = inl (refl, (refl, (refl, tt)));
 }
+
+asks_who_protects_5 : text (ProtectAsk five) ≡ 10 ∷ 0 ∷ 0 ∷ 5 ∷ []
+asks_who_protects_5 = refl
+
+-- a device may stand behind the destination, which isn't kept: neither its low part nor its part of the multiplier
+asks_who_protects_5_with_a_device : Spells (10 ∷ 0 ∷ 7 ∷ 5 ∷ 127 ∷ []) (ProtectAsk five)
+asks_who_protects_5_with_a_device = record {
+  in_range = ((omega arith, omega arith), (omega arith, (omega arith, tt)));
+  behind = 0 ∷ 7 ∷ 5 ∷ 127 ∷ [];
+  parts = refl;
+  fields = inr (refl, (refl, (refl, (refl, tt))));
+}
+
+tells_5_protected_by_1 : text (ProtectConnected five true 1) ≡ 13 ∷ 0 ∷ 1 ∷ 0 ∷ 5 ∷ 1 ∷ []
+tells_5_protected_by_1 = refl
+
+stores_4_in_salvo_7 : text (Store (record { matrix = 0; level = 0; dest = 4 }) (Some 3) 7) ≡ 0x78 ∷ 0 ∷ 0 ∷ 4 ∷ 3 ∷ 7 ∷ []
+stores_4_in_salvo_7 = refl
+
+sets_salvo_7 : text (Go false 7) ≡ 0x79 ∷ 0 ∷ 7 ∷ []
+sets_salvo_7 = refl
+
+tells_salvo_7_protected : text (GoDone Protected 7) ≡ 0x7B ∷ 3 ∷ 7 ∷ []
+tells_salvo_7_protected = refl
+
+tells_the_last_entry_of_salvo_7 : text (Entry (record { matrix = 0; level = 0; dest = 6 }) (Some 3) 7 2 Last) ≡ 0x7D ∷ 0 ∷ 0 ∷ 6 ∷ 3 ∷ 7 ∷ 2 ∷ 1 ∷ []
+tells_the_last_entry_of_salvo_7 = refl
 
 refuses_nothing : IsRefused [] (WrongLength 0 1)
 refuses_nothing = (refl, refl)

@@ -1,7 +1,10 @@
 pub mod FieldLemmas
+pub mod HeldLemmas
 pub mod SpelledLemmas
 pub mod LayoutLemmas
 pub mod NamesLemmas
+pub mod ProtectsLemmas
+pub mod SalvosLemmas
 pub mod ReadingLemmas
 pub mod SpellsLemmas
 pub mod DumpLemmas

@@ -1,20 +1,37 @@
 -- A message by the bytes as they come: which DATA spells it, and where it has the limits of every message of its command.
-use Rattle.std.proofs.Common.{◌≡◌, ◌≢◌, ℕ, suc, ◌+◌, cond, nat_eq, true, false, List, [], ◌∷◌, length, map, Option, Some, None, refl, sym, ap, ◌∙◌, subst, arith, eqb-true, MatchOption}
+use Rattle.std.proofs.Common.{◌≡◌, ◌≢◌, ℕ, suc, ◌+◌, cond, nat_eq, true, false, inl, inr, List, [], ◌∷◌, ◌++◌, length, map, slice_index, Option, Some, None, refl, sym, ap, ◌∙◌, subst, arith, eqb-true, MatchOption}
+use Rattle.std.proofs.Math.Decide.{ℕ_discrete}
 use Rattle.swp08_messages.specs.declared.field.Field.{Field}
+use Rattle.swp08_messages.specs.declared.field.Field.TheVariants.{SpareLow}
 use Rattle.swp08_messages.specs.declared.message.Message.{Message}
-use Rattle.swp08_messages.specs.declared.message.Message.TheVariants.{Interrogate, Connect, Tally, Connected, DumpAsk, SourceNamesAsk, SourceNameAsk, DestNamesAsk, DestNameAsk}
+use Rattle.swp08_messages.specs.declared.message.Message.TheVariants.{Interrogate, Connect, Tally, Connected, ProtectAsk, ProtectTally, ProtectConnect, ProtectConnected, ProtectDisconnect, ProtectDisconnected, DumpAsk, SourceNamesAsk, SourceNameAsk, DestNamesAsk, DestNameAsk, Store, Go, Stored, GoDone, EntryAsk, Entry}
 use Rattle.swp08_messages.specs.Field.{byte_of}
-use Rattle.swp08_messages.specs.Row.{row}
+use Rattle.swp08_messages.specs.Row.{destination, row}
 use Rattle.swp08_messages.specs.Text.{text, InRange}
 use Rattle.swp08_messages.specs.Spelled.{SpellFields, Spells}
-use Rattle.swp08_messages.specs.ReadingInside.{limit_of, point_in, source_in, matrix_in, level_in, size_in, wide_in, crosspoint_message, dump_message, names_message, first_of, message_of}
+use Rattle.swp08_messages.specs.ReadingInside.{limit_of, held_to, point_in, source_in, device_in, owned_in, told_point_in, told_device_in, matrix_in, level_in, size_in, wide_in, status_of, entry_in}
+use Rattle.swp08_messages.specs.ReadingInside.{crosspoint_message, protect_message, dump_message, names_message, salvo_message, first_of, message_of}
 use Rattle.swp08_messages.proofs.LayoutLemmas.{Below, SpellThem, destination-in, crosspoint-in, point_in-again, crosspoint-again}
 use Rattle.swp08_messages.proofs.NamesLemmas.{one_level-in, one_level-again, source_names-in, source_names-again, source_name-in, source_name-again, dest_names-in, dest_names-again, dest_name-in, dest_name-again}
+use Rattle.swp08_messages.proofs.ProtectsLemmas.{protect-in, protect-again, protect_told-in, protect_told-again, spare-in, spare-again}
+use Rattle.swp08_messages.proofs.SalvosLemmas.{stored-in, stored-again, entry-in, entry-again, go-in, go-again, go_done-in, go_done-again, entry_ask-in, entry_ask-again}
+use Rattle.swp08_messages.proofs.HeldLemmas.{held_to-fields, held_to-longer, held_to-plain}
 use Rattle.swp08_messages.proofs.SpelledLemmas.{Spells-text}
 
--- a message's limits, one for each byte behind its command
-abbrev pub limits_of : Message → List ℕ
-limits_of message = map limit_of (row message).fields
+-- a message's limits: one for each field, and one for each that may stand behind them
+pub record Limits : Type 0 where
+  pub of_fields : List ℕ
+  pub of_spare : List ℕ
+
+abbrev pub limits_of : Message → Limits
+limits_of message = record { of_fields = map limit_of (row message).fields; of_spare = map limit_of (row message).spare }
+
+-- the fields of a message that so many bytes behind its command are held to, and their limits
+abbrev pub held : Message → ℕ → List Field
+held message count = held_to (row message).fields (row message).spare count
+
+abbrev pub held_limits : Message → ℕ → List ℕ
+held_limits message count = map limit_of (held message count)
 
 -- For each message, one line in each of the lemmas below.
 
@@ -29,6 +46,18 @@ limits_of-message_of (SourceNamesAsk matrix level size) bytes = refl
 limits_of-message_of (SourceNameAsk matrix level size number) bytes = refl
 limits_of-message_of (DestNamesAsk matrix size) bytes = refl
 limits_of-message_of (DestNameAsk matrix size number) bytes = refl
+limits_of-message_of (ProtectAsk at) bytes = refl
+limits_of-message_of (ProtectTally at owned device) bytes = refl
+limits_of-message_of (ProtectConnect at device) bytes = refl
+limits_of-message_of (ProtectConnected at owned device) bytes = refl
+limits_of-message_of (ProtectDisconnect at device) bytes = refl
+limits_of-message_of (ProtectDisconnected at owned device) bytes = refl
+limits_of-message_of (Store at source salvo) bytes = refl
+limits_of-message_of (Go clear salvo) bytes = refl
+limits_of-message_of (Stored at source salvo) bytes = refl
+limits_of-message_of (GoDone status salvo) bytes = refl
+limits_of-message_of (EntryAsk salvo index) bytes = refl
+limits_of-message_of (Entry at source salvo index validity) bytes = refl
 
 -- a message's bytes give it back
 message_of-again : (message : Message) (bytes : List ℕ) → InRange message → SpellFields bytes (row message).fields → message_of (row message).command bytes ≡ Some message
@@ -44,18 +73,66 @@ message_of-again (SourceNameAsk matrix level size number) bytes room spell =
 message_of-again (DestNamesAsk matrix size) bytes room spell = let e = dest_names-again matrix size bytes room spell in rw (e.0, e.1) refl
 message_of-again (DestNameAsk matrix size number) bytes room spell =
     let e = dest_name-again matrix size number bytes room spell in rw (e.matrix_is, e.size_is, e.number_is) refl
+message_of-again (ProtectAsk at) bytes room spell = ap (λ p. Some (ProtectAsk p)) (point_in-again at bytes room spell)
+message_of-again (ProtectTally at owned device) bytes room spell =
+    let e = protect_told-again at owned device bytes room spell in rw (e.point, e.owned_is, e.device_is) refl
+message_of-again (ProtectConnect at device) bytes room spell = let e = protect-again at device bytes room spell in rw (e.point, e.device_is) refl
+message_of-again (ProtectConnected at owned device) bytes room spell =
+    let e = protect_told-again at owned device bytes room spell in rw (e.point, e.owned_is, e.device_is) refl
+message_of-again (ProtectDisconnect at device) bytes room spell = let e = protect-again at device bytes room spell in rw (e.point, e.device_is) refl
+message_of-again (ProtectDisconnected at owned device) bytes room spell =
+    let e = protect_told-again at owned device bytes room spell in rw (e.point, e.owned_is, e.device_is) refl
+message_of-again (Store at source salvo) bytes room spell =
+    let e = stored-again at source salvo bytes room spell in rw (e.0.point, e.0.source_is, e.1) refl
+message_of-again (Go clear salvo) bytes room spell = let e = go-again clear salvo bytes spell in rw (e.0, e.1) refl
+message_of-again (Stored at source salvo) bytes room spell =
+    let e = stored-again at source salvo bytes room spell in rw (e.0.point, e.0.source_is, e.1) refl
+message_of-again (GoDone status salvo) bytes room spell = let e = go_done-again status salvo bytes spell in rw (e.0, e.1) refl
+message_of-again (EntryAsk salvo index) bytes room spell = let e = entry_ask-again salvo index bytes spell in rw (e.0, e.1) refl
+message_of-again (Entry at source salvo index validity) bytes room spell =
+    let e = entry-again at source salvo index validity bytes room spell in
+    rw (e.carried.point, e.carried.source_is, e.salvo_is, e.index_is, e.validity_is) refl
+
+-- the same with what DATA may have behind them
+message_of-longer : (message : Message) (bytes : List ℕ) → InRange message → SpellFields bytes ((row message).fields ++ (row message).spare)
+    → message_of (row message).command bytes ≡ Some message
+message_of-longer (ProtectAsk at) bytes room spell = ap (λ p. Some (ProtectAsk p)) (spare-again at bytes room spell)
+message_of-longer message bytes room spell = message_of-again message bytes room spell
 
 -- what a message that was read by its command is
 pub record IsRead (command : ℕ) (bytes : List ℕ) (message : Message) : Type 0 where
   pub command_is : (row message).command ≡ command
-  pub spells : Below bytes (limits_of message) → Spells (command ∷ bytes) message
+  pub spells : Below bytes (held_limits message (length bytes)) → Spells (command ∷ bytes) message
 
-reads : (command : ℕ) (bytes : List ℕ) (message : Message) → (Below bytes (limits_of message) → SpellThem bytes (row message).fields)
+-- of a message with nothing to spare
+reads : (command : ℕ) (bytes : List ℕ) (message : Message) → (row message).spare ≡ []
+    → (Below bytes (map limit_of (row message).fields) → SpellThem bytes (row message).fields)
     → command ≡ (row message).command → IsRead command bytes message
-reads command bytes message spell is = record {
+reads command bytes message none spell is = record {
   command_is = sym is;
-  spells = λ below. record { in_range = (spell below).room; behind = bytes; parts = ap (λ c. c ∷ bytes) is; fields = (spell below).spelled };
+  spells = λ below.
+      let below_fields = subst (λ fields. Below bytes (map limit_of fields)) (held_to-plain (row message).fields (row message).spare (length bytes) none) below in
+      let spelled = spell below_fields in
+      record { in_range = spelled.room; behind = bytes; parts = ap (λ c. c ∷ bytes) is; fields = inl spelled.spelled };
 }
+
+-- of an interrogate of a protect
+reads_ask : (command : ℕ) (bytes : List ℕ) → command ≡ 10 → IsRead command bytes (ProtectAsk (point_in bytes))
+reads_ask command bytes is =
+    let fields = destination (point_in bytes) in
+    let parts : command ∷ bytes ≡ 10 ∷ bytes = ap (λ c. c ∷ bytes) is in
+    record {
+      command_is = sym is;
+      spells = λ below. elim (ℕ_discrete (length bytes) 3) [
+        | yes same ↦
+            let spelled = destination-in bytes (subst (λ fs. Below bytes (map limit_of fs)) (held_to-fields fields (SpareLow ∷ []) (length bytes) same) below) in
+            record { in_range = spelled.room; behind = bytes; parts = parts; fields = inl spelled.spelled }
+        | no other ↦
+            let spelled = spare-in bytes (subst (λ fs. Below bytes (map limit_of fs)) (held_to-longer fields (SpareLow ∷ []) (length bytes) other) below) in
+            let room = spelled.room in
+            record { in_range = (room.0, (room.1.0, (room.1.1.0, tt))); behind = bytes; parts = parts; fields = inr spelled.spelled }
+      ];
+    }
 
 -- by a command's number
 reads_at : (command number : ℕ) (bytes : List ℕ) (message here : Message) (there : Option Message)
@@ -71,24 +148,44 @@ reads_at command number bytes message here there is_here is_there =
 
 crosspoint_message-reads : (command : ℕ) (bytes : List ℕ) (message : Message) → crosspoint_message command bytes ≡ Some message → IsRead command bytes message
 crosspoint_message-reads command bytes message =
-    reads_at command 1 bytes message _ _ (reads command bytes (Interrogate (point_in bytes)) (destination-in bytes)) (
-    reads_at command 2 bytes message _ _ (reads command bytes (Connect (point_in bytes) (source_in bytes)) (crosspoint-in bytes)) (
-    reads_at command 3 bytes message _ _ (reads command bytes (Tally (point_in bytes) (source_in bytes)) (crosspoint-in bytes)) (
-    reads_at command 4 bytes message _ _ (reads command bytes (Connected (point_in bytes) (source_in bytes)) (crosspoint-in bytes)) (
+    reads_at command 1 bytes message _ _ (reads command bytes (Interrogate (point_in bytes)) refl (destination-in bytes)) (
+    reads_at command 2 bytes message _ _ (reads command bytes (Connect (point_in bytes) (source_in bytes)) refl (crosspoint-in bytes)) (
+    reads_at command 3 bytes message _ _ (reads command bytes (Tally (point_in bytes) (source_in bytes)) refl (crosspoint-in bytes)) (
+    reads_at command 4 bytes message _ _ (reads command bytes (Connected (point_in bytes) (source_in bytes)) refl (crosspoint-in bytes)) (
     λ none. absurd cc))))
+
+protect_message-reads : (command : ℕ) (bytes : List ℕ) (message : Message) → protect_message command bytes ≡ Some message → IsRead command bytes message
+protect_message-reads command bytes message =
+    reads_at command 10 bytes message _ _ (reads_ask command bytes) (
+    reads_at command 11 bytes message _ _ (reads command bytes (ProtectTally (told_point_in bytes) (owned_in bytes) (told_device_in bytes)) refl (protect_told-in bytes)) (
+    reads_at command 12 bytes message _ _ (reads command bytes (ProtectConnect (point_in bytes) (device_in bytes)) refl (protect-in bytes)) (
+    reads_at command 13 bytes message _ _ (reads command bytes (ProtectConnected (told_point_in bytes) (owned_in bytes) (told_device_in bytes)) refl (protect_told-in bytes)) (
+    reads_at command 14 bytes message _ _ (reads command bytes (ProtectDisconnect (point_in bytes) (device_in bytes)) refl (protect-in bytes)) (
+    reads_at command 15 bytes message _ _ (reads command bytes (ProtectDisconnected (told_point_in bytes) (owned_in bytes) (told_device_in bytes)) refl (protect_told-in bytes)) (
+    λ none. absurd cc))))))
 
 dump_message-reads : (command : ℕ) (bytes : List ℕ) (message : Message) → dump_message command bytes ≡ Some message → IsRead command bytes message
 dump_message-reads command bytes message =
-    reads_at command 21 bytes message _ _ (reads command bytes (DumpAsk (matrix_in bytes) (level_in bytes)) (one_level-in bytes)) (
+    reads_at command 21 bytes message _ _ (reads command bytes (DumpAsk (matrix_in bytes) (level_in bytes)) refl (one_level-in bytes)) (
     λ none. absurd cc)
 
 names_message-reads : (command : ℕ) (bytes : List ℕ) (message : Message) → names_message command bytes ≡ Some message → IsRead command bytes message
 names_message-reads command bytes message =
-    reads_at command 100 bytes message _ _ (reads command bytes (SourceNamesAsk (matrix_in bytes) (level_in bytes) (size_in bytes)) (source_names-in bytes)) (
-    reads_at command 101 bytes message _ _ (reads command bytes (SourceNameAsk (matrix_in bytes) (level_in bytes) (size_in bytes) (wide_in bytes)) (source_name-in bytes)) (
-    reads_at command 102 bytes message _ _ (reads command bytes (DestNamesAsk (matrix_in bytes) (size_in bytes)) (dest_names-in bytes)) (
-    reads_at command 103 bytes message _ _ (reads command bytes (DestNameAsk (matrix_in bytes) (size_in bytes) (wide_in bytes)) (dest_name-in bytes)) (
+    reads_at command 100 bytes message _ _ (reads command bytes (SourceNamesAsk (matrix_in bytes) (level_in bytes) (size_in bytes)) refl (source_names-in bytes)) (
+    reads_at command 101 bytes message _ _ (reads command bytes (SourceNameAsk (matrix_in bytes) (level_in bytes) (size_in bytes) (wide_in bytes)) refl (source_name-in bytes)) (
+    reads_at command 102 bytes message _ _ (reads command bytes (DestNamesAsk (matrix_in bytes) (size_in bytes)) refl (dest_names-in bytes)) (
+    reads_at command 103 bytes message _ _ (reads command bytes (DestNameAsk (matrix_in bytes) (size_in bytes) (wide_in bytes)) refl (dest_name-in bytes)) (
     λ none. absurd cc))))
+
+salvo_message-reads : (command : ℕ) (bytes : List ℕ) (message : Message) → salvo_message command bytes ≡ Some message → IsRead command bytes message
+salvo_message-reads command bytes message =
+    reads_at command 120 bytes message _ _ (reads command bytes (Store (point_in bytes) (source_in bytes) (slice_index bytes 4)) refl (stored-in bytes)) (
+    reads_at command 121 bytes message _ _ (reads command bytes (Go (nat_eq (slice_index bytes 0) 1) (slice_index bytes 1)) refl (go-in bytes)) (
+    reads_at command 122 bytes message _ _ (reads command bytes (Stored (point_in bytes) (source_in bytes) (slice_index bytes 4)) refl (stored-in bytes)) (
+    reads_at command 123 bytes message _ _ (reads command bytes (GoDone (status_of (slice_index bytes 0)) (slice_index bytes 1)) refl (go_done-in bytes)) (
+    reads_at command 124 bytes message _ _ (reads command bytes (EntryAsk (slice_index bytes 0) (slice_index bytes 1)) refl (entry_ask-in bytes)) (
+    reads_at command 125 bytes message _ _ (reads command bytes (entry_in bytes) refl (entry-in bytes)) (
+    λ none. absurd cc))))))
 
 -- by the first of two families that has the command
 first_of-reads : (command : ℕ) (bytes : List ℕ) (message : Message) (first others : Option Message)
@@ -101,7 +198,9 @@ first_of-reads command bytes message (Some m) others by_first by_others e = by_f
 pub message_of-reads : (command : ℕ) (bytes : List ℕ) (message : Message) → message_of command bytes ≡ Some message → IsRead command bytes message
 message_of-reads command bytes message =
     first_of-reads command bytes message _ _ (crosspoint_message-reads command bytes message) (
-    first_of-reads command bytes message _ _ (dump_message-reads command bytes message) (names_message-reads command bytes message))
+    first_of-reads command bytes message _ _ (protect_message-reads command bytes message) (
+    first_of-reads command bytes message _ _ (dump_message-reads command bytes message) (
+    first_of-reads command bytes message _ _ (names_message-reads command bytes message) (salvo_message-reads command bytes message))))
 
 -- Of which nothing is read is the command of no message.
 pub message_of-none : (command : ℕ) (bytes : List ℕ) → message_of command bytes ≡ None → (message : Message) → (row message).command ≢ command
@@ -115,7 +214,10 @@ message_of-Spells command bytes message spells =
     let command_is : command ≡ (row message).command = cc in
     let behind_is : bytes ≡ spells.behind = cc in
     ap (λ c. message_of c bytes) command_is ∙ ap (λ bs. message_of (row message).command bs) behind_is
-    ∙ message_of-again message spells.behind spells.in_range spells.fields
+    ∙ elim spells.fields [
+      | inl so ↦ message_of-again message spells.behind spells.in_range so
+      | inr so ↦ message_of-longer message spells.behind spells.in_range so
+    ]
 
 -- No DATA spells two messages.
 pub one_message : (bytes : List ℕ) (m n : Message) → Spells bytes m → Spells bytes n → m ≡ n
@@ -126,7 +228,7 @@ one_message bytes m n spells_m spells_n =
     let both : Some m ≡ Some n = sym is_m ∙ is_n in
     cc
 
--- Messages of one command have one list of limits.
+-- Messages of one command have the same limits.
 pub limits_of-command : (m n : Message) → (row m).command ≡ (row n).command → limits_of m ≡ limits_of n
 limits_of-command m n same =
     elim (message_of (row m).command []) as (λ o. MatchOption o ⊥ (λ k. limits_of k ≡ limits_of m) → MatchOption o ⊥ (λ k. limits_of k ≡ limits_of n) → limits_of m ≡ limits_of n) [
@@ -138,6 +240,28 @@ pub length-limits : (fields : List Field) → length (map limit_of fields) ≡ l
 length-limits [] = refl
 length-limits (field ∷ fields) = ap suc (length-limits fields)
 
+-- how many of such limits so many bytes are held to
+abbrev counted : Limits → ℕ → List ℕ
+counted limits count = cond (nat_eq count (length limits.of_fields)) limits.of_fields (limits.of_fields ++ limits.of_spare)
+
+map-append : (fields spare : List Field) → map limit_of (fields ++ spare) ≡ map limit_of fields ++ map limit_of spare
+map-append [] spare = refl
+map-append (field ∷ fields) spare = ap (λ limits. limit_of field ∷ limits) (map-append fields spare)
+
+held_limits-counted : (message : Message) (count : ℕ) → held_limits message count ≡ counted (limits_of message) count
+held_limits-counted message count =
+    let fields = (row message).fields in
+    let spare = (row message).spare in
+    rw (length-limits fields) (
+    elim (nat_eq count (length fields)) as (λ b. map limit_of (cond b fields (fields ++ spare)) ≡ cond b (map limit_of fields) (map limit_of fields ++ map limit_of spare)) [
+      | true ↦ refl
+      | false ↦ map-append fields spare
+    ])
+
+pub held_limits-command : (m n : Message) (count : ℕ) → (row m).command ≡ (row n).command → held_limits m count ≡ held_limits n count
+held_limits-command m n count same =
+    held_limits-counted m count ∙ ap (λ limits. counted limits count) (limits_of-command m n same) ∙ sym (held_limits-counted n count)
+
 length-bytes : (fields : List Field) → length (map byte_of fields) ≡ length fields
 length-bytes [] = refl
 length-bytes (field ∷ fields) = ap suc (length-bytes fields)
@@ -145,7 +269,7 @@ length-bytes (field ∷ fields) = ap suc (length-bytes fields)
 -- Texts of one command are of one length.
 pub length-text-command : (m n : Message) → (row m).command ≡ (row n).command → length (text m) ≡ length (text n)
 length-text-command m n same =
-    let limits = ap length (limits_of-command m n same) in
+    let limits = ap (λ (limits : Limits). length limits.of_fields) (limits_of-command m n same) in
     omega (arith, limits, length-limits (row m).fields, length-limits (row n).fields, length-bytes (row m).fields, length-bytes (row n).fields)
 
 pub length-text : (message : Message) → length (text message) ≡ 1 + length (row message).fields

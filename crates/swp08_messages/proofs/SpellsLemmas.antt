@@ -1,14 +1,14 @@
 -- DATA spells a message, or none, whatever its bytes.
-use Rattle.std.proofs.Common.{◌≡◌, ℕ, ◌⊎◌, inl, inr, List, [], ◌∷◌, length, Option, Some, None, refl, sym, ap, ◌∙◌, subst, arith}
+use Rattle.std.proofs.Common.{◌≡◌, ℕ, ◌⊎◌, inl, inr, List, [], ◌∷◌, ◌++◌, length, Option, Some, None, refl, sym, ap, ◌∙◌, subst, arith}
 use Rattle.std.specs.List.{AllByRecursion}
 use Rattle.std.proofs.Math.Decide.{dec_lt, ℕ_discrete}
 use Rattle.swp08_messages.specs.declared.field.Field.{Field}
-use Rattle.swp08_messages.specs.declared.field.Field.TheVariants.{MatrixLevel, Matrix, DestHigh, CrosspointHigh, DestLow, SourceLow, NameSize, NumberHigh, NumberLow}
+use Rattle.swp08_messages.specs.declared.field.Field.TheVariants.{MatrixLevel, Matrix, DestHigh, CrosspointHigh, DestLow, SourceLow, NameSize, NumberHigh, NumberLow, ProtectHigh, DeviceLow, SpareLow, Details, Salvo, Operation, Status, Index, EntryValidity}
 use Rattle.swp08_messages.specs.declared.message.Message.{Message}
 use Rattle.swp08_messages.specs.Field.{parked, IsSource, HasRoom}
 use Rattle.swp08_messages.specs.Row.{row}
 use Rattle.swp08_messages.specs.Text.{InRange}
-use Rattle.swp08_messages.specs.Spelled.{SpellFields, Spells}
+use Rattle.swp08_messages.specs.Spelled.{SpellFields, SpellRow, Spells}
 use Rattle.swp08_messages.specs.ReadingInside.{message_of}
 use Rattle.swp08_messages.proofs.ReadingLemmas.{message_of-reads, message_of-Spells}
 
@@ -17,6 +17,12 @@ both : {P Q : Type 0} → Dec P → Dec Q → Dec (P × Q)
 both (yes p) (yes q) = yes (p, q)
 both (yes p) (no not) = no (λ pq. not pq.1)
 both (no not) q = no (λ pq. not pq.0)
+
+-- One of two claims holds, or neither does.
+either : {P Q : Type 0} → Dec P → Dec Q → Dec (P ⊎ Q)
+either (yes p) q = yes (inl p)
+either (no not) (yes q) = yes (inr q)
+either (no not) (no neither) = no (λ pq. elim pq [ inl p ↦ not p | inr q ↦ neither q ])
 
 -- The values of a field are in their ranges, or not, and so those of fields.
 
@@ -34,6 +40,15 @@ has_room (SourceLow source) = source_in_range source
 has_room (NameSize size) = dec_lt _ _
 has_room (NumberHigh number) = dec_lt _ _
 has_room (NumberLow number) = dec_lt _ _
+has_room (ProtectHigh dest device) = both (dec_lt _ _) (dec_lt _ _)
+has_room (DeviceLow device) = dec_lt _ _
+has_room SpareLow = yes tt
+has_room (Details owned) = yes tt
+has_room (Salvo salvo) = dec_lt _ _
+has_room (Operation clear) = yes tt
+has_room (Status status) = yes tt
+has_room (Index index) = dec_lt _ _
+has_room (EntryValidity validity) = yes tt
 
 have_room : (fields : List Field) → Dec (AllByRecursion HasRoom fields)
 have_room [] = yes tt
@@ -46,13 +61,14 @@ spell [] (field ∷ fields) = no (λ so. so)
 spell (byte ∷ bytes) [] = no (λ so. so)
 spell (byte ∷ bytes) (field ∷ fields) = both (ℕ_discrete _ _) (spell bytes fields)
 
--- A message is in its ranges and these bytes are those of its fields.
+-- A message is in its ranges and these bytes are those of its row.
 abbrev IsSpelled : List ℕ → Message → Type 0
-IsSpelled bytes message = InRange message × SpellFields bytes (row message).fields
+IsSpelled bytes message = InRange message × SpellRow bytes (row message)
 
 -- It is so of a message, or not.
 spelled : (bytes : List ℕ) (message : Message) → Dec (IsSpelled bytes message)
-spelled bytes message = both (have_room (row message).fields) (spell bytes (row message).fields)
+spelled bytes message =
+    both (have_room (row message).fields) (either (spell bytes (row message).fields) (spell bytes ((row message).fields ++ (row message).spare)))
 
 -- DATA spells a message, or none.
 pub spells : (bytes : List ℕ) → ((message : Message) × Spells bytes message) ⊎ ((message : Message) → Spells bytes message → ⊥)
@@ -71,7 +87,7 @@ spells (command ∷ bytes) = by (message_of command bytes) refl where
         let one : other ≡ message = cc in
         let parts = so.parts in
         let behind_is : bytes ≡ so.behind = cc in
-        let Behind : List ℕ → Type 0 = λ bytes. SpellFields bytes (row other).fields in
+        let Behind : List ℕ → Type 0 = λ bytes. SpellRow bytes (row other) in
         let So : Message → Type 0 = λ message. IsSpelled bytes message in
         not (subst So one (so.in_range, subst Behind (sym behind_is) so.fields)))
   ]

@@ -1,7 +1,14 @@
 -- One byte behind a command: how it is written, what of it is looked at, and which values it has room for.
-use Rattle.std.specs.Prelude.{ℕ, ◌+◌, ◌*◌, ◌/◌, ◌%◌, ◌<◌, Option, Some, None}
+use Rattle.std.specs.Prelude.{ℕ, ◌+◌, ◌*◌, ◌/◌, ◌%◌, ◌<◌, Bool, if◌then◌else◌, Option, Some, None}
 use Rattle.swp08_messages.specs.declared.field.Field.{Field}
-use Rattle.swp08_messages.specs.declared.field.Field.TheVariants.{MatrixLevel, Matrix, DestHigh, CrosspointHigh, DestLow, SourceLow, NameSize, NumberHigh, NumberLow}
+use Rattle.swp08_messages.specs.declared.field.Field.TheVariants.{MatrixLevel, Matrix, DestHigh, CrosspointHigh}
+use Rattle.swp08_messages.specs.declared.field.Field.TheVariants.{DestLow, SourceLow, NameSize, NumberHigh, NumberLow}
+use Rattle.swp08_messages.specs.declared.field.Field.TheVariants.{ProtectHigh, DeviceLow, SpareLow, Details}
+use Rattle.swp08_messages.specs.declared.field.Field.TheVariants.{Salvo, Operation, Status, Index, EntryValidity}
+use Rattle.swp08_messages.specs.declared.go_status.GoStatus.{GoStatus}
+use Rattle.swp08_messages.specs.declared.go_status.GoStatus.TheVariants.{Made, Cleared, Empty, Protected, NoTie}
+use Rattle.swp08_messages.specs.declared.validity.Validity.{Validity}
+use Rattle.swp08_messages.specs.declared.validity.Validity.TheVariants.{More, Last, NoEntry}
 
 -- matrices, and the levels of each, are numbered from 0 and below this
 abbrev pub levels : ℕ
@@ -31,6 +38,18 @@ whole_part = 256
 abbrev pub wide_numbers : ℕ
 wide_numbers = 65536
 
+-- devices are numbered from 0 and below this
+abbrev pub devices : ℕ
+devices = 1024
+
+-- salvos are numbered from 0 and below this
+abbrev pub salvos : ℕ
+salvos = 128
+
+-- the places of a salvo are numbered from 0 and below this
+abbrev pub indexes : ℕ
+indexes = 256
+
 -- the number that stands for a source
 abbrev pub number_of : Option ℕ → ℕ
 number_of None = parked
@@ -40,6 +59,24 @@ number_of (Some source) = source
 abbrev pub IsSource : Option ℕ → Type 0
 IsSource None = Unit {0}
 IsSource (Some source) = source < parked
+
+-- the number that stands for a yes or a no
+abbrev pub flag : Bool → ℕ
+flag holds = if holds then 1 else 0
+
+-- the number that stands for what became of a salvo
+abbrev pub status_number : GoStatus → ℕ
+status_number Made = 0
+status_number Cleared = 1
+status_number Empty = 2
+status_number Protected = 3
+status_number NoTie = 4
+
+-- the number that stands for whether a salvo has an entry at a place, and more behind it
+abbrev pub validity_number : Validity → ℕ
+validity_number More = 0
+validity_number Last = 1
+validity_number NoEntry = 2
 
 -- a field's byte as it is written: bits that aren't looked at are 0
 abbrev pub byte_of : Field → ℕ
@@ -52,19 +89,38 @@ byte_of (SourceLow source) = number_of source % part
 byte_of (NameSize size) = size
 byte_of (NumberHigh number) = number / whole_part
 byte_of (NumberLow number) = number % whole_part
+byte_of (ProtectHigh dest device) = dest / part * 16 + device / part
+byte_of (DeviceLow device) = device % part
+byte_of SpareLow = 0
+byte_of (Details owned) = flag owned
+byte_of (Salvo salvo) = salvo
+byte_of (Operation clear) = flag clear
+byte_of (Status status) = status_number status
+byte_of (Index index) = index
+byte_of (EntryValidity validity) = validity_number validity
 
--- A byte with the bits made 0 that aren't looked at. Of a multiplier these are bits 3 and 7 and, of a destination alone,
--- bits 0 to 2. Of a matrix with no level they are the bits of a level, 0 to 3. Of any other byte all bits are looked at.
+-- A byte with the bits made 0 that aren't looked at. Of a multiplier these are bits 3 and 7 and, of a destination
+-- alone, bits 0 to 2. Of a matrix with no level they are the bits of a level, 0 to 3. Of a low part that isn't kept they
+-- are its bits, 0 to 6. Of any other byte all bits are looked at.
 abbrev pub looked_at : Field → ℕ → ℕ
 looked_at (DestHigh dest) byte = byte / 16 % 8 * 16
 looked_at (CrosspointHigh dest source) byte = byte / 16 % 8 * 16 + byte % 8
+looked_at (ProtectHigh dest device) byte = byte / 16 % 8 * 16 + byte % 8
 looked_at (Matrix matrix) byte = byte / 16 * 16
+looked_at SpareLow byte = byte / part * part
 looked_at (MatrixLevel matrix level) byte = byte
 looked_at (DestLow dest) byte = byte
 looked_at (SourceLow source) byte = byte
 looked_at (NameSize size) byte = byte
 looked_at (NumberHigh number) byte = byte
 looked_at (NumberLow number) byte = byte
+looked_at (DeviceLow device) byte = byte
+looked_at (Details owned) byte = byte
+looked_at (Salvo salvo) byte = byte
+looked_at (Operation clear) byte = byte
+looked_at (Status status) byte = byte
+looked_at (Index index) byte = byte
+looked_at (EntryValidity validity) byte = byte
 
 -- The values of a field are in their ranges.
 abbrev pub HasRoom : Field → Type 0
@@ -77,3 +133,12 @@ HasRoom (SourceLow source) = IsSource source
 HasRoom (NameSize size) = size < sizes
 HasRoom (NumberHigh number) = number < wide_numbers
 HasRoom (NumberLow number) = number < wide_numbers
+HasRoom (ProtectHigh dest device) = (dest < dests) × (device < devices)
+HasRoom (DeviceLow device) = device < devices
+HasRoom SpareLow = Unit {0}
+HasRoom (Details owned) = Unit {0}
+HasRoom (Salvo salvo) = salvo < salvos
+HasRoom (Operation clear) = Unit {0}
+HasRoom (Status status) = Unit {0}
+HasRoom (Index index) = index < indexes
+HasRoom (EntryValidity validity) = Unit {0}

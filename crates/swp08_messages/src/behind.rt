@@ -1,7 +1,10 @@
 //! What the bytes behind a command give as they come, a missing one taken as 0.
 
 ghost use Rattle.std.specs.Prelude.{◌≡◌, slice_index};
-ghost use Rattle.swp08_messages.specs.ReadingInside.{matrix_in, level_in};
+ghost use Rattle.swp08_messages.specs.ReadingInside.{matrix_in, level_in, point_of, second_of, source_in};
+
+use crate::field::PART;
+use crate::point::{PARKED, Point};
 
 /// The byte at a place, counted from 0 behind the command.
 pub(crate) fn byte_at(behind: &[u8], place: usize) -> u8
@@ -22,4 +25,32 @@ pub(crate) fn level_in(behind: &[u8]) -> u8
     ensures { result ≡ level_in behind.now }
 {
     byte_at(behind, 0) % 16
+}
+
+/// The destination by its matrix and level, bits 4 to 6 of the multiplier at `high`, and its low part at `low`.
+pub(crate) fn point_at(behind: &[u8], high: usize, low: usize) -> Point
+    ensures { let at = slice_index behind.now in result ≡ point_of (at 0) (at high) (at low) }
+{
+    let part = byte_at(behind, high) / 16 % 8;
+    Point {
+        matrix: matrix_in(behind),
+        level: level_in(behind),
+        dest: u16::from(part) * PART + u16::from(byte_at(behind, low)),
+    }
+}
+
+/// The source or the device by bits 0 to 2 of the multiplier at `high` and its low part at `low`.
+pub(crate) fn second_at(behind: &[u8], high: usize, low: usize) -> u16
+    ensures { let at = slice_index behind.now in result ≡ second_of (at high) (at low) }
+{
+    let part = byte_at(behind, high) % 8;
+    u16::from(part) * PART + u16::from(byte_at(behind, low))
+}
+
+/// The source at a destination.
+pub(crate) fn source_in(behind: &[u8]) -> Option<u16>
+    ensures { result ≡ source_in behind.now }
+{
+    let number = second_at(behind, 1, 3);
+    if number == PARKED { None } else { Some(number) }
 }

@@ -3,12 +3,12 @@
 
 ghost use Rattle.std.specs.Prelude.{◌≡◌};
 ghost use Rattle.swp08_messages.specs.Row.{destination, crosspoint};
-ghost use Rattle.swp08_messages.specs.ReadingInside.{crosspoint_message, point_in, source_in};
+ghost use Rattle.swp08_messages.specs.ReadingInside.{crosspoint_message};
 
-use crate::behind::{byte_at, level_in, matrix_in};
-use crate::field::{Field, PART};
+use crate::behind::{point_at, source_in};
+use crate::field::Field;
 use crate::message::Message;
-use crate::point::{PARKED, Point};
+use crate::point::Point;
 use crate::row::Fields;
 
 pub(crate) const INTERROGATE: u8 = 1;
@@ -47,7 +47,7 @@ pub(crate) fn crosspoint(at: Point, source: Option<u16>) -> Fields
 pub(crate) fn read(command: u8, behind: &[u8]) -> Option<Message>
     ensures { result ≡ crosspoint_message command behind.now }
 {
-    let at = point_in(behind);
+    let at = point_at(behind, 1, 2);
     let source = source_in(behind);
     match command {
         INTERROGATE => Some(Message::Interrogate { at }),
@@ -56,26 +56,4 @@ pub(crate) fn read(command: u8, behind: &[u8]) -> Option<Message>
         CONNECTED => Some(Message::Connected { at, source }),
         _ => None,
     }
-}
-
-// The destination by its matrix and level, bits 4 to 6 of the multiplier, and its low part.
-fn point_in(behind: &[u8]) -> Point
-    ensures { result ≡ point_in behind.now }
-{
-    let high = byte_at(behind, 1) / 16 % 8;
-    let low = byte_at(behind, 2);
-    Point {
-        matrix: matrix_in(behind),
-        level: level_in(behind),
-        dest: u16::from(high) * PART + u16::from(low),
-    }
-}
-
-// The source by bits 0 to 2 of the multiplier and its low part.
-fn source_in(behind: &[u8]) -> Option<u16>
-    ensures { result ≡ source_in behind.now }
-{
-    let high = byte_at(behind, 1) % 8;
-    let number = u16::from(high) * PART + u16::from(byte_at(behind, 3));
-    if number == PARKED { None } else { Some(number) }
 }

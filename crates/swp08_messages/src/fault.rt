@@ -9,12 +9,14 @@ pub enum ReadFault {
     /// No message has this command byte.
     #[error("command {0} is unknown")]
     UnknownCommand(u8),
-    /// So many bytes were found, and so many are wanted, the command being one of them. Of no bytes at all, 1 is wanted.
+    /// So many bytes were found, and so many are wanted, the command being one of them. Of no bytes at all, 1 is wanted,
+    /// and of an interrogate of a protect 4, though it may have 5.
     #[error("{0} bytes of DATA, where {1} are wanted")]
     WrongLength(usize, usize),
-    /// The byte at this place, counted from the command at 0, is no value of its field: the low part of a destination
-    /// or a source is above 127, or the size of a name is above 2. A matrix with its level, a multiplier and the number of
-    /// a name have no bad value.
+    /// The byte at this place, counted from the command at 0, is no value of its field: the low part of a destination,
+    /// a source or a device is above 127, or a salvo is; the size of a name is above 2, or the validity of an entry is; the
+    /// details of a protect are above 1, or the operation of a go is; the status of a go is above 4. A matrix with its
+    /// level, a multiplier, the number of a name and the index of an entry have no bad value.
     #[error("byte {1} at place {0} is no value of its field")]
     BadField(usize, u8),
 }

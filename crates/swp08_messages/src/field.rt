@@ -5,7 +5,9 @@ ghost use Rattle.swp08_messages.specs.declared.field.Field.TheVariants.{MatrixLe
 ghost use Rattle.swp08_messages.specs.Field.{byte_of, HasRoom, IsSource, number_of, levels, dests};
 ghost use Rattle.swp08_messages.specs.ReadingInside.{limit_of};
 
+use crate::go_status::GoStatus;
 use crate::point::{PARKED, is_source};
+use crate::validity::Validity;
 
 // Matrices, and the levels of each, are numbered below this.
 const LEVELS: u8 = 16;
@@ -15,6 +17,18 @@ const DESTS: u16 = 1024;
 
 // The sizes of a name are numbered below this.
 const SIZES: u8 = 3;
+
+// Devices are numbered below this.
+const DEVICES: u16 = 1024;
+
+// Salvos are numbered below this.
+const SALVOS: u8 = 128;
+
+// What may become of a salvo that is to go is numbered below this.
+const STATUSES: u16 = 5;
+
+// What may be said of an entry's place is numbered below this.
+const VALIDITIES: u16 = 3;
 
 /// The high part of a number is the number DIV this, its low part the number MOD this.
 pub(crate) const PART: u16 = 128;
@@ -45,6 +59,24 @@ pub(crate) enum Field {
     NumberHigh(u16),
     /// A number MOD 256.
     NumberLow(u16),
+    /// The multiplier of a destination, in bits 4 to 6, and a device, in bits 0 to 2. Bits 3 and 7 aren't looked at.
+    ProtectHigh(u16, u16),
+    /// The low part of a device.
+    DeviceLow(u16),
+    /// The low part of a device that isn't kept, so its seven bits aren't looked at.
+    SpareLow,
+    /// Whether a device protects a destination: 0 or 1.
+    Details(bool),
+    /// The number of a salvo: 0 to 127.
+    Salvo(u8),
+    /// What a salvo is to do: 0 to go, 1 to be cleared.
+    Operation(bool),
+    /// What became of a salvo: 0 to 4.
+    Status(GoStatus),
+    /// The place of an entry in a salvo.
+    Index(u8),
+    /// Whether a salvo has an entry at a place, and more behind it: 0 to 2.
+    EntryValidity(Validity),
 }
 
 impl Default for Field {
@@ -66,7 +98,12 @@ impl Field {
             Field::CrosspointHigh(dest, source) => dest < DESTS && is_source(source),
             Field::SourceLow(source) => is_source(source),
             Field::NameSize(size) => size < SIZES,
-            Field::NumberHigh(_) | Field::NumberLow(_) => true,
+            Field::NumberHigh(_) | Field::NumberLow(_) | Field::SpareLow => true,
+            Field::ProtectHigh(dest, device) => dest < DESTS && device < DEVICES,
+            Field::DeviceLow(device) => device < DEVICES,
+            Field::Salvo(salvo) => salvo < SALVOS,
+            Field::Details(_) | Field::Operation(_) | Field::Index(_) => true,
+            Field::Status(_) | Field::EntryValidity(_) => true,
         }
     }
 
@@ -85,11 +122,20 @@ impl Field {
             Field::NameSize(size) => size,
             Field::NumberHigh(number) => (number / WHOLE_PART) as u8,
             Field::NumberLow(number) => (number % WHOLE_PART) as u8,
+            Field::ProtectHigh(dest, device) => high_part(dest) * 16 + high_part(device),
+            Field::DeviceLow(device) => low_part(device),
+            Field::SpareLow => 0,
+            Field::Details(owned) => u8::from(owned),
+            Field::Salvo(salvo) => salvo,
+            Field::Operation(clear) => u8::from(clear),
+            Field::Status(status) => status.number(),
+            Field::Index(index) => index,
+            Field::EntryValidity(validity) => validity.number(),
         }
     }
 
-    /// The least number that is no value of the byte: a low part has seven bits, the size of a name is 0 to 2, any other
-    /// byte has all of its values.
+    /// The least number that is no value of the byte: a low part has seven bits, and what is counted ends with its count.
+    /// Any other byte has all of its values.
     pub(crate) fn limit(self) -> u16
         ensures { result ≡ limit_of self }
     {
@@ -99,6 +145,12 @@ impl Field {
             Field::DestLow(_) | Field::SourceLow(_) => PART,
             Field::NameSize(_) => u16::from(SIZES),
             Field::NumberHigh(_) | Field::NumberLow(_) => 256,
+            Field::ProtectHigh(..) | Field::Index(_) => 256,
+            Field::DeviceLow(_) | Field::SpareLow => PART,
+            Field::Salvo(_) => u16::from(SALVOS),
+            Field::Details(_) | Field::Operation(_) => 2,
+            Field::Status(_) => STATUSES,
+            Field::EntryValidity(_) => VALIDITIES,
         }
     }
 }

@@ -8,17 +8,24 @@ mod crosspoints;
 mod dump;
 mod fault;
 mod field;
+mod go_status;
 mod laws;
 mod message;
+mod message_row;
 mod names;
 mod point;
+mod protects;
 mod row;
+mod salvos;
+mod validity;
 
 pub use dump::write_dump;
 pub use fault::ReadFault;
+pub use go_status::GoStatus;
 pub use laws::{one_message, one_page, one_reading, text_bytes};
 pub use message::{Message, MessageKind};
 pub use point::{PARKED, Point};
+pub use validity::Validity;
 
 #[cfg(test)]
 mod example;

@@ -1,24 +1,20 @@
-//! The messages, each by its row, and what is done with every one of them.
+//! The messages, and what is done with every one of them by its row.
 
 ghost use Rattle.std.specs.Prelude.{◌≡◌, ◌+◌, ◌≤◌, ◌++◌, ◌↔◌, IsTrue, Ok, Err, Some, MatchResult, MatchOption, vec_len, vec_capacity};
 ghost use Rattle.swp08_messages.specs.declared.message.Message.{Message};
 ghost use Rattle.swp08_messages.specs.declared.fault.ReadFault.{ReadFault};
 ghost use Rattle.swp08_messages.specs.Row.{row};
-ghost use Rattle.swp08_messages.specs.Text.{text, InRange, kind_of};
+ghost use Rattle.swp08_messages.specs.Text.{text, InRange};
 ghost use Rattle.swp08_messages.specs.Spelled.{Spells};
 ghost use Rattle.swp08_messages.specs.Refused.{IsRefused};
 ghost use Rattle.swp08_messages.specs.Laws.{ReadsSpelled, ReadsRefused};
 ghost use Rattle.swp08_messages.specs.ReadingInside.{message_of};
 
-use crate::crosspoints::{self, CONNECT, CONNECTED, INTERROGATE, TALLY, crosspoint, destination};
-use crate::dump::{self, DUMP_ASK, one_level};
 use crate::fault::ReadFault;
-use crate::names::{
-    self, DEST_NAME_ASK, DEST_NAMES_ASK, SOURCE_NAME_ASK, SOURCE_NAMES_ASK, dest_name, dest_names,
-    source_name, source_names,
-};
+use crate::go_status::GoStatus;
 use crate::point::Point;
-use crate::row::{Fields, Row};
+use crate::validity::Validity;
+use crate::{crosspoints, dump, names, protects, salvos};
 
 /// A message of fixed length. Interrogate, connect, tally and connected have the number and the layout that the SW-P-08
 /// General Remote Control Protocol gives them, all others those of this project's profile. A matrix and a level are 0 to
@@ -43,6 +39,39 @@ pub enum Message {
     Connected {
         at: Point,
         source: Option<u16>,
+    },
+    /// Asks which device protects a destination. Its DATA may name a device behind the destination, which isn't kept.
+    ProtectAsk {
+        at: Point,
+    },
+    /// Tells whether a device protects a destination, and which. Where none does, the device is told as 0, but DATA that
+    /// says another one is read and written as it is.
+    ProtectTally {
+        at: Point,
+        owned: bool,
+        device: u16,
+    },
+    /// Asks that a destination be protected. The device, 0 to 1023, is what the panel calls itself.
+    ProtectConnect {
+        at: Point,
+        device: u16,
+    },
+    /// Tells that a destination is protected now, and by which device, as in a tally.
+    ProtectConnected {
+        at: Point,
+        owned: bool,
+        device: u16,
+    },
+    /// Asks that the protect of a destination be lifted.
+    ProtectDisconnect {
+        at: Point,
+        device: u16,
+    },
+    /// Tells that the protect of a destination was lifted, as in a tally.
+    ProtectDisconnected {
+        at: Point,
+        owned: bool,
+        device: u16,
     },
     /// Asks for the sources at all destinations of a level.
     DumpAsk {
@@ -73,6 +102,42 @@ pub enum Message {
         size: u8,
         number: u16,
     },
+    /// Asks that a salvo, 0 to 127, connect a destination to a source, or park it, when it goes.
+    Store {
+        at: Point,
+        source: Option<u16>,
+        salvo: u8,
+    },
+    /// Asks that all entries of a salvo be made at once, or that they be cleared and none be made.
+    Go {
+        clear: bool,
+        salvo: u8,
+    },
+    /// Tells that a salvo has this entry now.
+    Stored {
+        at: Point,
+        source: Option<u16>,
+        salvo: u8,
+    },
+    /// Tells what became of a salvo that was to go or to be cleared.
+    GoDone {
+        status: GoStatus,
+        salvo: u8,
+    },
+    /// Asks for an entry of a salvo, by its place from 0.
+    EntryAsk {
+        salvo: u8,
+        index: u8,
+    },
+    /// Tells the entry of a salvo at a place, and whether more follow. Where there is none, the destination and the source
+    /// are told as 0.
+    Entry {
+        at: Point,
+        source: Option<u16>,
+        salvo: u8,
+        index: u8,
+        validity: Validity,
+    },
 }
 
 /// What a message is for.
@@ -90,77 +155,6 @@ impl Message {
     /// The most bytes of a message's DATA.
     pub const MAX_LEN: usize = 8;
 
-    // The command of the message.
-    fn command(&self) -> u8
-        ensures { result ≡ (row self.now).command }
-    {
-        match self {
-            Message::Interrogate { .. } => INTERROGATE,
-            Message::Connect { .. } => CONNECT,
-            Message::Tally { .. } => TALLY,
-            Message::Connected { .. } => CONNECTED,
-            Message::DumpAsk { .. } => DUMP_ASK,
-            Message::SourceNamesAsk { .. } => SOURCE_NAMES_ASK,
-            Message::SourceNameAsk { .. } => SOURCE_NAME_ASK,
-            Message::DestNamesAsk { .. } => DEST_NAMES_ASK,
-            Message::DestNameAsk { .. } => DEST_NAME_ASK,
-        }
-    }
-
-    /// What the message is for.
-    pub fn kind(&self) -> MessageKind
-        ensures { result ≡ kind_of self.now }
-    {
-        match self {
-            Message::Interrogate { .. } | Message::Connect { .. } => MessageKind::Plant,
-            Message::DumpAsk { .. } => MessageKind::Plant,
-            Message::Tally { .. } | Message::Connected { .. } => MessageKind::Report,
-            Message::SourceNamesAsk { .. } | Message::SourceNameAsk { .. } => MessageKind::Names,
-            Message::DestNamesAsk { .. } | Message::DestNameAsk { .. } => MessageKind::Names,
-        }
-    }
-
-    // What the bytes behind the command say, in order.
-    fn fields(&self) -> Fields
-        ensures { result.items ≡ (row self.now).fields }
-    {
-        match *self {
-            Message::Interrogate { at } => destination(at),
-            Message::Connect { at, source } => crosspoint(at, source),
-            Message::Tally { at, source } => crosspoint(at, source),
-            Message::Connected { at, source } => crosspoint(at, source),
-            Message::DumpAsk { matrix, level } => one_level(matrix, level),
-            Message::SourceNamesAsk {
-                matrix,
-                level,
-                size,
-            } => source_names(matrix, level, size),
-            Message::SourceNameAsk {
-                matrix,
-                level,
-                size,
-                number,
-            } => source_name(matrix, level, size, number),
-            Message::DestNamesAsk { matrix, size } => dest_names(matrix, size),
-            Message::DestNameAsk {
-                matrix,
-                size,
-                number,
-            } => dest_name(matrix, size, number),
-        }
-    }
-
-    // The row of the message.
-    fn row(&self) -> Row
-        ensures command { result.command ≡ (row self.now).command }
-        ensures fields { result.fields.items ≡ (row self.now).fields }
-    {
-        Row {
-            command: self.command(),
-            fields: self.fields(),
-        }
-    }
-
     /// Whether each number of the message has room in its bytes.
     pub fn in_range(&self) -> bool
         ensures { IsTrue result ↔ InRange self.now }
@@ -169,8 +163,9 @@ impl Message {
     }
 
     /// The message that DATA spells, or the first fault. Bits 3 and 7 of the multiplier are not looked at, nor are bits 0
-    /// to 2 of an interrogate's, which has no second number, nor the bits of a level where names of destinations are asked
-    /// for: this is the project's profile.
+    /// to 2 of an interrogate's, of a crosspoint or of a protect, which has no second number, nor the bits of a level where
+    /// names of destinations are asked for. An interrogate of a protect may have one byte more, the low part of a device,
+    /// which is held to its range and isn't kept: this is the project's profile.
     pub fn read(bytes: &[u8]) -> Result<Message, ReadFault>
         ensures read { MatchResult result
             (λ message. Spells bytes.now message)
@@ -228,6 +223,8 @@ fn read_behind(command: u8, behind: &[u8]) -> Option<Message>
     ensures { result ≡ message_of command behind.now }
 {
     crosspoints::read(command, behind)
+        .or_else(|| protects::read(command, behind))
         .or_else(|| dump::read(command, behind))
         .or_else(|| names::read(command, behind))
+        .or_else(|| salvos::read(command, behind))
 }

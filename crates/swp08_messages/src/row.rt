@@ -1,10 +1,10 @@
 //! A message as a row of fields, from which it is written and by which DATA is refused.
 
-ghost use Rattle.std.specs.Prelude.{◌≡◌, ◌+◌, ◌≤◌, ◌∷◌, ◌++◌, ◌↔◌, IsTrue, map, vec_len, vec_capacity};
+ghost use Rattle.std.specs.Prelude.{◌≡◌, ◌+◌, ◌<◌, ◌≤◌, ◌^◌, ◌∷◌, ◌++◌, ◌↔◌, IsTrue, length, map, vec_len, vec_capacity};
 ghost use Rattle.std.specs.List.{AllByRecursion};
 ghost use Rattle.swp08_messages.specs.Field.{HasRoom, byte_of};
 ghost use Rattle.swp08_messages.specs.Text.{max_len};
-ghost use Rattle.swp08_messages.specs.ReadingInside.{fault_of};
+ghost use Rattle.swp08_messages.specs.ReadingInside.{first_bad, fault_of};
 
 use crate::fault::ReadFault;
 use crate::field::Field;
@@ -13,11 +13,13 @@ use arrayvec::ArrayVec;
 /// The fields behind a command, in order: one fewer than the most bytes of a message's DATA.
 pub(crate) type Fields = ArrayVec<Field, 7>;
 
-/// A message as it is written: its command, and what each byte behind the command says.
+/// A message as it is written: its command, and what each byte behind the command says. `spare` is what DATA may have
+/// behind these bytes, all of it or none.
 #[derive(Drop)]
 pub(crate) struct Row {
     pub(crate) command: u8,
     pub(crate) fields: Fields,
+    pub(crate) spare: Fields,
 }
 
 impl Row {
@@ -65,19 +67,36 @@ impl Row {
     }
 
     /// The first fault of the bytes behind a command: they are of another number than the fields, or the first that is no
-    /// value of its field.
+    /// value of its field. The spare fields count where there are bytes for them.
     pub(crate) fn fault(&self, behind: &[u8]) -> Option<ReadFault>
-        ensures { result ≡ fault_of self.now.fields.items behind.now }
+        ensures { result ≡ fault_of self.now.fields.items self.now.spare.items behind.now }
     {
         let fields = self.fields.as_slice();
-        if behind.len() != fields.len() {
+        let spare = self.spare.as_slice();
+        if behind.len() == fields.len() {
+            return first_bad(1, fields, behind);
+        }
+        if behind.len() != fields.len() + spare.len() {
             return Some(ReadFault::WrongLength(1 + behind.len(), 1 + fields.len()));
         }
-        for (place, byte) in behind.iter().enumerate() {
-            if u16::from(*byte) >= fields[place].limit() {
-                return Some(ReadFault::BadField(1 + place, *byte));
-            }
+        let (kept, more) = behind.split_at(fields.len());
+        match first_bad(1, fields, kept) {
+            None => first_bad(1 + fields.len(), spare, more),
+            fault => fault,
         }
-        None
     }
+}
+
+// The first of these bytes that is no value of its field, `first` being the place of the first byte.
+fn first_bad(first: usize, fields: &[Field], bytes: &[u8]) -> Option<ReadFault>
+    requires same { length bytes.now ≡ length fields.now }
+    requires places { first + length bytes.now < 2 ^ 64 }
+    ensures { result ≡ first_bad first fields.now bytes.now }
+{
+    for (place, byte) in bytes.iter().enumerate() {
+        if u16::from(*byte) >= fields[place].limit() {
+            return Some(ReadFault::BadField(first + place, *byte));
+        }
+    }
+    None
 }

@@ -1,9 +1,52 @@
 //! Worked DATA and what it says, the limits, and the texts of faults.
 
+mod protects;
+mod salvos;
+
 use super::*;
+use std::alloc::Global;
+use std::process::Abort;
 use std::test::Fail;
 
-fn point(matrix: u8, level: u8, dest: u16) -> Point {
+/// A message, what it is for, and its DATA.
+type Row<'a> = (Message, MessageKind, &'a [u8]);
+
+// Each message is written as its DATA, and read from it by both calls.
+fn stand_for_each_other(rt: &impl Abort, alloc: Global, rows: &[Row]) -> Result<(), Fail> {
+    for (message, kind, data) in rows {
+        assert!(rt; message.in_range());
+        let mut out = Vec::with_capacity(alloc, Message::MAX_LEN)?;
+        message.write(&mut out);
+        assert_eq!(rt; out.as_slice(), *data);
+        assert_eq!(rt; Message::read(data), Ok(*message));
+        assert_eq!(rt; Message::read_text(data), Some(*message));
+        assert_eq!(rt; message.kind(), *kind);
+    }
+    Ok(())
+}
+
+// The DATA is read as this message, or refused with this fault.
+fn are_read(rt: &impl Abort, rows: &[(&[u8], Result<Message, ReadFault>)]) {
+    for (data, wanted) in rows {
+        assert_eq!(rt; Message::read(data), *wanted, "of {data:?}");
+    }
+}
+
+// The DATA is no message's text, though it may spell one.
+fn are_no_texts(rt: &impl Abort, rows: &[&[u8]]) {
+    for data in rows {
+        assert_eq!(rt; Message::read_text(data), None, "of {data:?}");
+    }
+}
+
+// The message is in its ranges, or not.
+fn have_ranges(rt: &impl Abort, rows: &[(Message, bool)]) {
+    for (message, wanted) in rows {
+        assert_eq!(rt; message.in_range(), *wanted, "of {message:?}");
+    }
+}
+
+fn place(matrix: u8, level: u8, dest: u16) -> Point {
     Point {
         matrix,
         level,
@@ -63,21 +106,21 @@ fn dest_name_ask(matrix: u8, size: u8, number: u16) -> Message {
 #[test]
 fn writes_and_reads_back(rt: HostRuntime) -> Result<(), Fail> {
     use MessageKind::{Names, Plant, Report};
-    let five = point(0, 0, 5);
-    let last = point(15, 15, 1023);
+    let five = place(0, 0, 5);
+    let last = place(15, 15, 1023);
     let rows = [
         (interrogate(five), Plant, [1, 0, 0, 5].as_slice()),
         (connect(five, Some(3)), Plant, &[2, 0, 0, 5, 3]),
         (tally(five, None), Report, &[3, 0, 7, 5, 127]),
         (
-            connected(point(14, 9, 1000), Some(300)),
+            connected(place(14, 9, 1000), Some(300)),
             Report,
             &[4, 233, 114, 104, 44],
         ),
         // The numbers at their limits.
         (interrogate(last), Plant, &[1, 255, 0x70, 127]),
         (connect(last, Some(1022)), Plant, &[2, 255, 0x77, 127, 126]),
-        (tally(point(0, 0, 0), Some(0)), Report, &[3, 0, 0, 0, 0]),
+        (tally(place(0, 0, 0), Some(0)), Report, &[3, 0, 0, 0, 0]),
         (dump_ask(0, 1), Plant, &[21, 1]),
         (dump_ask(15, 14), Plant, &[21, 0xFE]),
         (source_names_ask(1, 2, 0), Names, &[100, 0x12, 0]),
@@ -85,31 +128,22 @@ fn writes_and_reads_back(rt: HostRuntime) -> Result<(), Fail> {
         (dest_names_ask(15, 2), Names, &[102, 0xF0, 2]),
         (dest_name_ask(3, 0, 65535), Names, &[103, 0x30, 0, 255, 255]),
     ];
-    for (message, kind, data) in rows {
-        assert!(rt; message.in_range());
-        let mut out = Vec::with_capacity(rt.alloc(), Message::MAX_LEN)?;
-        message.write(&mut out);
-        assert_eq!(rt; out.as_slice(), data);
-        assert_eq!(rt; Message::read(data), Ok(message));
-        assert_eq!(rt; Message::read_text(data), Some(message));
-        assert_eq!(rt; message.kind(), kind);
-    }
-    Ok(())
+    stand_for_each_other(&rt, rt.alloc(), &rows)
 }
 
 #[test]
 fn reads(rt: HostRuntime) {
     use ReadFault::{BadField, UnknownCommand, WrongLength};
-    let five = point(0, 0, 5);
+    let five = place(0, 0, 5);
     let rows = [
         (
             [1, 0xE0, 0, 11].as_slice(),
-            Ok(interrogate(point(14, 0, 11))),
+            Ok(interrogate(place(14, 0, 11))),
         ),
         // Bits 3 and 7 of the multiplier, and bits 0 to 2 of an interrogate's, are not looked at.
         (&[2, 0, 0x88, 5, 3], Ok(connect(five, Some(3)))),
-        (&[1, 0, 0x17, 5], Ok(interrogate(point(0, 0, 133)))),
-        (&[3, 0, 0xFF, 127, 127], Ok(tally(point(0, 0, 1023), None))),
+        (&[1, 0, 0x17, 5], Ok(interrogate(place(0, 0, 133)))),
+        (&[3, 0, 0xFF, 127, 127], Ok(tally(place(0, 0, 1023), None))),
         // The level of destinations that are asked for by their matrix is not looked at.
         (&[102, 0x2F, 1], Ok(dest_names_ask(2, 1))),
         (&[103, 0x29, 1, 0, 7], Ok(dest_name_ask(2, 1, 7))),
@@ -141,9 +175,7 @@ fn reads(rt: HostRuntime) {
         (&[102, 0, 255], Err(BadField(2, 255))),
         (&[103, 0, 4, 0, 0], Err(BadField(2, 4))),
     ];
-    for (data, wanted) in rows {
-        assert_eq!(rt; Message::read(data), wanted, "of {data:?}");
-    }
+    are_read(&rt, &rows);
 }
 
 #[test]
@@ -161,9 +193,7 @@ fn reads_texts_alone(rt: HostRuntime) {
         &[102, 1, 0],
         &[103, 0x1F, 0, 0, 0],
     ];
-    for data in rows {
-        assert_eq!(rt; Message::read_text(data), None, "of {data:?}");
-    }
+    are_no_texts(&rt, &rows);
 }
 
 #[test]
@@ -188,14 +218,14 @@ fn shows_faults(rt: HostRuntime) -> Result<(), Fail> {
 #[test]
 fn knows_ranges(rt: HostRuntime) {
     let rows = [
-        (connect(point(15, 15, 1023), Some(1022)), true),
-        (connect(point(15, 15, 1023), None), true),
-        (connect(point(0, 0, 1024), None), false),
-        (connect(point(0, 0, 0), Some(PARKED)), false),
-        (interrogate(point(15, 15, 1023)), true),
-        (interrogate(point(16, 0, 0)), false),
-        (interrogate(point(0, 16, 0)), false),
-        (interrogate(point(0, 0, 1024)), false),
+        (connect(place(15, 15, 1023), Some(1022)), true),
+        (connect(place(15, 15, 1023), None), true),
+        (connect(place(0, 0, 1024), None), false),
+        (connect(place(0, 0, 0), Some(PARKED)), false),
+        (interrogate(place(15, 15, 1023)), true),
+        (interrogate(place(16, 0, 0)), false),
+        (interrogate(place(0, 16, 0)), false),
+        (interrogate(place(0, 0, 1024)), false),
         (dump_ask(15, 15), true),
         (dump_ask(0, 16), false),
         (source_names_ask(15, 15, 2), true),
@@ -203,9 +233,7 @@ fn knows_ranges(rt: HostRuntime) {
         (dest_name_ask(15, 0, 65535), true),
         (dest_name_ask(16, 0, 0), false),
     ];
-    for (message, wanted) in rows {
-        assert_eq!(rt; message.in_range(), wanted, "of {message:?}");
-    }
+    have_ranges(&rt, &rows);
 }
 
 #[test]

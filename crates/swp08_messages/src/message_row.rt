@@ -1,0 +1,159 @@
+//! Each message's row: its command, what it is for, and what the bytes behind the command say.
+
+ghost use Rattle.std.specs.Prelude.{◌≡◌};
+ghost use Rattle.swp08_messages.specs.declared.message.MessageKind.TheVariants.{Names};
+ghost use Rattle.swp08_messages.specs.Row.{row};
+ghost use Rattle.swp08_messages.specs.Text.{kind_of};
+
+use crate::crosspoints::{CONNECT, CONNECTED, INTERROGATE, TALLY, crosspoint, destination};
+use crate::dump::{DUMP_ASK, one_level};
+use crate::field::Field;
+use crate::message::{Message, MessageKind};
+use crate::names::{
+    DEST_NAME_ASK, DEST_NAMES_ASK, SOURCE_NAME_ASK, SOURCE_NAMES_ASK, dest_name, dest_names,
+    source_name, source_names,
+};
+use crate::protects::{
+    PROTECT_ASK, PROTECT_CONNECT, PROTECT_CONNECTED, PROTECT_DISCONNECT, PROTECT_DISCONNECTED,
+    PROTECT_TALLY, protect, protect_told,
+};
+use crate::row::{Fields, Row};
+use crate::salvos::{
+    ENTRY, ENTRY_ASK, GO, GO_DONE, STORE, STORED, entry, entry_ask, go, go_done, stored,
+};
+
+impl Message {
+    /// The row of the message.
+    pub(crate) fn row(&self) -> Row
+        ensures command { result.command ≡ (row self.now).command }
+        ensures fields { result.fields.items ≡ (row self.now).fields }
+        ensures spare { result.spare.items ≡ (row self.now).spare }
+    {
+        Row {
+            command: self.command(),
+            fields: self.fields(),
+            spare: self.spare(),
+        }
+    }
+
+    // The command of the message.
+    fn command(&self) -> u8
+        ensures { result ≡ (row self.now).command }
+    {
+        match self {
+            Message::Interrogate { .. } => INTERROGATE,
+            Message::Connect { .. } => CONNECT,
+            Message::Tally { .. } => TALLY,
+            Message::Connected { .. } => CONNECTED,
+            Message::ProtectAsk { .. } => PROTECT_ASK,
+            Message::ProtectTally { .. } => PROTECT_TALLY,
+            Message::ProtectConnect { .. } => PROTECT_CONNECT,
+            Message::ProtectConnected { .. } => PROTECT_CONNECTED,
+            Message::ProtectDisconnect { .. } => PROTECT_DISCONNECT,
+            Message::ProtectDisconnected { .. } => PROTECT_DISCONNECTED,
+            Message::DumpAsk { .. } => DUMP_ASK,
+            Message::SourceNamesAsk { .. } => SOURCE_NAMES_ASK,
+            Message::SourceNameAsk { .. } => SOURCE_NAME_ASK,
+            Message::DestNamesAsk { .. } => DEST_NAMES_ASK,
+            Message::DestNameAsk { .. } => DEST_NAME_ASK,
+            Message::Store { .. } => STORE,
+            Message::Go { .. } => GO,
+            Message::Stored { .. } => STORED,
+            Message::GoDone { .. } => GO_DONE,
+            Message::EntryAsk { .. } => ENTRY_ASK,
+            Message::Entry { .. } => ENTRY,
+        }
+    }
+
+    /// What the message is for.
+    pub fn kind(&self) -> MessageKind
+        ensures { result ≡ kind_of self.now }
+    {
+        match self {
+            Message::Interrogate { .. } | Message::Connect { .. } => MessageKind::Plant,
+            Message::Tally { .. } | Message::Connected { .. } => MessageKind::Report,
+            Message::ProtectAsk { .. } | Message::ProtectConnect { .. } => MessageKind::Plant,
+            Message::ProtectDisconnect { .. } => MessageKind::Plant,
+            Message::ProtectTally { .. } => MessageKind::Report,
+            Message::ProtectConnected { .. } => MessageKind::Report,
+            Message::ProtectDisconnected { .. } => MessageKind::Report,
+            Message::DumpAsk { .. } => MessageKind::Plant,
+            Message::SourceNamesAsk { .. } | Message::SourceNameAsk { .. } => MessageKind::Names,
+            Message::DestNamesAsk { .. } | Message::DestNameAsk { .. } => MessageKind::Names,
+            Message::Store { .. } | Message::Go { .. } => MessageKind::Plant,
+            Message::EntryAsk { .. } => MessageKind::Plant,
+            Message::Stored { .. } | Message::GoDone { .. } => MessageKind::Report,
+            Message::Entry { .. } => MessageKind::Report,
+        }
+    }
+
+    // What the bytes behind the command say, in order.
+    fn fields(&self) -> Fields
+        ensures { result.items ≡ (row self.now).fields }
+    {
+        match *self {
+            Message::Interrogate { at } | Message::ProtectAsk { at } => destination(at),
+            Message::Connect { at, source } => crosspoint(at, source),
+            Message::Tally { at, source } => crosspoint(at, source),
+            Message::Connected { at, source } => crosspoint(at, source),
+            Message::ProtectTally { at, owned, device } => protect_told(at, owned, device),
+            Message::ProtectConnect { at, device } => protect(at, device),
+            Message::ProtectConnected { at, owned, device } => protect_told(at, owned, device),
+            Message::ProtectDisconnect { at, device } => protect(at, device),
+            Message::ProtectDisconnected { at, owned, device } => protect_told(at, owned, device),
+            Message::DumpAsk { matrix, level } => one_level(matrix, level),
+            Message::Store { at, source, salvo } => stored(at, source, salvo),
+            Message::Go { clear, salvo } => go(clear, salvo),
+            Message::Stored { at, source, salvo } => stored(at, source, salvo),
+            Message::GoDone { status, salvo } => go_done(status, salvo),
+            Message::EntryAsk { salvo, index } => entry_ask(salvo, index),
+            Message::Entry {
+                at,
+                source,
+                salvo,
+                index,
+                validity,
+            } => entry(at, source, salvo, index, validity),
+            Message::SourceNamesAsk { .. } | Message::SourceNameAsk { .. } => self.name_fields(),
+            Message::DestNamesAsk { .. } | Message::DestNameAsk { .. } => self.name_fields(),
+        }
+    }
+
+    // The same of a message that asks for names.
+    fn name_fields(&self) -> Fields
+        requires { kind_of self.now ≡ Names }
+        ensures { result.items ≡ (row self.now).fields }
+    {
+        match *self {
+            Message::SourceNamesAsk {
+                matrix,
+                level,
+                size,
+            } => source_names(matrix, level, size),
+            Message::SourceNameAsk {
+                matrix,
+                level,
+                size,
+                number,
+            } => source_name(matrix, level, size, number),
+            Message::DestNamesAsk { matrix, size } => dest_names(matrix, size),
+            Message::DestNameAsk {
+                matrix,
+                size,
+                number,
+            } => dest_name(matrix, size, number),
+            _ => unreachable!(),
+        }
+    }
+
+    // What DATA may have behind these, which is held to its range and isn't kept.
+    fn spare(&self) -> Fields
+        ensures { result.items ≡ (row self.now).spare }
+    {
+        let mut spare = Fields::new();
+        if let Message::ProtectAsk { .. } = self {
+            spare.push(Field::SpareLow);
+        }
+        spare
+    }
+}
