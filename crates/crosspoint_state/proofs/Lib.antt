@@ -1,0 +1,3 @@
+pub mod ChangeLists
+pub mod AppliedLemmas
+pub mod LawLemmas

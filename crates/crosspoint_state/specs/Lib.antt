@@ -1,0 +1,5 @@
+pub use Rattle.plant_config.specs.Limits
+pub use Rattle.number_map.specs.Table
+pub mod Crosspoints
+pub mod CrosspointsInside
+pub mod Laws
