@@ -1,13 +1,22 @@
--- How many answers there are, and that they can be spelled.
-use Rattle.std.proofs.Common.{◌≡◌, ℕ, ◌<◌, ◌≤◌, Bool, true, false, cond, List, [], ◌∷◌, length, All, Option, Some, None, max, refl, sym, subst, arith}
-use Rattle.std.specs.Prelude.{◌==◌, ◌&&◌, find}
-use Rattle.std.specs.List.{fold}
-use Rattle.std.specs.Option.{option_map, option_map_or, option_and_then, option_to_list}
+-- What is answered can be spelled.
+use Rattle.std.proofs.Common.{◌≡◌, ℕ, ◌<◌, ◌≤◌, Bool, true, false, cond, List, [], ◌∷◌, length, All, Option, Some, None, IfSome, max, refl, sym, subst, arith}
+use Rattle.std.specs.Prelude.{◌==◌, ◌&&◌, find, slice_get}
+use Rattle.std.specs.List.{fold, AllByRecursion}
+use Rattle.std.specs.Option.{option_map, option_map_or, option_and_then, unwrap_or}
 use Rattle.std.proofs.lemmas.List.FromFn.{length-map-range_with_len, get_or-map-range_with_len}
 use Rattle.std.proofs.lemmas.List.Elements.{All-nil, All-push, All-head, All-tail}
 use Rattle.swp08_messages.specs.declared.point.Point.{Point}
-use Rattle.swp08_messages.specs.declared.message.Message.TheVariants.{Interrogate, Connect, Tally, Connected, DumpAsk}
+use Rattle.swp08_messages.specs.declared.message.Message.{Message}
+use Rattle.swp08_messages.specs.declared.message.Message.TheVariants.{Interrogate, Connect, Tally, Connected, ProtectAsk, ProtectConnect, ProtectDisconnect, ProtectTally, ProtectConnected, ProtectDisconnected, DumpAsk, Store, Stored, Go, GoDone, EntryAsk, Entry}
+use Rattle.swp08_messages.specs.declared.go_status.GoStatus.TheVariants.{Made, Cleared, Empty, Protected}
+use Rattle.swp08_messages.specs.Field.{devices, salvos, indexes, HasRoom}
+use Rattle.swp08_messages.specs.Row.{protect_told}
 use Rattle.swp08_messages.specs.Text.{IsPoint, IsSource, InRange}
+use Rattle.std.specs.FinMap as finite
+use Rattle.plant_config.specs.Limits.{last_device}
+use Rattle.protects.specs.Owners.{allows, may_lift, taken, lifted}
+use Rattle.crosspoint_state.specs.Crosspoints.{source_of}
+use Rattle.salvo_groups.specs.Groups.{Group, group_of, may_store, with_store}
 use Rattle.plant_config.specs.declared.records.Point as places
 use Rattle.plant_config.specs.declared.records.Change.{Change}
 use Rattle.plant_config.specs.declared.records.Level.{Level}
@@ -23,92 +32,163 @@ use Rattle.plant_core.specs.declared.request.Request.{Request}
 use Rattle.plant_core.specs.declared.request.Request.TheVariants.{Told, Poll, Leave}
 use Rattle.plant_core.specs.declared.answer.Answer.{Answer}
 use Rattle.plant_core.specs.declared.answer.Answer.TheVariants.{Say}
-use Rattle.plant_core.specs.State.{State, IsValid, Fits, standing, source_of}
-use Rattle.plant_core.specs.Step.{step, connected, change_of, dest_count, dumped_at, message_place, told_at, notice_of}
+use Rattle.plant_core.specs.State.{State, IsValid, Fits, standing, owner_at, device_of, is_master}
+use Rattle.plant_core.specs.Connects.{says, says_nothing, change_of, are_permitted, changed, connected}
+use Rattle.plant_core.specs.Protecting.{owner_told, with_owners, protected, unprotected}
+use Rattle.plant_core.specs.Salvos.{stored_in, emptied, all_changed, taken_whole, cleared, message_place, no_place, told_place, entry_told, entry_answer}
+use Rattle.plant_core.specs.Step.{step, dest_of, dest_count, dumped_at, told_at, told_owner, notice_of}
+use Rattle.plant_core.proofs.Validity.{device-within}
+use Rattle.plant_core.proofs.CountLemmas.{room_within, dest_count_within}
 use Rattle.plant_core.specs.Answer.{IsSayable, IsAnswerCount, room_of}
 
--- no level has more destinations
-pub room_within : (plant : PlantData) → IsPlant plant → room_of plant ≤ 1024
-room_within plant is = go plant.levels 64 is.each_level (omega arith)
+-- a source has a number in its level that can be spelled, and so has each destination's place
+number-IsSource : (plant : PlantData) (source : Option ℕ) → IsPlant plant → IsSource (option_and_then (source_number_of plant) source)
+number-IsSource plant None is = tt
+number-IsSource plant (Some source) is = of_site (site_of source_numbers plant source) refl
   where
-    go : (levels : List Level) (most : ℕ) → All IsLevel levels → most ≤ 1024 → fold (λ most (level : Level). max most level.destinations) most levels ≤ 1024
-    go [] most all within = within
-    go (level ∷ levels) most all within =
-        go levels (max most level.destinations) (All-tail IsLevel level levels all) (omega (arith, within, (All-head IsLevel level levels all).destinations.most))
+    of_site : (site : Option Site) → site_of source_numbers plant source ≡ site → IsSource (option_map (λ (at : Site). at.number) site)
+    of_site None h = tt
+    of_site (Some site) h = (site_of-IsSite source_numbers plant (sources_are plant is) source site h).number
 
--- and there is room for as many answers as one has, and for 64
-grows : (levels : List Level) (most : ℕ) → most ≤ fold (λ most (level : Level). max most level.destinations) most levels
-grows [] most = omega arith
-grows (level ∷ levels) most = omega (arith, grows levels (max most level.destinations))
-
-pub room_some : (plant : PlantData) → 64 ≤ room_of plant
-room_some plant = grows plant.levels 64
-
-pub dest_count_within : (plant : PlantData) (matrix level : ℕ) → dest_count plant matrix level ≤ room_of plant
-dest_count_within plant matrix level = go plant.levels 64
-  where
-    is_it : Level → Bool
-    is_it at = at.matrix == matrix && at.level == level
-
-    go : (levels : List Level) (most : ℕ) → option_map_or (λ (at : Level). at.destinations) (find is_it levels) 0 ≤ fold (λ most (level : Level). max most level.destinations) most levels
-    go [] most = omega arith
-    go (first ∷ levels) most =
-        elim (is_it first) as (λ b. option_map_or (λ (at : Level). at.destinations) (cond b (Some first) (find is_it levels)) 0 ≤ fold (λ most (level : Level). max most level.destinations) (max most first.destinations) levels) [
-          | true ↦ omega (arith, grows levels (max most first.destinations))
-          | false ↦ go levels (max most first.destinations)
-        ]
-
--- a source that stands has a number that can be spelled, and so has each destination's place
 standing-IsSource : (state : State) (at : Point) → IsPlant state.plant → IsSource (standing state at)
 standing-IsSource state at is = of_dest (dest_at state.plant at.matrix at.level at.dest)
   where
-    of_site : (source : ℕ) (site : Option Site) → site_of source_numbers state.plant source ≡ site → IsSource (option_map (λ (at : Site). at.number) site)
-    of_site source None h = tt
-    of_site source (Some site) h = (site_of-IsSite source_numbers state.plant (sources_are state.plant is) source site h).number
-
-    of_source : (source : Option ℕ) → IsSource (option_and_then (source_number_of state.plant) source)
-    of_source None = tt
-    of_source (Some source) = of_site source (site_of source_numbers state.plant source) refl
-
     of_dest : (dest : Option ℕ) → IsSource (option_and_then (λ (dest : ℕ). option_and_then (source_number_of state.plant) (source_of state.crosspoints dest)) dest)
     of_dest None = tt
-    of_dest (Some dest) = of_source (source_of state.crosspoints dest)
+    of_dest (Some dest) = number-IsSource state.plant (source_of state.crosspoints dest) is
 
+told_place-IsPoint : (plant : PlantData) (dest : ℕ) → IsPlant plant → IsPoint (told_place plant dest)
+told_place-IsPoint plant dest is = of_site (site_of dest_numbers plant dest) refl
+  where
+    point : Site → places.Point
+    point site = record { matrix = site.matrix; level = site.level; dest = site.number }
+
+    of_site : (site : Option Site) → site_of dest_numbers plant dest ≡ site → IsPoint (unwrap_or (option_map message_place (option_map point site)) no_place)
+    of_site None h = record { matrix = omega arith; level = omega arith; dest = omega arith }
+    of_site (Some site) h =
+        let within = site_of-IsSite dest_numbers plant (dests_are plant is) dest site h in
+        record { matrix = within.matrix; level = within.level; dest = within.number }
+
+-- what is said of a crosspoint, and of an owner, is in its ranges
 InRange-crosspoint : (at : Point) (source : Option ℕ) → IsPoint at → IsSource source → InRange (Connected at source)
 InRange-crosspoint at source is of = ((is.matrix, is.level), ((is.dest, of), (is.dest, (of, tt))))
+
+InRange-told : (at : Point) (owned : Bool) (device : ℕ) → IsPoint at → device < devices → AllByRecursion HasRoom (protect_told at owned device)
+InRange-told at owned device is few = ((is.matrix, is.level), (tt, ((is.dest, few), (is.dest, (few, tt)))))
+
+abbrev IsOwner : Option ℕ → Type 0
+IsOwner owner = IfSome owner (λ device. device ≤ last_device)
+
+InRange-owner : (at : Point) (owner : Option ℕ) → IsPoint at → IsOwner owner → InRange (owner_told ProtectTally at owner)
+InRange-owner at None is of = InRange-told at false 0 is (omega arith)
+InRange-owner at (Some device) is of = InRange-told at true device is (omega (arith, of))
+
+sayable-owner : (at : Point) (owner : Option ℕ) → IsPoint at → IsOwner owner → IsSayable (told_owner at owner)
+sayable-owner at None is of = InRange-told at false 0 is (omega arith)
+sayable-owner at (Some device) is of = InRange-told at true device is (omega (arith, of))
+
+-- a destination's owner is a device that panels may have
+owner-of : (state : State) (dest : ℕ) → IsValid state → IsOwner (finite.get state.owners dest)
+owner-of state dest valid = go (finite.get state.owners dest) refl
+  where
+    go : (o : Option ℕ) → finite.get state.owners dest ≡ o → IsOwner o
+    go None h = tt
+    go (Some device) h = (valid.owners dest device h).1
+
+owner-at : (state : State) (at : Point) → IsValid state → IsOwner (owner_at state at)
+owner-at state at valid = go (dest_at state.plant at.matrix at.level at.dest)
+  where
+    go : (dest : Option ℕ) → IsOwner (option_and_then (finite.get state.owners) dest)
+    go None = tt
+    go (Some dest) = owner-of state dest valid
 
 All-one : (answer : Answer) → IsSayable answer → All IsSayable (answer ∷ [])
 All-one answer is = All-push IsSayable [] answer (All-nil IsSayable) is
 
-sayable-notice : (state : State) (notice : Option (ℕ × Sort)) → IsPlant state.plant → All IsSayable (notice_of state notice)
-sayable-notice state None is = All-nil IsSayable
-sayable-notice state (Some (dest, Protect)) is = All-nil IsSayable
-sayable-notice state (Some (dest, Source)) is = of_site (site_of dest_numbers state.plant dest) refl
-  where
-    place_of : Site → places.Point
-    place_of site = record { matrix = site.matrix; level = site.level; dest = site.number }
+sayable-notice : (state : State) (notice : Option (ℕ × Sort)) → IsValid state → All IsSayable (notice_of state notice)
+sayable-notice state None valid = All-nil IsSayable
+sayable-notice state (Some (dest, Source)) valid =
+    let at : Point = told_place state.plant dest in
+    All-one (told_at state at) (InRange-crosspoint at (standing state at) (told_place-IsPoint state.plant dest valid.is_plant) (standing-IsSource state at valid.is_plant))
+sayable-notice state (Some (dest, Protect)) valid =
+    All-one (told_owner (told_place state.plant dest) (finite.get state.owners dest))
+    (sayable-owner (told_place state.plant dest) (finite.get state.owners dest) (told_place-IsPoint state.plant dest valid.is_plant) (owner-of state dest valid))
 
-    of_site : (site : Option Site) → site_of dest_numbers state.plant dest ≡ site →
-        All IsSayable (option_to_list (option_map (λ (place : places.Point). told_at state (message_place place)) (option_map (λ (site : Site). let p : places.Point = record { matrix = site.matrix; level = site.level; dest = site.number } in p) site)))
-    of_site None h = All-nil IsSayable
-    of_site (Some site) h =
-        let within = site_of-IsSite dest_numbers state.plant (dests_are state.plant is) dest site h in
-        let at : Point = record { matrix = site.matrix; level = site.level; dest = site.number } in
-        All-one (told_at state at)
-        (InRange-crosspoint at (standing state at) (record { matrix = within.matrix; level = within.level; dest = within.number }) (standing-IsSource state at is))
+sayable-connected : (state : State) (panel : ℕ) (at : Point) (source : Option ℕ) (change : Option Change) → IsValid state → InRange (Connect at source) → All IsSayable (connected state panel at source change).answers
+sayable-connected state panel at source change valid fits = of_change change
+  where
+    tally : All IsSayable (Say (Tally at (standing state at)) ∷ [])
+    tally =
+        let point : IsPoint at = record { matrix = fits.0.0; level = fits.0.1; dest = fits.1.0.0 } in
+        All-one (Say (Tally at (standing state at))) (InRange-crosspoint at (standing state at) point (standing-IsSource state at valid.is_plant))
+
+    of_change : (change : Option Change) → All IsSayable (connected state panel at source change).answers
+    of_change None = tally
+    of_change (Some change) =
+        elim (are_permitted state.owners (device_of state.plant panel) (change ∷ [])) as (λ b. All IsSayable (cond b (says (changed state panel change) (Connected at source)) (says state (Tally at (standing state at)))).answers) [
+          | true ↦ All-one (Say (Connected at source)) fits
+          | false ↦ tally
+        ]
+
+sayable-protected : (state : State) (panel : ℕ) (at : Point) (dest : Option ℕ) → IsValid state → IsPoint at → All IsSayable (protected state panel at dest).answers
+sayable-protected state panel at None valid is = All-one (Say (owner_told ProtectTally at None)) (InRange-owner at None is tt)
+sayable-protected state panel at (Some dest) valid is =
+    let device : ℕ = device_of state.plant panel in
+    elim (allows state.owners device dest) as (λ b. All IsSayable (cond b (says (with_owners state panel dest (taken state.owners device dest)) (owner_told ProtectConnected at (Some device))) (says state (owner_told ProtectTally at (finite.get state.owners dest)))).answers) [
+      | true ↦ All-one (Say (owner_told ProtectConnected at (Some device))) (InRange-owner at (Some device) is (device-within state.plant panel valid.is_plant))
+      | false ↦ All-one (Say (owner_told ProtectTally at (finite.get state.owners dest))) (InRange-owner at (finite.get state.owners dest) is (owner-of state dest valid))
+    ]
+
+sayable-unprotected : (state : State) (panel : ℕ) (at : Point) (dest : Option ℕ) → IsValid state → IsPoint at → All IsSayable (unprotected state panel at dest).answers
+sayable-unprotected state panel at None valid is = All-one (Say (owner_told ProtectTally at None)) (InRange-owner at None is tt)
+sayable-unprotected state panel at (Some dest) valid is =
+    let device : ℕ = device_of state.plant panel in
+    let master : Bool = is_master state.plant panel in
+    elim (may_lift state.owners device master dest) as (λ b. All IsSayable (cond b (says (with_owners state panel dest (lifted state.owners device master dest)) (owner_told ProtectDisconnected at None)) (says state (owner_told ProtectTally at (finite.get state.owners dest)))).answers) [
+      | true ↦ All-one (Say (owner_told ProtectDisconnected at None)) (InRange-owner at None is tt)
+      | false ↦ All-one (Say (owner_told ProtectTally at (finite.get state.owners dest))) (InRange-owner at (finite.get state.owners dest) is (owner-of state dest valid))
+    ]
+
+sayable-stored : (state : State) (at : Point) (source : Option ℕ) (salvo : ℕ) (change : Option Change) → InRange (Stored at source salvo) → All IsSayable (stored_in state at source salvo change).answers
+sayable-stored state at source salvo None fits = All-nil IsSayable
+sayable-stored state at source salvo (Some change) fits =
+    elim (may_store (group_of state.groups salvo) change) as (λ b. All IsSayable (cond b (says (record state { groups = with_store state.groups salvo change }) (Stored at source salvo)) (says_nothing state)).answers) [
+      | true ↦ All-one (Say (Stored at source salvo)) fits
+      | false ↦ All-nil IsSayable
+    ]
+
+sayable-cleared : (state : State) (salvo : ℕ) (group : Group) → salvo < salvos → All IsSayable (cleared state salvo group).answers
+sayable-cleared state salvo [] few = All-one (Say (GoDone Empty salvo)) (tt, (few, tt))
+sayable-cleared state salvo (entry ∷ entries) few = All-one (Say (GoDone Cleared salvo)) (tt, (few, tt))
+
+sayable-whole : (state : State) (panel salvo : ℕ) (group : Group) → salvo < salvos → All IsSayable (taken_whole state panel salvo group).answers
+sayable-whole state panel salvo [] few = All-one (Say (GoDone Empty salvo)) (tt, (few, tt))
+sayable-whole state panel salvo (entry ∷ entries) few =
+    elim (are_permitted state.owners (device_of state.plant panel) (entry ∷ entries)) as (λ b. All IsSayable (cond b (says (emptied (all_changed state (entry ∷ entries)) salvo) (GoDone Made salvo)) (says state (GoDone Protected salvo))).answers) [
+      | true ↦ All-one (Say (GoDone Made salvo)) (tt, (few, tt))
+      | false ↦ All-one (Say (GoDone Protected salvo)) (tt, (few, tt))
+    ]
+
+sayable-entry : (plant : PlantData) (group : Group) (salvo index : ℕ) (entry : Option Change) → IsPlant plant → salvo < salvos → index < indexes → InRange (entry_told plant group salvo index entry)
+sayable-entry plant group salvo index None is few within =
+    ((omega arith, omega arith), ((omega arith, omega arith), (omega arith, (omega arith, (few, (within, (tt, tt)))))))
+sayable-entry plant group salvo index (Some entry) is few within =
+    let at = told_place-IsPoint plant entry.dest is in
+    let source = number-IsSource plant entry.source is in
+    ((at.matrix, at.level), ((at.dest, source), (at.dest, (source, (few, (within, (tt, tt)))))))
 
 pub All-sayable : (state : State) (request : Request) → IsValid state → Fits state request → All IsSayable (step state request).answers
 All-sayable state (Told panel item (Interrogate at)) valid fits =
     let point : IsPoint at = record { matrix = fits.1.1.0.0; level = fits.1.1.0.1; dest = fits.1.1.1.0 } in
     All-one (Say (Tally at (standing state at))) (InRange-crosspoint at (standing state at) point (standing-IsSource state at valid.is_plant))
-All-sayable state (Told panel item (Connect at source)) valid fits = of_change (change_of state.plant at source)
-  where
-    point : IsPoint at
-    point = record { matrix = fits.1.1.0.0; level = fits.1.1.0.1; dest = fits.1.1.1.0.0 }
-
-    of_change : (change : Option Change) → All IsSayable (connected state panel at source change).answers
-    of_change None = All-one (Say (Tally at (standing state at))) (InRange-crosspoint at (standing state at) point (standing-IsSource state at valid.is_plant))
-    of_change (Some change) = All-one (Say (Connected at source)) fits.1.1
+All-sayable state (Told panel item (Connect at source)) valid fits = sayable-connected state panel at source (change_of state.plant at source) valid fits.1.1
+All-sayable state (Told panel item (ProtectAsk at)) valid fits =
+    let point : IsPoint at = record { matrix = fits.1.1.0.0; level = fits.1.1.0.1; dest = fits.1.1.1.0 } in
+    All-one (Say (owner_told ProtectTally at (owner_at state at))) (InRange-owner at (owner_at state at) point (owner-at state at valid))
+All-sayable state (Told panel item (ProtectConnect at device)) valid fits =
+    sayable-protected state panel at (dest_of state at) valid (record { matrix = fits.1.1.0.0; level = fits.1.1.0.1; dest = fits.1.1.1.0.0 })
+All-sayable state (Told panel item (ProtectDisconnect at device)) valid fits =
+    sayable-unprotected state panel at (dest_of state at) valid (record { matrix = fits.1.1.0.0; level = fits.1.1.0.1; dest = fits.1.1.1.0.0 })
 All-sayable state (Told panel item (DumpAsk matrix level)) valid fits =
     let told : ℕ → Answer = λ dest. dumped_at state (record { matrix = matrix; level = level; dest = dest }) in
     λ k other below.
@@ -118,32 +198,11 @@ All-sayable state (Told panel item (DumpAsk matrix level)) valid fits =
     let point : IsPoint at = record { matrix = fits.1.1.0.0; level = fits.1.1.0.1; dest = dest } in
     subst IsSayable (sym (get_or-map-range_with_len told 0 (dest_count state.plant matrix level) k k other within (omega arith)))
     (point, standing-IsSource state at valid.is_plant)
+All-sayable state (Told panel item (Store at source salvo)) valid fits = sayable-stored state at source salvo (change_of state.plant at source) fits.1.1
+All-sayable state (Told panel item (Go true salvo)) valid fits = sayable-cleared state salvo (group_of state.groups salvo) fits.1.1.1.0
+All-sayable state (Told panel item (Go false salvo)) valid fits = sayable-whole state panel salvo (group_of state.groups salvo) fits.1.1.1.0
+All-sayable state (Told panel item (EntryAsk salvo index)) valid fits =
+    All-one (Say (entry_answer state salvo index)) (sayable-entry state.plant (group_of state.groups salvo) salvo index (slice_get (group_of state.groups salvo) index) valid.is_plant fits.1.1.0 fits.1.1.1.0)
 All-sayable state (Told panel item message) valid fits = All-nil IsSayable
-All-sayable state (Poll panel item turn) valid fits = sayable-notice state (next (board_of state.boards panel)) valid.is_plant
+All-sayable state (Poll panel item turn) valid fits = sayable-notice state (next (board_of state.boards panel)) valid
 All-sayable state (Leave panel) valid fits = All-nil IsSayable
-
-connected-one : (state : State) (panel : ℕ) (at : Point) (source : Option ℕ) (change : Option Change) → length (connected state panel at source change).answers ≡ 1
-connected-one state panel at source None = refl
-connected-one state panel at source (Some change) = refl
-
-few-notices : (state : State) (notice : Option (ℕ × Sort)) → length (notice_of state notice) ≤ 1
-few-notices state None = omega arith
-few-notices state (Some (dest, Protect)) = omega arith
-few-notices state (Some (dest, Source)) =
-    elim (point_of state.plant dest) as (λ o. length (option_to_list (option_map (λ (place : places.Point). told_at state (message_place place)) o)) ≤ 1) [ None ↦ omega arith | Some place ↦ omega arith ]
-
-pub answer_count : (state : State) (request : Request) → Fits state request → IsAnswerCount state.plant request (length (step state request).answers)
-answer_count state (Told panel item (Interrogate at)) fits = refl
-answer_count state (Told panel item (Connect at source)) fits = connected-one state panel at source (change_of state.plant at source)
-answer_count state (Told panel item (DumpAsk matrix level)) fits =
-    length-map-range_with_len (λ dest. dumped_at state (record { matrix = matrix; level = level; dest = dest })) 0 (dest_count state.plant matrix level)
-answer_count state (Told panel item message) fits = let not = fits.1.0 in absurd cc
-answer_count state (Poll panel item turn) fits = few-notices state (next (board_of state.boards panel))
-answer_count state (Leave panel) fits = refl
-
--- there is room for the answers to any event
-pub answers_within : (plant : PlantData) (request : Request) (count : ℕ) → IsAnswerCount plant request count → count ≤ room_of plant
-answers_within plant (Told panel item (DumpAsk matrix level)) count is = omega (arith, is, dest_count_within plant matrix level)
-answers_within plant (Told panel item message) count is = omega (arith, is, room_some plant)
-answers_within plant (Poll panel item turn) count is = omega (arith, is, room_some plant)
-answers_within plant (Leave panel) count is = omega arith

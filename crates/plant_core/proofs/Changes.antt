@@ -1,25 +1,64 @@
--- What a list of one change makes of the crosspoints.
-use Rattle.std.proofs.Common.{◌≡◌, ◌≢◌, ℕ, nat_eq, true, false, not, Bool, cond, [], ◌∷◌, Option, Some, None, refl, sym, ap, ◌∙◌}
-use Rattle.std.specs.Option.{option_map, option_eq}
+-- Which changes are permitted, and what they change.
+use Rattle.std.proofs.Common.{◌≡◌, ◌≢◌, ◌⊎◌, ℕ, ◌<◌, nat_eq, true, false, not, Bool, cond, List, [], ◌∷◌, ◌&&◌, ◌||◌, map, filter, length, get_or, All, Option, Some, None, IfSome, suc, inl, inr, refl, sym, ap, subst, ◌∙◌, arith}
+use Rattle.std.specs.Prelude.{◌==◌}
+use Rattle.std.specs.List.{list_any, list_all, Any}
+use Rattle.std.specs.Option.{option_map, option_map_or, option_eq}
 use Rattle.std.specs.Ordering.{nat_cmp, eq_by_cmp}
 use Rattle.std.specs.Cmp.{nat_cmp_total, unsigned_tied}
 use Rattle.std.specs.FinMap as finite
-use Rattle.std.proofs.lemmas.Bool.{eqb-true, eq-eqb, ne_eqb}
+use Rattle.std.proofs.lemmas.Bool.{cases_eq, eqb-true, eq-eqb, ne_eqb, both_ways, and_parts, or_parts}
+use Rattle.std.proofs.lemmas.List.{get_or_default}
+use Rattle.std.proofs.lemmas.List.Elements.{All-nil, All-cons, All-map, All-filter}
+use Rattle.std.proofs.lemmas.List.Folds.{list_all_at, list_any_at, Any-from_list_any}
 use Rattle.plant_config.specs.declared.records.Change.{Change}
-use Rattle.plant_core.specs.State.{State, Spot, Crosspoints, source_of, is_idle, released, given, all_given, applied}
-use Rattle.plant_core.specs.Step.{noticed, changed}
-use Rattle.plant_core.specs.RowsInside.{written}
-use Rattle.plant_core.proofs.Validity.{source_of-spot}
+use Rattle.crosspoint_state.specs.Crosspoints.{Crosspoints, source_of, is_idle, released, given, all_given, applied, NamesOnce}
+use Rattle.crosspoint_state.specs.declared.spot.Spot.{Spot}
+use Rattle.std.proofs.lemmas.Map.Keys.{IsDistinct-cons}
+use Rattle.crosspoint_state.proofs.ChangeLists.{NamesOnce-nil}
+use Rattle.crosspoint_state.proofs.LawLemmas.{ChangesAreMade-applied}
+use Rattle.protects.specs.Owners.{Owners, allows, IsForeign}
+use Rattle.plant_core.specs.Connects.{are_permitted}
+use Rattle.plant_core.specs.Salvos.{moved}
+use Rattle.plant_core.proofs.Noticed.{is_among}
 
--- no destination has a tie
-abbrev pub NoTies : Crosspoints → Type 0
-NoTies crosspoints = (dest : ℕ) (spot : Spot) → finite.get crosspoints dest ≡ Some spot → spot.tie ≡ None
+tied_other : (q dest : ℕ) → q ≢ dest → eq_by_cmp nat_cmp q dest ≡ false
+tied_other q dest other = unsigned_tied q dest ∙ ne_eqb q dest other
 
--- one change is idle, or its destination is released and given its source
-one : (crosspoints : Crosspoints) (change : Change) →
-    applied crosspoints (change ∷ []) ≡ cond (is_idle crosspoints change) crosspoints (given (finite.remove crosspoints change.dest) change.dest change.source)
-one crosspoints change =
-    elim (is_idle crosspoints change) as (λ b. all_given (released crosspoints (cond (not b) (change ∷ []) [])) (cond (not b) (change ∷ []) []) ≡ cond b crosspoints (given (finite.remove crosspoints change.dest) change.dest change.source)) [ true ↦ refl | false ↦ refl ]
+-- a destination that no change names carries what it carried
+module _ (q : ℕ) where
+  abbrev Apart : Change → Type 0
+  Apart change = change.dest ≢ q
+
+  released-other : (changes : List Change) (crosspoints : Crosspoints) → All Apart changes → finite.get (released crosspoints changes) q ≡ finite.get crosspoints q
+  released-other [] crosspoints apart = refl
+  released-other (change ∷ changes) crosspoints apart =
+      released-other changes (finite.remove crosspoints change.dest) (λ k d below. apart (suc k) d (omega arith))
+      ∙ finite.get-remove nat_cmp_total crosspoints change.dest q
+      ∙ ap (λ b. cond b None (finite.get crosspoints q)) (tied_other q change.dest (λ same. apart 0 change (omega arith) (sym same)))
+
+  given-other : (crosspoints : Crosspoints) (dest : ℕ) (source : Option ℕ) → dest ≢ q → finite.get (given crosspoints dest source) q ≡ finite.get crosspoints q
+  given-other crosspoints dest None apart = refl
+  given-other crosspoints dest (Some source) apart =
+      let spot : Spot = record { source = source; tie = None } in
+      finite.get-insert nat_cmp_total crosspoints dest spot q ∙ ap (λ b. cond b (Some spot) (finite.get crosspoints q)) (tied_other q dest (λ same. apart (sym same)))
+
+  all_given-other : (changes : List Change) (crosspoints : Crosspoints) → All Apart changes → finite.get (all_given crosspoints changes) q ≡ finite.get crosspoints q
+  all_given-other [] crosspoints apart = refl
+  all_given-other (change ∷ changes) crosspoints apart =
+      all_given-other changes (given crosspoints change.dest change.source) (λ k d below. apart (suc k) d (omega arith))
+      ∙ given-other crosspoints change.dest change.source (apart 0 change (omega arith))
+
+  pub get-applied_other : (crosspoints : Crosspoints) (changes : List Change) → All Apart changes → finite.get (applied crosspoints changes) q ≡ finite.get crosspoints q
+  get-applied_other crosspoints changes apart =
+      let busy : List Change = filter (λ (change : Change). not (is_idle crosspoints change)) changes in
+      let apart_then : All Apart busy = All-filter _ Apart changes apart in
+      all_given-other busy (released crosspoints busy) apart_then ∙ released-other busy crosspoints apart_then
+
+-- each destination that a change names carries its source
+pub source_of-applied : (crosspoints : Crosspoints) (changes : List Change) → NamesOnce changes → All (λ change. source_of (applied crosspoints changes) change.dest ≡ change.source) changes
+source_of-applied crosspoints changes once k d below =
+    let change : Change = get_or changes k d in
+    ChangesAreMade-applied crosspoints changes once change (k, below, get_or_default changes k change d below)
 
 pub same_source : (a b : Option ℕ) → option_eq nat_eq a b ≡ true → a ≡ b
 same_source None None h = refl
@@ -27,87 +66,167 @@ same_source None (Some y) h = cc
 same_source (Some x) None h = cc
 same_source (Some x) (Some y) h = ap Some (eqb-true x y h)
 
--- two ways to look at a destination twice
-hidden : {X : Type 0} (b : Bool) (x y : Option X) → cond b x (cond b None y) ≡ cond b x y
-hidden true x y = refl
-hidden false x y = refl
+pub source_same : (a : Option ℕ) → option_eq nat_eq a a ≡ true
+source_same None = refl
+source_same (Some x) = eq-eqb x x refl
 
-given-removed : (crosspoints : Crosspoints) (dest : ℕ) (source : Option ℕ) → given (finite.remove crosspoints dest) dest source ≡ written crosspoints dest source
-given-removed crosspoints dest None = refl
-given-removed crosspoints dest (Some source) = finite.same_map nat_cmp_total finite.nat_cmp-IsAntisymmetric _ _ (λ q.
-    let spot : Spot = record { source = source; tie = None } in
-    finite.get-insert nat_cmp_total (finite.remove crosspoints dest) dest spot q
-    ∙ ap (cond (eq_by_cmp nat_cmp q dest) (Some spot)) (finite.get-remove nat_cmp_total crosspoints dest q)
-    ∙ hidden (eq_by_cmp nat_cmp q dest) (Some spot) (finite.get crosspoints q)
-    ∙ sym (finite.get-insert nat_cmp_total crosspoints dest spot q))
-
--- what is written where it stands already changes nothing
-at_once : (crosspoints : Crosspoints) (dest : ℕ) (stands : Option Spot) (q : ℕ) → finite.get crosspoints dest ≡ stands → finite.get crosspoints q ≡ cond (eq_by_cmp nat_cmp q dest) stands (finite.get crosspoints q)
-at_once crosspoints dest stands q h =
-    elim (eq_by_cmp nat_cmp q dest) as (λ b. eq_by_cmp nat_cmp q dest ≡ b → finite.get crosspoints q ≡ cond b stands (finite.get crosspoints q)) [
-      | true ↦ λ tied. ap (finite.get crosspoints) (eqb-true q dest (sym (unsigned_tied q dest) ∙ tied)) ∙ h
-      | false ↦ λ apart. refl
-    ] refl
-
-stands_parked : (crosspoints : Crosspoints) (dest : ℕ) → source_of crosspoints dest ≡ None → finite.get crosspoints dest ≡ None
-stands_parked crosspoints dest h =
-    elim (finite.get crosspoints dest) as (λ o. option_map (λ (spot : Spot). spot.source) o ≡ None → o ≡ None) [
-      | None ↦ λ e. refl
-      | Some spot ↦ λ e. cc
+-- a device may change what has no owner, or is its own
+pub allows-free : (owners : Owners) (device dest : ℕ) → allows owners device dest ≡ true → IfSome (finite.get owners dest) (λ owner. owner ≡ device)
+allows-free owners device dest h =
+    elim (finite.get owners dest) as (λ o. option_map_or (λ owner. owner == device) o true ≡ true → IfSome o (λ owner. owner ≡ device)) [
+      | None ↦ λ e. tt
+      | Some owner ↦ λ e. eqb-true owner device e
     ] h
 
-stands_spot : (crosspoints : Crosspoints) (dest source : ℕ) → NoTies crosspoints → source_of crosspoints dest ≡ Some source → finite.get crosspoints dest ≡ Some (record { source = source; tie = None })
-stands_spot crosspoints dest source no_ties h =
-    let found = source_of-spot crosspoints dest source h in
-    let tie = no_ties dest found.0 found.1 in
-    found.1 ∙ (λ i. Some (record { source = found.2 i; tie = tie i }))
+pub free-allows : (owners : Owners) (device dest : ℕ) → IfSome (finite.get owners dest) (λ owner. owner ≡ device) → allows owners device dest ≡ true
+free-allows owners device dest h =
+    elim (finite.get owners dest) as (λ o. IfSome o (λ owner. owner ≡ device) → option_map_or (λ owner. owner == device) o true ≡ true) [
+      | None ↦ λ e. refl
+      | Some owner ↦ λ e. eq-eqb owner device e
+    ] h
 
-written-same : (crosspoints : Crosspoints) (dest : ℕ) (source : Option ℕ) → NoTies crosspoints → source_of crosspoints dest ≡ source → crosspoints ≡ written crosspoints dest source
-written-same crosspoints dest None no_ties h = finite.same_map nat_cmp_total finite.nat_cmp-IsAntisymmetric _ _ (λ q.
-    at_once crosspoints dest None q (stands_parked crosspoints dest h) ∙ sym (finite.get-remove nat_cmp_total crosspoints dest q))
-written-same crosspoints dest (Some source) no_ties h = finite.same_map nat_cmp_total finite.nat_cmp-IsAntisymmetric _ _ (λ q.
-    at_once crosspoints dest _ q (stands_spot crosspoints dest source no_ties h) ∙ sym (finite.get-insert nat_cmp_total crosspoints dest _ q))
+pub kept-allows : (owners : Owners) (device dest owner : ℕ) → finite.get owners dest ≡ Some owner → owner ≢ device → allows owners device dest ≡ false
+kept-allows owners device dest owner is other = ap (λ o. option_map_or (λ owner. owner == device) o true) is ∙ ne_eqb owner device other
 
--- a list of one change writes its destination
-pub applied-one : (crosspoints : Crosspoints) (dest : ℕ) (source : Option ℕ) → NoTies crosspoints →
-    applied crosspoints (record { dest = dest; source = source } ∷ []) ≡ written crosspoints dest source
-applied-one crosspoints dest source no_ties =
-    let change : Change = record { dest = dest; source = source } in
-    one crosspoints change
-    ∙ elim (is_idle crosspoints change) as (λ b. is_idle crosspoints change ≡ b → cond b crosspoints (given (finite.remove crosspoints dest) dest source) ≡ written crosspoints dest source) [
-      | true ↦ λ idle. written-same crosspoints dest source no_ties (same_source _ _ idle)
-      | false ↦ λ busy. given-removed crosspoints dest source
-    ] refl
+pub allows-foreign : (owners : Owners) (device dest : ℕ) → allows owners device dest ≡ false → IsForeign owners device dest
+allows-foreign owners device dest h = go (finite.get owners dest) refl
+  where
+    go : (o : Option ℕ) → finite.get owners dest ≡ o → IsForeign owners device dest
+    go None e = absurd (both_ways (allows owners device dest) h (ap (λ o. option_map_or (λ owner. owner == device) o true) e))
+    go (Some owner) e = record {
+      owner = owner;
+      owns = e;
+      other = λ same. both_ways (allows owners device dest) h (ap (λ o. option_map_or (λ owner. owner == device) o true) e ∙ eq-eqb owner device same);
+    }
 
-tied_self : (dest : ℕ) → eq_by_cmp nat_cmp dest dest ≡ true
-tied_self dest = unsigned_tied dest dest ∙ eq-eqb dest dest refl
+-- a list of one is permitted where its destination may be changed
+pub permitted-one : (owners : Owners) (device : ℕ) (change : Change) → are_permitted owners device (change ∷ []) ≡ allows owners device change.dest
+permitted-one owners device change = elim (allows owners device change.dest) as (λ b. (b && true) ≡ b) [ true ↦ refl | false ↦ refl ]
 
-tied_other : (q dest : ℕ) → q ≢ dest → eq_by_cmp nat_cmp q dest ≡ false
-tied_other q dest other = unsigned_tied q dest ∙ ne_eqb q dest other
+-- a change is of a destination that another device protects
+abbrev pub IsOfForeign : Owners → ℕ → Change → Type 0
+IsOfForeign owners device change = IsForeign owners device change.dest
 
--- the destination carries the source that it is given, and no other changes
-source_of-written : (crosspoints : Crosspoints) (dest : ℕ) (source : Option ℕ) → source_of (written crosspoints dest source) dest ≡ source
-source_of-written crosspoints dest None =
-    ap (option_map (λ (spot : Spot). spot.source)) (finite.get-remove nat_cmp_total crosspoints dest dest) ∙ rw (tied_self dest) refl
-source_of-written crosspoints dest (Some source) =
-    ap (option_map (λ (spot : Spot). spot.source)) (finite.get-insert nat_cmp_total crosspoints dest (record { source = source; tie = None }) dest) ∙ rw (tied_self dest) refl
+-- permitted changes name no destination of another device
+pub permitted-apart : (changes : List Change) (owners : Owners) (device dest owner : ℕ) → finite.get owners dest ≡ Some owner → owner ≢ device → are_permitted owners device changes ≡ true → All (λ change. change.dest ≢ dest) changes
+permitted-apart [] owners device dest owner is other permitted = λ k d below. absurd (omega arith)
+permitted-apart (change ∷ changes) owners device dest owner is other permitted =
+    let parts = and_parts (allows owners device change.dest) (are_permitted owners device changes) permitted in
+    let apart : change.dest ≢ dest = λ same. both_ways (allows owners device change.dest) (ap (allows owners device) same ∙ kept-allows owners device dest owner is other) parts.0 in
+    All-cons (λ (c : Change). c.dest ≢ dest) change changes apart (permitted-apart changes owners device dest owner is other parts.1)
 
-get-written_other : (crosspoints : Crosspoints) (dest : ℕ) (source : Option ℕ) (q : ℕ) → q ≢ dest → finite.get (written crosspoints dest source) q ≡ finite.get crosspoints q
-get-written_other crosspoints dest None q other = finite.get-remove nat_cmp_total crosspoints dest q ∙ rw (tied_other q dest other) refl
-get-written_other crosspoints dest (Some source) q other = finite.get-insert nat_cmp_total crosspoints dest (record { source = source; tie = None }) q ∙ rw (tied_other q dest other) refl
+-- a list isn't permitted exactly where the device is kept from one of its destinations
+pub not_permitted : (changes : List Change) (owners : Owners) (device : ℕ) → are_permitted owners device changes ≡ false → Any (IsOfForeign owners device) changes
+not_permitted [] owners device h = cc
+not_permitted (change ∷ changes) owners device h = go (not_permitted changes owners device) (allows owners device change.dest) refl
+  where
+    go : (are_permitted owners device changes ≡ false → Any (IsOfForeign owners device) changes) → (b : Bool) → allows owners device change.dest ≡ b → Any (IsOfForeign owners device) (change ∷ changes)
+    go behind false e = (0, change, omega arith, refl, allows-foreign owners device change.dest e)
+    go behind true e =
+        let later : are_permitted owners device changes ≡ false = rw e at h in
+        let rest = behind later in
+        (suc rest.0, rest.1, omega (arith, rest.2), rest.3, rest.4)
 
-pub get-applied_other : (crosspoints : Crosspoints) (change : Change) (q : ℕ) → NoTies crosspoints → q ≢ change.dest → finite.get (applied crosspoints (change ∷ [])) q ≡ finite.get crosspoints q
-get-applied_other crosspoints change q no_ties other =
-    ap (λ (x : Crosspoints). finite.get x q) (applied-one crosspoints change.dest change.source no_ties)
-    ∙ get-written_other crosspoints change.dest change.source q other
+pub kept-permitted : (changes : List Change) (owners : Owners) (device : ℕ) → Any (IsOfForeign owners device) changes → are_permitted owners device changes ≡ false
+kept-permitted changes owners device kept =
+    let change : Change = kept.1 in
+    let foreign : IsForeign owners device change.dest = kept.4 in
+    list_all_at (λ (c : Change). allows owners device c.dest) changes kept.0 change kept.2
+    (ap (λ (c : Change). allows owners device c.dest) kept.3 ∙ kept-allows owners device change.dest foreign.owner foreign.owns foreign.other)
 
-pub source_of-applied : (crosspoints : Crosspoints) (change : Change) → NoTies crosspoints → source_of (applied crosspoints (change ∷ [])) change.dest ≡ change.source
-source_of-applied crosspoints change no_ties =
-    ap (λ (x : Crosspoints). source_of x change.dest) (applied-one crosspoints change.dest change.source no_ties)
-    ∙ source_of-written crosspoints change.dest change.source
+-- an idle change does nothing
+pub applied-idle : (crosspoints : Crosspoints) (change : Change) → is_idle crosspoints change ≡ true → applied crosspoints (change ∷ []) ≡ crosspoints
+applied-idle crosspoints change idle =
+    ap (λ b. all_given (released crosspoints (cond (not b) (change ∷ []) [])) (cond (not b) (change ∷ []) [])) idle
 
--- any other is made, and the others hear of it
-pub changed-busy : (state : State) (asker : ℕ) (change : Change) → is_idle state.crosspoints change ≡ false →
-    record state { crosspoints = applied state.crosspoints (change ∷ []); boards = noticed state.boards asker change.dest } ≡ changed state asker change
-changed-busy state asker change busy =
-    λ i. record state { crosspoints = applied state.crosspoints (change ∷ []); boards = cond (sym busy i) state.boards (noticed state.boards asker change.dest) }
+-- a list of one names its destination once
+pub once-one : (change : Change) → NamesOnce (change ∷ [])
+once-one change = IsDistinct-cons nat_eq change.dest [] tt NamesOnce-nil
+
+pub source_of-one : (crosspoints : Crosspoints) (change : Change) → source_of (applied crosspoints (change ∷ [])) change.dest ≡ change.source
+source_of-one crosspoints change = source_of-applied crosspoints (change ∷ []) (once-one change) 0 change (omega arith)
+
+pub get-one_other : (crosspoints : Crosspoints) (change : Change) (dest : ℕ) → dest ≢ change.dest → finite.get (applied crosspoints (change ∷ [])) dest ≡ finite.get crosspoints dest
+get-one_other crosspoints change dest other =
+    get-applied_other dest crosspoints (change ∷ []) (All-cons (λ (c : Change). c.dest ≢ dest) change [] (λ same. other (sym same)) (All-nil (λ (c : Change). c.dest ≢ dest)))
+
+-- what stands is what a change gives, where the change is idle, and only there
+pub idle-source : (crosspoints : Crosspoints) (change : Change) → is_idle crosspoints change ≡ true → source_of crosspoints change.dest ≡ change.source
+idle-source crosspoints change idle = same_source (source_of crosspoints change.dest) change.source idle
+
+pub source-idle : (crosspoints : Crosspoints) (change : Change) → source_of crosspoints change.dest ≡ change.source → is_idle crosspoints change ≡ true
+source-idle crosspoints change same =
+    ap (λ o. option_eq nat_eq o change.source) same ∙ source_same change.source
+
+-- of a destination that no change moves, each change is idle
+all_idle : (changes : List Change) (crosspoints : Crosspoints) (d : ℕ) → is_among (moved crosspoints changes) d ≡ false → All (λ change. change.dest ≡ d → is_idle crosspoints change ≡ true) changes
+all_idle [] crosspoints d h = All-nil (λ (change : Change). change.dest ≡ d → is_idle crosspoints change ≡ true)
+all_idle (first ∷ rest) crosspoints d h = go (all_idle rest crosspoints d) (is_idle crosspoints first) refl
+  where
+    Idle : Change → Type 0
+    Idle change = change.dest ≡ d → is_idle crosspoints change ≡ true
+
+    go : (is_among (moved crosspoints rest) d ≡ false → All Idle rest) → (b : Bool) → is_idle crosspoints first ≡ b → All Idle (first ∷ rest)
+    go behind true idle =
+        let later : is_among (moved crosspoints rest) d ≡ false = rw idle at h in
+        All-cons Idle first rest (λ same. idle) (behind later)
+    go behind false busy =
+        let either : ((d == first.dest) || is_among (moved crosspoints rest) d) ≡ false = rw busy at h in
+        let parts = or_parts (d == first.dest) (is_among (moved crosspoints rest) d) either in
+        All-cons Idle first rest (λ same. absurd (both_ways (d == first.dest) parts.0 (eq-eqb d first.dest (sym same)))) (behind parts.1)
+
+-- a destination that changes move is that of a change which isn't idle
+some_busy : (changes : List Change) (crosspoints : Crosspoints) (d : ℕ) → is_among (moved crosspoints changes) d ≡ true → Any (λ change. (change.dest ≡ d) × (is_idle crosspoints change ≡ false)) changes
+some_busy [] crosspoints d h = cc
+some_busy (first ∷ rest) crosspoints d h = go (some_busy rest crosspoints d) (is_idle crosspoints first) refl
+  where
+    Busy : Change → Type 0
+    Busy change = (change.dest ≡ d) × (is_idle crosspoints change ≡ false)
+
+    later : Any Busy rest → Any Busy (first ∷ rest)
+    later found = (suc found.0, found.1, omega (arith, found.2), found.3, found.4)
+
+    go : (is_among (moved crosspoints rest) d ≡ true → Any Busy rest) → (b : Bool) → is_idle crosspoints first ≡ b → Any Busy (first ∷ rest)
+    go behind true idle = let among : is_among (moved crosspoints rest) d ≡ true = rw idle at h in later (behind among)
+    go behind false busy = elim (cases_eq d first.dest) [
+      | inl same ↦ (0, first, omega arith, refl, (sym same, busy))
+      | inr other ↦
+          let either : ((d == first.dest) || is_among (moved crosspoints rest) d) ≡ true = rw busy at h in
+          let among : is_among (moved crosspoints rest) d ≡ true = rw (ne_eqb d first.dest other) at either in
+          later (behind among)
+    ]
+
+-- a destination that changes don't move carries the source of before, and each other one carries another
+pub not_moved : (crosspoints : Crosspoints) (changes : List Change) (d : ℕ) → NamesOnce changes → is_among (moved crosspoints changes) d ≡ false → source_of (applied crosspoints changes) d ≡ source_of crosspoints d
+not_moved crosspoints changes d once h = go (list_any (λ (change : Change). change.dest == d) changes) refl
+  where
+    names : Change → Bool
+    names change = change.dest == d
+
+    go : (b : Bool) → list_any names changes ≡ b → source_of (applied crosspoints changes) d ≡ source_of crosspoints d
+    go false none =
+        ap (option_map (λ (spot : Spot). spot.source)) (get-applied_other d crosspoints changes (λ k c below same. both_ways (list_any names changes) none (list_any_at names changes k c below (eq-eqb _ _ same))))
+    go true some =
+        let found = Any-from_list_any names changes some in
+        let change : Change = found.1 in
+        let here : change.dest ≡ d = eqb-true change.dest d found.4 in
+        let idle : is_idle crosspoints change ≡ true =
+        subst (λ (c : Change). c.dest ≡ d → is_idle crosspoints c ≡ true) found.3 (all_idle changes crosspoints d h found.0 change found.2) here in
+        let carries : source_of (applied crosspoints changes) change.dest ≡ change.source =
+        subst (λ (c : Change). source_of (applied crosspoints changes) c.dest ≡ c.source) found.3 (source_of-applied crosspoints changes once found.0 change found.2) in
+        subst (λ dest. source_of (applied crosspoints changes) dest ≡ source_of crosspoints dest) here (carries ∙ sym (idle-source crosspoints change idle))
+
+pub is_moved : (crosspoints : Crosspoints) (changes : List Change) (d : ℕ) → NamesOnce changes → is_among (moved crosspoints changes) d ≡ true → source_of (applied crosspoints changes) d ≢ source_of crosspoints d
+is_moved crosspoints changes d once h same =
+    let found = some_busy changes crosspoints d h in
+    let change : Change = found.1 in
+    let carries : source_of (applied crosspoints changes) change.dest ≡ change.source =
+    subst (λ (c : Change). source_of (applied crosspoints changes) c.dest ≡ c.source) found.3 (source_of-applied crosspoints changes once found.0 change found.2) in
+    let alike : source_of (applied crosspoints changes) change.dest ≡ source_of crosspoints change.dest =
+    subst (λ dest. source_of (applied crosspoints changes) dest ≡ source_of crosspoints dest) (sym found.4.0) same in
+    both_ways (is_idle crosspoints change) found.4.1 (source-idle crosspoints change (sym alike ∙ carries))
+
+-- moved destinations are those of changes
+pub moved-within : (changes : List Change) (crosspoints : Crosspoints) (P : ℕ → Type 0) → All (λ change. P change.dest) changes → All P (moved crosspoints changes)
+moved-within changes crosspoints P all =
+    All-map P (λ (change : Change). change.dest) (filter (λ (change : Change). not (is_idle crosspoints change)) changes) (All-filter _ (λ (change : Change). P change.dest) changes all)

@@ -17,16 +17,13 @@ use Rattle.plant_core.specs.State.{State}
 use Rattle.plant_core.specs.Step.{step, dest_count, dumped_at}
 use Rattle.plant_core.specs.Answer.{room_of}
 use Rattle.plant_core.specs.Laws.{IsDumped}
-use Rattle.plant_core.proofs.AnswerLemmas.{dest_count_within}
+use Rattle.plant_core.proofs.CountLemmas.{dest_count_within}
 use Rattle.plant_core.proofs.Steps.{answers-stands}
 
 -- a level that is found has no more destinations than there is room for
-pub level_within : (plant : PlantData) (matrix level : ℕ) (levels : List Level) (found : Level) → levels ≡ plant.levels
-    → Some found ≡ find (λ (at : Level). at.matrix == matrix && at.level == level) levels → found.destinations ≤ room_of plant
-level_within plant matrix level levels found same is =
-    let Count : Option Level → ℕ = λ at. option_map_or (λ (at : Level). at.destinations) at 0 in
-    let count : found.destinations ≡ dest_count plant matrix level =
-    ap Count is ∙ ap (λ (levels : List Level). Count (find (λ (at : Level). at.matrix == matrix && at.level == level) levels)) same in
+pub level_within : (plant : PlantData) (matrix level : ℕ) (found : Level) → Some found ≡ level_at plant matrix level → found.destinations ≤ room_of plant
+level_within plant matrix level found is =
+    let count : found.destinations ≡ dest_count plant matrix level = ap (λ (at : Option Level). option_map_or (λ (at : Level). at.destinations) at 0) is in
     omega (arith, count, dest_count_within plant matrix level)
 
 -- one destination more

@@ -1,12 +1,19 @@
 -- Polls one after another, and panels that have left.
-use Rattle.std.proofs.Common.{◌≡◌, ℕ, ◌<◌, ◌≤◌, true, false, cond, List, [], ◌∷◌, length, map, take, drop, slice_get, set, Option, Some, None, zero, suc, inl, inr, refl, sym, ap, subst, ◌∙◌, arith, length-drop}
+use Rattle.std.proofs.Common.{◌≡◌, ℕ, ◌<◌, ◌≤◌, Bool, true, false, cond, List, [], ◌∷◌, length, map, take, drop, slice_get, set, Option, Some, None, zero, suc, inl, inr, refl, sym, ap, subst, ◌∙◌, arith, length-drop}
 use Rattle.std.proofs.lemmas.Bool.{cases_eq, cases_lt, both_ways}
 use Rattle.std.proofs.lemmas.List.{get_or_past}
+use Rattle.swp08_messages.specs.declared.point.Point.{Point}
 use Rattle.swp08_messages.specs.declared.message.Message.{Message}
-use Rattle.swp08_messages.specs.declared.message.Message.TheVariants.{Interrogate, Connect}
+use Rattle.swp08_messages.specs.declared.message.Message.TheVariants.{Interrogate, Connect, Tally, Connected, ProtectAsk, ProtectConnect, ProtectDisconnect, ProtectTally, ProtectConnected, ProtectDisconnected, DumpAsk, Store, Stored, Go, GoDone, EntryAsk}
+use Rattle.swp08_messages.specs.declared.go_status.GoStatus.TheVariants.{Made, Protected}
 use Rattle.plant_config.specs.declared.records.Change.{Change}
 use Rattle.plant_config.specs.Plant.{destinations_of}
+use Rattle.crosspoint_state.specs.Crosspoints.{is_idle}
+use Rattle.protects.specs.Owners.{allows, may_lift, taken as taken_owner, lifted}
+use Rattle.salvo_groups.specs.Groups.{Group, group_of, may_store, with_store}
 use Rattle.change_boards.specs.declared.sort.Sort.{Sort}
+use Rattle.change_boards.specs.declared.sort.Sort.TheVariants.{Source, Protect}
+use Rattle.std.specs.FinMap as finite
 use Rattle.change_boards.specs.Board.{Board, IsEmpty, blank, abandoned, next, without, taken}
 use Rattle.change_boards.specs.Notices.{board_of, has_left, with_leave}
 use Rattle.change_boards.specs.Laws.{Leaves, TakesInOrder, notices_below}
@@ -15,13 +22,18 @@ use Rattle.change_boards.proofs.InOrder.{takes_in_order}
 use Rattle.plant_core.specs.declared.request.Request.{Request}
 use Rattle.plant_core.specs.declared.request.Request.TheVariants.{Told, Poll, Leave}
 use Rattle.plant_core.specs.declared.answer.Answer.{Answer}
-use Rattle.plant_core.specs.State.{State, IsValid, is_idle}
-use Rattle.plant_core.specs.Step.{step, connected, noticed, change_of, notice_of}
+use Rattle.plant_core.specs.State.{State, IsValid, standing, device_of, is_master}
+use Rattle.plant_core.specs.Noticed.{marked_for_others}
+use Rattle.plant_core.specs.Connects.{says, says_nothing, change_of, are_permitted, changed, connected}
+use Rattle.plant_core.specs.Protecting.{owner_told, has_same_owner, with_owners, protected, unprotected}
+use Rattle.plant_core.specs.Salvos.{stored_in, emptied, moved, all_changed, taken_whole, cleared, gone}
+use Rattle.plant_core.specs.Step.{step, dest_of, notice_of}
 use Rattle.plant_core.specs.Laws.{after}
 use Rattle.plant_core.specs.NoticeLaws.{answers_of, notices_of, polls_of}
-use Rattle.plant_core.proofs.Noticed.{noticed-IsHeard}
-use Rattle.plant_core.proofs.Steps.{IsValid-step}
-use Rattle.plant_core.proofs.NoticeLemmas.{empty_has, poll-nothing}
+use Rattle.plant_core.proofs.Noticed.{others-IsHeard, marked_stays_left}
+use Rattle.plant_core.proofs.QuietLemmas.{store-quiet, clear-quiet}
+use Rattle.plant_core.proofs.StepValidity.{IsValid-step}
+use Rattle.plant_core.proofs.TellLemmas.{empty_has, poll-nothing}
 
 -- what so many takes of a panel's notices leave
 in_order : (state : State) (panel takes : ℕ) → IsValid state → TakesInOrder (board_of state.boards panel) (destinations_of state.plant) takes
@@ -91,18 +103,62 @@ taken_left board = go (next board)
     go None = refl
     go (Some (dest, sort)) = same_left board sort _
 
+module _ (state : State) (panel : ℕ) (left : has_left state.boards panel ≡ true) where
+  connect_left : (p : ℕ) (at : Point) (source : Option ℕ) (change : Option Change) → has_left (connected state p at source change).state.boards panel ≡ true
+  connect_left p at source None = left
+  connect_left p at source (Some change) =
+      elim (are_permitted state.owners (device_of state.plant p) (change ∷ [])) as (λ b. has_left (cond b (says (changed state p change) (Connected at source)) (says state (Tally at (standing state at)))).state.boards panel ≡ true) [
+        | true ↦
+            elim (is_idle state.crosspoints change) as (λ b. has_left (cond b state.boards (marked_for_others state.boards p change.dest Source)) panel ≡ true) [
+              | true ↦ left
+              | false ↦ (others-IsHeard state.boards p change.dest Source).left panel ∙ left
+            ]
+        | false ↦ left
+      ]
+
+  owners_left : (p d : ℕ) (b : Bool) → has_left (cond b state.boards (marked_for_others state.boards p d Protect)) panel ≡ true
+  owners_left p d true = left
+  owners_left p d false = (others-IsHeard state.boards p d Protect).left panel ∙ left
+
+  protect_left : (p : ℕ) (at : Point) (named : Option ℕ) → has_left (protected state p at named).state.boards panel ≡ true
+  protect_left p at None = left
+  protect_left p at (Some d) =
+      let device : ℕ = device_of state.plant p in
+      elim (allows state.owners device d) as (λ b. has_left (cond b (says (with_owners state p d (taken_owner state.owners device d)) (owner_told ProtectConnected at (Some device))) (says state (owner_told ProtectTally at (finite.get state.owners d)))).state.boards panel ≡ true) [
+        | true ↦ owners_left p d (has_same_owner state.owners (taken_owner state.owners device d) d)
+        | false ↦ left
+      ]
+
+  lift_left : (p : ℕ) (at : Point) (named : Option ℕ) → has_left (unprotected state p at named).state.boards panel ≡ true
+  lift_left p at None = left
+  lift_left p at (Some d) =
+      let device : ℕ = device_of state.plant p in
+      let master : Bool = is_master state.plant p in
+      elim (may_lift state.owners device master d) as (λ b. has_left (cond b (says (with_owners state p d (lifted state.owners device master d)) (owner_told ProtectDisconnected at None)) (says state (owner_told ProtectTally at (finite.get state.owners d)))).state.boards panel ≡ true) [
+        | true ↦ owners_left p d (has_same_owner state.owners (lifted state.owners device master d) d)
+        | false ↦ left
+      ]
+
+  whole_left : (p salvo : ℕ) (group : Group) → has_left (taken_whole state p salvo group).state.boards panel ≡ true
+  whole_left p salvo [] = left
+  whole_left p salvo (entry ∷ entries) =
+      elim (are_permitted state.owners (device_of state.plant p) (entry ∷ entries)) as (λ b. has_left (cond b (says (emptied (all_changed state (entry ∷ entries)) salvo) (GoDone Made salvo)) (says state (GoDone Protected salvo))).state.boards panel ≡ true) [
+        | true ↦ marked_stays_left (moved state.crosspoints (entry ∷ entries)) state.boards panel ∙ left
+        | false ↦ left
+      ]
+
+  told_left : (p item : ℕ) (message : Message) → has_left (step state (Told p item message)).state.boards panel ≡ true
+  told_left p item (Interrogate at) = left
+  told_left p item (Connect at source) = connect_left p at source (change_of state.plant at source)
+  told_left p item (ProtectConnect at device) = protect_left p at (dest_of state at)
+  told_left p item (ProtectDisconnect at device) = lift_left p at (dest_of state at)
+  told_left p item (Store at source salvo) = ap (λ (b : List Board). has_left b panel) (store-quiet state at source salvo (change_of state.plant at source)) ∙ left
+  told_left p item (Go true salvo) = ap (λ (b : List Board). has_left b panel) (clear-quiet state salvo (group_of state.groups salvo)) ∙ left
+  told_left p item (Go false salvo) = whole_left p salvo (group_of state.groups salvo)
+  told_left p item message = left
+
 left-step : (state : State) (panel : ℕ) (request : Request) → has_left state.boards panel ≡ true → has_left (step state request).state.boards panel ≡ true
-left-step state panel (Told p item (Interrogate at)) left = left
-left-step state panel (Told p item (Connect at source)) left = of_change (change_of state.plant at source)
-  where
-    of_change : (change : Option Change) → has_left (connected state p at source change).state.boards panel ≡ true
-    of_change None = left
-    of_change (Some change) =
-        elim (is_idle state.crosspoints change) as (λ b. has_left (cond b state.boards (noticed state.boards p change.dest)) panel ≡ true) [
-          | true ↦ left
-          | false ↦ (noticed-IsHeard state.boards p change.dest).left panel ∙ left
-        ]
-left-step state panel (Told p item message) left = left
+left-step state panel (Told p item message) left = told_left state panel left p item message
 left-step state panel (Poll p item turn) left =
     left_set state.boards p panel (taken (board_of state.boards p)) (λ here. taken_left (board_of state.boards p) ∙ ap (has_left state.boards) (sym here) ∙ left) left
 left-step state panel (Leave p) left = left_set state.boards p panel abandoned (λ here. refl) left
@@ -113,25 +169,4 @@ stays_left (request ∷ later) state panel left = stays_left later (step state r
 
 pub left-nothing : (state : State) (panel item turn : ℕ) → IsValid state → has_left state.boards panel ≡ true → step state (Poll panel item turn) ≡ record { state = state; answers = [] }
 left-nothing state panel item turn valid left =
-    poll-nothing state panel item turn valid (λ dest. empty_has (board_of state.boards panel) dest (valid.boards.left panel left))
-
--- boards don't matter for what messages do
-pub answers_without : (state : State) (boards : List Board) (panel item : ℕ) (message : Message) →
-    (step (record state { boards = boards }) (Told panel item message)).answers ≡ (step state (Told panel item message)).answers
-answers_without state boards panel item (Interrogate at) = refl
-answers_without state boards panel item (Connect at source) = go (change_of state.plant at source)
-  where
-    go : (change : Option Change) → (connected (record state { boards = boards }) panel at source change).answers ≡ (connected state panel at source change).answers
-    go None = refl
-    go (Some change) = refl
-answers_without state boards panel item message = refl
-
-pub crosspoints_without : (state : State) (boards : List Board) (panel item : ℕ) (message : Message) →
-    (step (record state { boards = boards }) (Told panel item message)).state.crosspoints ≡ (step state (Told panel item message)).state.crosspoints
-crosspoints_without state boards panel item (Interrogate at) = refl
-crosspoints_without state boards panel item (Connect at source) = go (change_of state.plant at source)
-  where
-    go : (change : Option Change) → (connected (record state { boards = boards }) panel at source change).state.crosspoints ≡ (connected state panel at source change).state.crosspoints
-    go None = refl
-    go (Some change) = refl
-crosspoints_without state boards panel item message = refl
+    poll-nothing state panel item turn valid (λ dest sort. empty_has (board_of state.boards panel) dest sort (valid.boards.left panel left))

@@ -1,39 +1,38 @@
--- What steps leave, and how they are answered.
-use Rattle.std.proofs.Common.{◌≡◌, ◌≢◌, ℕ, List, [], ◌∷◌, All, Option, Some, None, IsSome, IsNone, IfSome, suc, refl, sym, ap, subst, ◌∙◌, arith}
+-- Which connects are made, and how they are answered.
+use Rattle.std.proofs.Common.{◌≡◌, ◌≢◌, ℕ, ◌<◌, Bool, true, false, cond, List, [], ◌∷◌, All, Option, Some, None, IsSome, IsNone, IfSome, suc, refl, sym, ap, subst, ◌∙◌, arith}
 use Rattle.std.specs.Option.{option_map, option_and_then}
 use Rattle.std.specs.FinMap as finite
 use Rattle.std.specs.Ordering.{nat_cmp}
+use Rattle.std.proofs.lemmas.List.Elements.{All-nil, All-push}
 use Rattle.swp08_messages.specs.declared.point.Point.{Point}
-use Rattle.swp08_messages.specs.declared.message.Message.TheVariants.{Interrogate, Connect, Tally}
+use Rattle.swp08_messages.specs.declared.message.Message.{Message}
+use Rattle.swp08_messages.specs.declared.message.Message.TheVariants.{Interrogate, Connect, Tally, Connected, ProtectAsk, ProtectConnect, ProtectDisconnect, ProtectTally, ProtectConnected, ProtectDisconnected, DumpAsk, Store, Stored, Go, GoDone, EntryAsk}
+use Rattle.swp08_messages.specs.declared.go_status.GoStatus.TheVariants.{Made, Protected}
 use Rattle.plant_config.specs.declared.records.Point as places
 use Rattle.plant_config.specs.declared.records.Change.{Change}
-use Rattle.plant_config.specs.Plant.{PlantData}
+use Rattle.plant_config.specs.Plant.{PlantData, destinations_of}
 use Rattle.plant_config.specs.IsPlant.{IsPlant}
 use Rattle.plant_config.specs.Sites.{dest_at, source_at, source_number_of}
 use Rattle.plant_config.proofs.SiteLemmas.{dest_at-point_of, source_at-source_number_of}
+use Rattle.crosspoint_state.specs.Crosspoints.{Crosspoints, source_of, is_idle, applied}
+use Rattle.crosspoint_state.specs.declared.spot.Spot.{Spot}
+use Rattle.protects.specs.Owners.{Owners, allows, may_lift, taken, lifted}
+use Rattle.salvo_groups.specs.Groups.{Group, group_of, may_store, with_store}
+use Rattle.change_boards.specs.declared.sort.Sort.TheVariants.{Source, Protect}
+use Rattle.history_lock.specs.Step.{Stepped}
 use Rattle.plant_core.specs.declared.request.Request.{Request}
 use Rattle.plant_core.specs.declared.request.Request.TheVariants.{Told, Poll, Leave}
+use Rattle.plant_core.specs.declared.answer.Answer.{Answer}
 use Rattle.plant_core.specs.declared.answer.Answer.TheVariants.{Say}
-use Rattle.plant_core.specs.State.{Spot, State, IsValid, source_of, standing, applied, start}
-use Rattle.plant_core.specs.Step.{step, connected, changed, wanted, change_of}
-use Rattle.plant_core.specs.Laws.{AnswersWith, IsConnectable, IsMade, IsNotMade, LeavesAlone, after}
-use Rattle.plant_core.proofs.Validity.{change_of-is, change_of-IsChangeOf, IsValid-changed, IsValid-take, IsValid-leave}
-use Rattle.plant_core.proofs.Changes.{source_of-applied, get-applied_other}
-
-IsValid-connected : (state : State) (panel : ℕ) (at : Point) (source : Option ℕ) → IsValid state → IsValid (connected state panel at source (change_of state.plant at source)).state
-IsValid-connected state panel at source valid =
-    elim (change_of state.plant at source) as (λ o. change_of state.plant at source ≡ o → IsValid (connected state panel at source o).state) [
-      | None ↦ λ h. valid
-      | Some change ↦ λ h. IsValid-changed state panel change valid (change_of-IsChangeOf state.plant at source change valid.is_plant h)
-    ] refl
-
--- every step leaves a valid state
-pub IsValid-step : (state : State) (request : Request) → IsValid state → IsValid (step state request).state
-IsValid-step state (Told panel item (Interrogate at)) valid = valid
-IsValid-step state (Told panel item (Connect at source)) valid = IsValid-connected state panel at source valid
-IsValid-step state (Told panel item message) valid = valid
-IsValid-step state (Poll panel item turn) valid = IsValid-take state panel valid
-IsValid-step state (Leave panel) valid = IsValid-leave state panel valid
+use Rattle.plant_core.specs.State.{State, IsValid, IsChangeOf, AreOwners, standing, owner_at, device_of, is_master, start}
+use Rattle.plant_core.specs.Noticed.{marked_for_others}
+use Rattle.plant_core.specs.Connects.{says, says_nothing, wanted, change_of, are_permitted, changed, connected}
+use Rattle.plant_core.specs.Protecting.{owner_told, has_same_owner, with_owners, protected, unprotected}
+use Rattle.plant_core.specs.Salvos.{stored_in, emptied, moved, all_changed, taken_whole, cleared, gone}
+use Rattle.plant_core.specs.Step.{step, dest_of}
+use Rattle.plant_core.specs.Laws.{AnswersWith, IsConnectable, IsFree, MayConnect, IsMade, IsNotMade, LeavesAlone, after}
+use Rattle.plant_core.proofs.Validity.{IsValid-applied, IsValid-owners, IsValid-others, IsValid-marked, IsValid-take, IsValid-leave, IsValid-store, IsValid-clear, AreOwners-taken, AreOwners-lifted, device-within, change_of-is, change_of-IsChangeOf, found-below}
+use Rattle.plant_core.proofs.Changes.{allows-free, free-allows, permitted-one, source_of-one, get-one_other, moved-within}
 
 -- what a destination was to carry, read as a number of its level, is what was asked for
 pub wanted-number : (plant : PlantData) (at : Point) (source carried : Option ℕ) → IsPlant plant → wanted plant at source ≡ Some carried → option_and_then (source_number_of plant) carried ≡ source
@@ -93,7 +92,7 @@ standing-applied : (state : State) (at : Point) (source : Option ℕ) (change : 
 standing-applied state at source change valid h =
     let parts = change_of-is state.plant at source change h in
     ap (option_and_then (λ (dest : ℕ). option_and_then (source_number_of state.plant) (source_of (applied state.crosspoints (change ∷ [])) dest))) parts.0
-    ∙ ap (option_and_then (source_number_of state.plant)) (source_of-applied state.crosspoints change valid.ties)
+    ∙ ap (option_and_then (source_number_of state.plant)) (source_of-one state.crosspoints change)
     ∙ wanted-number state.plant at source change.source valid.is_plant parts.1
 
 standing-others : (state : State) (at : Point) (source : Option ℕ) (change : Change) (place : Point) → IsValid state → change_of state.plant at source ≡ Some change → place ≢ at →
@@ -106,7 +105,7 @@ standing-others state at source change place valid h other =
       | None ↦ λ none. refl
       | Some dest ↦ λ found.
           let apart : dest ≢ change.dest = λ same. other (one_place state.plant at place change.dest valid.is_plant parts.0 (found ∙ ap Some same)) in
-          ap (λ (o : Option Spot). option_and_then (source_number_of state.plant) (option_map (λ (spot : Spot). spot.source) o)) (get-applied_other state.crosspoints change dest valid.ties apart)
+          ap (λ (o : Option Spot). option_and_then (source_number_of state.plant) (option_map (λ (spot : Spot). spot.source) o)) (get-one_other state.crosspoints change dest apart)
     ] refl
 
 -- an interrogate is answered with the source that stands, and with nothing else
@@ -116,80 +115,89 @@ stands-answers state at source h panel item = ap (λ s. Say (Tally at s) ∷ [])
 pub answers-stands : (state : State) (at : Point) (source : Option ℕ) → AnswersWith state at source → standing state at ≡ source
 answers-stands state at source answers = let h = answers 0 0 in cc
 
--- a connect that asks for a change is made, and any other isn't
-made : (state : State) (panel item : ℕ) (at : Point) (source : Option ℕ) (change : Change) → IsValid state → change_of state.plant at source ≡ Some change → IsMade state at source (step state (Told panel item (Connect at source)))
-made state panel item at source change valid h = rw h (record {
+-- the owner of a place is that of its destination
+pub owner_at-dest : (state : State) (at : Point) (dest : ℕ) → dest_of state at ≡ Some dest → owner_at state at ≡ finite.get state.owners dest
+owner_at-dest state at dest found = ap (option_and_then (finite.get state.owners)) found
+
+-- a place that a panel may change is in the plant, and its destination is free to the panel's device
+pub free-dest : (state : State) (panel : ℕ) (at : Point) → IsFree state panel at → (dest : ℕ) × (dest_of state at ≡ Some dest) × (allows state.owners (device_of state.plant panel) dest ≡ true)
+free-dest state panel at free = go (dest_of state at) refl free.has_place
+  where
+    go : (o : Option ℕ) → dest_of state at ≡ o → IsSome o → (dest : ℕ) × (dest_of state at ≡ Some dest) × (allows state.owners (device_of state.plant panel) dest ≡ true)
+    go None found some = cc
+    go (Some dest) found some = (
+      dest,
+      found,
+      free-allows state.owners (device_of state.plant panel) dest (subst (λ o. IfSome o (λ owner. owner ≡ device_of state.plant panel)) (owner_at-dest state at dest found) free.owner),
+    )
+
+pub dest-free : (state : State) (panel : ℕ) (at : Point) (dest : ℕ) → dest_of state at ≡ Some dest → allows state.owners (device_of state.plant panel) dest ≡ true → IsFree state panel at
+dest-free state panel at dest found allowed = record {
+  has_place = rw found refl;
+  owner = subst (λ o. IfSome o (λ owner. owner ≡ device_of state.plant panel)) (sym (owner_at-dest state at dest found)) (allows-free state.owners (device_of state.plant panel) dest allowed);
+}
+
+-- a panel may connect where it asks for a change that is permitted, and only there
+pub may-change : (state : State) (panel : ℕ) (at : Point) (source : Option ℕ) → MayConnect state panel at source →
+    (change : Change) × (change_of state.plant at source ≡ Some change) × (are_permitted state.owners (device_of state.plant panel) (change ∷ []) ≡ true)
+may-change state panel at source may =
+    let asks = connectable-change_of state.plant at source may.connectable in
+    let change : Change = asks.0 in
+    let free = free-dest state panel at may.free in
+    let some : Some change.dest ≡ Some free.0 = sym (change_of-is state.plant at source change asks.1).0 ∙ free.1 in
+    let same : change.dest ≡ free.0 = cc in
+    (change, asks.1, permitted-one state.owners (device_of state.plant panel) change ∙ ap (allows state.owners (device_of state.plant panel)) same ∙ free.2)
+
+pub change-may : (state : State) (panel : ℕ) (at : Point) (source : Option ℕ) (change : Change) → change_of state.plant at source ≡ Some change →
+    are_permitted state.owners (device_of state.plant panel) (change ∷ []) ≡ true → MayConnect state panel at source
+change-may state panel at source change h permitted = record {
+  connectable = change_of-connectable state.plant at source change h;
+  free = dest-free state panel at change.dest (change_of-is state.plant at source change h).0 (sym (permitted-one state.owners (device_of state.plant panel) change) ∙ permitted);
+}
+
+-- a connect that asks for a change which is permitted is made, and any other isn't
+pub connected-made : (state : State) (panel item : ℕ) (at : Point) (source : Option ℕ) (change : Change) → change_of state.plant at source ≡ Some change → are_permitted state.owners (device_of state.plant panel) (change ∷ []) ≡ true →
+    step state (Told panel item (Connect at source)) ≡ says (changed state panel change) (Connected at source)
+connected-made state panel item at source change h permitted =
+    ap (connected state panel at source) h
+    ∙ ap (λ b. cond b (says (changed state panel change) (Connected at source)) (says state (Tally at (standing state at)))) permitted
+
+pub connected-kept : (state : State) (panel item : ℕ) (at : Point) (source : Option ℕ) (change : Change) → change_of state.plant at source ≡ Some change → are_permitted state.owners (device_of state.plant panel) (change ∷ []) ≡ false →
+    step state (Told panel item (Connect at source)) ≡ says state (Tally at (standing state at))
+connected-kept state panel item at source change h kept =
+    ap (connected state panel at source) h
+    ∙ ap (λ b. cond b (says (changed state panel change) (Connected at source)) (says state (Tally at (standing state at)))) kept
+
+pub made : (state : State) (panel item : ℕ) (at : Point) (source : Option ℕ) (change : Change) → IsValid state → change_of state.plant at source ≡ Some change →
+    IsMade state at source (says (changed state panel change) (Connected at source))
+made state panel item at source change valid h = record {
   answer = refl;
   stands = stands-answers (changed state panel change) at source (standing-applied state at source change valid h);
-  unmoved = λ dest elsewhere. get-applied_other state.crosspoints change dest valid.ties (λ same. elsewhere ((change_of-is state.plant at source change h).0 ∙ ap Some (sym same)));
+  unmoved = λ dest elsewhere. get-one_other state.crosspoints change dest (λ same. elsewhere ((change_of-is state.plant at source change h).0 ∙ ap Some (sym same)));
   others = λ place stands other answers.
       stands-answers (changed state panel change) place stands (standing-others state at source change place valid h other ∙ answers-stands state place stands answers);
-})
+}
 
-not_made : (state : State) (panel item : ℕ) (at : Point) (source : Option ℕ) → change_of state.plant at source ≡ None → IsNotMade state at (step state (Told panel item (Connect at source)))
-not_made state panel item at source h = rw h (record {
+tallied : (state : State) (at : Point) → IsNotMade state at (says state (Tally at (standing state at)))
+tallied state at = record {
   standing = standing state at;
   stands = stands-answers state at (standing state at) refl;
   answer = refl;
   state = refl;
-})
+}
 
-pub connect-IsMade : (state : State) (panel item : ℕ) (at : Point) (source : Option ℕ) → IsValid state → IsConnectable state.plant at source → IsMade state at source (step state (Told panel item (Connect at source)))
-connect-IsMade state panel item at source valid is =
-    let asks = connectable-change_of state.plant at source is in
-    made state panel item at source asks.0 valid asks.1
+pub connect-IsMade : (state : State) (panel item : ℕ) (at : Point) (source : Option ℕ) → IsValid state → MayConnect state panel at source → IsMade state at source (step state (Told panel item (Connect at source)))
+connect-IsMade state panel item at source valid may =
+    let asks = may-change state panel at source may in
+    subst (IsMade state at source) (sym (connected-made state panel item at source asks.0 asks.1 asks.2)) (made state panel item at source asks.0 valid asks.1)
 
-pub connect-IsNotMade : (state : State) (panel item : ℕ) (at : Point) (source : Option ℕ) → ¬ IsConnectable state.plant at source → IsNotMade state at (step state (Told panel item (Connect at source)))
+pub connect-IsNotMade : (state : State) (panel item : ℕ) (at : Point) (source : Option ℕ) → ¬ MayConnect state panel at source → IsNotMade state at (step state (Told panel item (Connect at source)))
 connect-IsNotMade state panel item at source not =
     elim (change_of state.plant at source) as (λ o. change_of state.plant at source ≡ o → IsNotMade state at (step state (Told panel item (Connect at source)))) [
-      | None ↦ λ h. not_made state panel item at source h
-      | Some change ↦ λ h. absurd (not (change_of-connectable state.plant at source change h))
+      | None ↦ λ h. subst (IsNotMade state at) (sym (ap (connected state panel at source) h)) (tallied state at)
+      | Some change ↦ λ h. of_permitted change h (are_permitted state.owners (device_of state.plant panel) (change ∷ [])) refl
     ] refl
-
--- what doesn't connect a place leaves the source that stands there
-keeps-connect : (state : State) (panel item : ℕ) (place at : Point) (source stands : Option ℕ) → IsValid state → place ≢ at → AnswersWith state place stands → AnswersWith (step state (Told panel item (Connect at source))).state place stands
-keeps-connect state panel item place at source stands valid other answers =
-    elim (change_of state.plant at source) as (λ o. change_of state.plant at source ≡ o → AnswersWith (step state (Told panel item (Connect at source))).state place stands) [
-      | None ↦ λ h. subst (λ (s : State). AnswersWith s place stands) (sym (not_made state panel item at source h).state) answers
-      | Some change ↦ λ h. (made state panel item at source change valid h).others place stands other answers
-    ] refl
-
-keeps : (state : State) (place : Point) (request : Request) (stands : Option ℕ) → IsValid state → LeavesAlone place request → AnswersWith state place stands → AnswersWith (step state request).state place stands
-keeps state place (Told panel item (Interrogate at)) stands valid alone answers = answers
-keeps state place (Told panel item (Connect at source)) stands valid alone answers =
-    keeps-connect state panel item place at source stands valid (λ same. alone panel item source (ap (λ (at : Point). Told panel item (Connect at source)) (sym same))) answers
-keeps state place (Told panel item message) stands valid alone answers = answers
-keeps state place (Poll panel item turn) stands valid alone answers = answers
-keeps state place (Leave panel) stands valid alone answers = answers
-
-pub keep : (state : State) (place : Point) (later : List Request) (stands : Option ℕ) → IsValid state → All (LeavesAlone place) later → AnswersWith state place stands → AnswersWith (after state later) place stands
-keep state place [] stands valid alone answers = answers
-keep state place (request ∷ later) stands valid alone answers =
-    keep (step state request).state place later stands (IsValid-step state request valid) (λ k d below. alone (suc k) d (omega arith)) (keeps state place request stands valid (alone 0 request (omega arith)) answers)
-
--- before the first connect, and outside the plant
-pub start-parked : (plant : PlantData) (at : Point) → AnswersWith (start plant) at None
-start-parked plant at = stands-answers (start plant) at None (
-    elim (dest_at plant at.matrix at.level at.dest) as (λ o. option_and_then (λ (dest : ℕ). option_and_then (source_number_of plant) (source_of (start plant).crosspoints dest)) o ≡ None) [
-      | None ↦ refl
-      | Some dest ↦ ap (λ (o : Option Spot). option_and_then (source_number_of plant) (option_map (λ (spot : Spot). spot.source) o)) (finite.get-empty {X = Spot} nat_cmp dest)
-    ])
-
-pub outside-parked : (state : State) (at : Point) → IsNone (dest_at state.plant at.matrix at.level at.dest) → AnswersWith state at None
-outside-parked state at none = stands-answers state at None (
-    elim (dest_at state.plant at.matrix at.level at.dest) as (λ o. IsNone o → option_and_then (λ (dest : ℕ). option_and_then (source_number_of state.plant) (source_of state.crosspoints dest)) o ≡ None) [
-      | None ↦ λ e. refl
-      | Some dest ↦ λ e. cc
-    ] none)
-
-same_plant : (state : State) (panel : ℕ) (at : Point) (source : Option ℕ) (change : Option Change) → (connected state panel at source change).state.plant ≡ state.plant
-same_plant state panel at source None = refl
-same_plant state panel at source (Some change) = refl
-
--- no step changes the plant
-pub plant-step : (state : State) (request : Request) → (step state request).state.plant ≡ state.plant
-plant-step state (Told panel item (Interrogate at)) = refl
-plant-step state (Told panel item (Connect at source)) = same_plant state panel at source (change_of state.plant at source)
-plant-step state (Told panel item message) = refl
-plant-step state (Poll panel item turn) = refl
-plant-step state (Leave panel) = refl
+  where
+    of_permitted : (change : Change) → change_of state.plant at source ≡ Some change → (b : Bool) → are_permitted state.owners (device_of state.plant panel) (change ∷ []) ≡ b → IsNotMade state at (step state (Told panel item (Connect at source)))
+    of_permitted change h true permitted = absurd (not (change-may state panel at source change h permitted))
+    of_permitted change h false kept = subst (IsNotMade state at) (sym (connected-kept state panel item at source change h kept)) (tallied state at)

@@ -1,34 +1,59 @@
 -- Which states are valid, and what that says of the sources in them.
-use Rattle.std.proofs.Common.{◌≡◌, ℕ, ◌<◌, true, false, not, cond, List, [], ◌∷◌, length, All, filter, Option, Some, None, IfSome, suc, refl, sym, ap, subst, ◌∙◌, arith}
-use Rattle.std.specs.Option.{option_map, option_and_then}
+use Rattle.std.proofs.Common.{◌≡◌, ◌≢◌, ℕ, ◌<◌, ◌≤◌, Bool, true, false, not, cond, List, [], ◌∷◌, ◌++◌, length, map, set, get_or, All, filter, Option, Some, None, IfSome, suc, inl, inr, refl, sym, ap, subst, ◌∙◌, arith}
+use Rattle.std.specs.Prelude.{◌==◌, slice_get}
+use Rattle.std.specs.Option.{option_map, option_map_or, option_and_then}
 use Rattle.std.specs.Ordering.{nat_cmp, eq_by_cmp}
 use Rattle.std.specs.Cmp.{nat_cmp_total, unsigned_tied}
 use Rattle.std.specs.FinMap as finite
-use Rattle.std.proofs.lemmas.Bool.{eqb-true}
-use Rattle.std.proofs.lemmas.List.Elements.{All-nil, All-push, All-filter}
+use Rattle.std.proofs.lemmas.Bool.{eqb-true, cases_eq, cases_lt}
+use Rattle.std.proofs.lemmas.List.{get_or-set_same, get_or-set_other, get_or_past, length-set, length-replicate, get_or-replicate}
+use Rattle.std.proofs.lemmas.Option.{slice_get_past, slice_get-get_or}
+use Rattle.std.proofs.lemmas.List.Elements.{All-nil, All-push, All-filter, All-map}
 use Rattle.swp08_messages.specs.declared.point.Point.{Point}
+use Rattle.swp08_messages.specs.declared.message.Message.TheVariants.{Store}
+use Rattle.plant_config.specs.Limits.{last_device}
 use Rattle.plant_config.specs.Plant.{PlantData, destinations_of, sources_of}
 use Rattle.plant_config.specs.IsPlant.{IsPlant}
 use Rattle.plant_config.specs.Sites.{dest_at, source_at}
 use Rattle.plant_config.specs.declared.records.Change.{Change}
+use Rattle.plant_config.specs.declared.records.Panel.{Panel}
 use Rattle.plant_config.proofs.SiteLemmas.{dest_at-below, source_at-below}
+use Rattle.crosspoint_state.specs.Crosspoints.{Crosspoints, source_of, is_idle, released, given, all_given, applied}
+use Rattle.crosspoint_state.specs.declared.spot.Spot.{Spot}
+use Rattle.protects.specs.Owners.{Owners, allows, may_lift, taken, lifted}
+use Rattle.salvo_groups.specs.Limits.{salvo_limit}
+use Rattle.salvo_groups.specs.Groups as salvos
+use Rattle.salvo_groups.specs.Groups.{Group, AreGroups, group_of, has_entry, may_store, with_changed, stored, with_store, with_clear}
+use Rattle.salvo_groups.proofs.AllGroups.{AreGroups-start, AreGroups-store, AreGroups-clear}
 use Rattle.change_boards.specs.Board.{Board}
 use Rattle.change_boards.specs.Notices.{with_take, with_leave}
 use Rattle.change_boards.specs.Laws.{AreBoards}
+use Rattle.change_boards.specs.declared.sort.Sort.{Sort}
 use Rattle.change_boards.proofs.StayBoards.{AreBoards-start, AreBoards-take, AreBoards-leave}
-use Rattle.plant_core.specs.State.{State, Spot, Crosspoints, IsCrosspoint, IsChangeOf, IsValid, start, source_of, is_idle, released, given, all_given, applied}
-use Rattle.plant_core.specs.RowsInside.{written}
-use Rattle.plant_core.specs.Step.{wanted, change_of, noticed, changed}
-use Rattle.plant_core.proofs.Noticed.{NoProtects, AreBoards-noticed, no_protects-start, no_protects-noticed, no_protects-take, no_protects-leave}
+use Rattle.plant_core.specs.State.{State, IsCrosspoint, AreCrosspoints, HaveNoTies, AreOwners, IsChangeOf, IsValid, start, device_of}
+use Rattle.plant_core.specs.Noticed.{marked_for_others, all_marked}
+use Rattle.plant_core.specs.Connects.{wanted, change_of}
+use Rattle.plant_core.proofs.Noticed.{AreBoards-others, AreBoards-marked}
 
 pub IsValid-start : (plant : PlantData) → IsPlant plant → IsValid (start plant)
 IsValid-start plant is = record {
   is_plant = is;
   is_crosspoint = λ dest spot h. let parked = finite.get-empty {X = Spot} nat_cmp dest in cc;
   ties = λ dest spot h. let parked = finite.get-empty {X = Spot} nat_cmp dest in cc;
+  owners = λ dest device h. let parked = finite.get-empty {X = ℕ} nat_cmp dest in cc;
+  groups = AreGroups-start;
+  changes = λ number. none_stored number;
   boards = AreBoards-start (length plant.panels) (destinations_of plant);
-  no_protects = no_protects-start (length plant.panels);
 }
+  where
+    none_stored : (number : ℕ) → All (IsChangeOf plant) (group_of salvos.start number)
+    none_stored number =
+        let empty : group_of salvos.start number ≡ [] =
+        elim (cases_lt number salvo_limit) [
+          | inl within ↦ get_or-replicate salvo_limit number [] [] within
+          | inr past ↦ get_or_past salvos.start number [] (omega (arith, past, length-replicate {A = Group} salvo_limit []))
+        ] in
+        subst (All (IsChangeOf plant)) (sym empty) (All-nil (IsChangeOf plant))
 
 -- a source that stands somewhere is of the plant
 pub IsCrosspoint-below : (plant : PlantData) (dest source : ℕ) → IsPlant plant → IsCrosspoint plant dest source → source < sources_of plant
@@ -43,108 +68,180 @@ source_of-spot crosspoints dest source h =
       | Some spot ↦ λ e. (spot, refl, cc)
     ] h
 
-module _ (plant : PlantData) (boards : List Board) where
-  -- what holds of each spot holds of each behind an insert, where it holds of the new one
-  spots-insert : (P : ℕ → Spot → Type 0) (crosspoints : Crosspoints) (dest : ℕ) (spot : Spot) → ((q : ℕ) (s : Spot) → finite.get crosspoints q ≡ Some s → P q s) → P dest spot →
-      (q : ℕ) (s : Spot) → finite.get (finite.insert crosspoints dest spot) q ≡ Some s → P q s
-  spots-insert P crosspoints dest spot all new q s h =
-      elim (eq_by_cmp nat_cmp q dest) as (λ b. eq_by_cmp nat_cmp q dest ≡ b → cond b (Some spot) (finite.get crosspoints q) ≡ Some s → P q s) [
-        | true ↦ λ tied e.
-            let here : q ≡ dest = eqb-true q dest (sym (unsigned_tied q dest) ∙ tied) in
-            let same : spot ≡ s = cc in
-            subst (λ q. P q s) (sym here) (subst (P dest) same new)
-        | false ↦ λ apart e. all q s e
-      ] refl (sym (finite.get-insert nat_cmp_total crosspoints dest spot q) ∙ h)
+-- what holds of each value of a map holds of each behind an insert, where it holds of the new one, and behind a remove
+values-insert : {V : Type 0} (P : ℕ → V → Type 0) (values : finite.FinMap nat_cmp V) (dest : ℕ) (value : V) → ((q : ℕ) (v : V) → finite.get values q ≡ Some v → P q v) → P dest value →
+    (q : ℕ) (v : V) → finite.get (finite.insert values dest value) q ≡ Some v → P q v
+values-insert {V} P values dest value all new q v h =
+    elim (eq_by_cmp nat_cmp q dest) as (λ b. eq_by_cmp nat_cmp q dest ≡ b → cond b (Some value) (finite.get values q) ≡ Some v → P q v) [
+      | true ↦ λ tied e.
+          let here : q ≡ dest = eqb-true q dest (sym (unsigned_tied q dest) ∙ tied) in
+          let same : value ≡ v = cc in
+          subst (λ q. P q v) (sym here) (subst (P dest) same new)
+      | false ↦ λ apart e. all q v e
+    ] refl (sym (finite.get-insert nat_cmp_total values dest value q) ∙ h)
 
-  spots-remove : (P : ℕ → Spot → Type 0) (crosspoints : Crosspoints) (dest : ℕ) → ((q : ℕ) (s : Spot) → finite.get crosspoints q ≡ Some s → P q s) →
-      (q : ℕ) (s : Spot) → finite.get (finite.remove crosspoints dest) q ≡ Some s → P q s
-  spots-remove P crosspoints dest all q s h =
-      elim (eq_by_cmp nat_cmp q dest) as (λ b. cond b None (finite.get crosspoints q) ≡ Some s → P q s) [
-        | true ↦ λ e. cc
-        | false ↦ λ e. all q s e
-      ] (sym (finite.get-remove nat_cmp_total crosspoints dest q) ∙ h)
+values-remove : {V : Type 0} (P : ℕ → V → Type 0) (values : finite.FinMap nat_cmp V) (dest : ℕ) → ((q : ℕ) (v : V) → finite.get values q ≡ Some v → P q v) →
+    (q : ℕ) (v : V) → finite.get (finite.remove values dest) q ≡ Some v → P q v
+values-remove {V} P values dest all q v h =
+    elim (eq_by_cmp nat_cmp q dest) as (λ b. cond b None (finite.get values q) ≡ Some v → P q v) [
+      | true ↦ λ e. cc
+      | false ↦ λ e. all q v e
+    ] (sym (finite.get-remove nat_cmp_total values dest q) ∙ h)
 
-  IsValid-insert : (crosspoints : Crosspoints) (dest source : ℕ) → IsValid (record { plant = plant; boards = boards; crosspoints = crosspoints }) → IsCrosspoint plant dest source →
-      IsValid (record { plant = plant; boards = boards; crosspoints = finite.insert crosspoints dest (record { source = source; tie = None }) })
-  IsValid-insert crosspoints dest source valid is = record {
-    is_plant = valid.is_plant;
-    is_crosspoint = spots-insert (λ q s. IsCrosspoint plant q s.source) crosspoints dest _ valid.is_crosspoint is;
-    ties = spots-insert (λ q s. s.tie ≡ None) crosspoints dest _ valid.ties refl;
-    boards = valid.boards;
-    no_protects = valid.no_protects;
-  }
+-- what holds of each spot, and of each that a change gives, holds of each behind the changes
+module _ (P : ℕ → Spot → Type 0) where
+  abbrev Holds : Crosspoints → Type 0
+  Holds crosspoints = (dest : ℕ) (spot : Spot) → finite.get crosspoints dest ≡ Some spot → P dest spot
 
-  IsValid-remove : (crosspoints : Crosspoints) (dest : ℕ) → IsValid (record { plant = plant; boards = boards; crosspoints = crosspoints }) →
-      IsValid (record { plant = plant; boards = boards; crosspoints = finite.remove crosspoints dest })
-  IsValid-remove crosspoints dest valid = record {
-    is_plant = valid.is_plant;
-    is_crosspoint = spots-remove (λ q s. IsCrosspoint plant q s.source) crosspoints dest valid.is_crosspoint;
-    ties = spots-remove (λ q s. s.tie ≡ None) crosspoints dest valid.ties;
-    boards = valid.boards;
-    no_protects = valid.no_protects;
-  }
+  abbrev Gives : Change → Type 0
+  Gives change = IfSome change.source (λ source. P change.dest (record { source = source; tie = None }))
 
-  pub IsValid-written : (crosspoints : Crosspoints) (dest : ℕ) (source : Option ℕ) → IsValid (record { plant = plant; boards = boards; crosspoints = crosspoints }) → IfSome source (IsCrosspoint plant dest) →
-      IsValid (record { plant = plant; boards = boards; crosspoints = written crosspoints dest source })
-  IsValid-written crosspoints dest None valid is = IsValid-remove crosspoints dest valid
-  IsValid-written crosspoints dest (Some source) valid is = IsValid-insert crosspoints dest source valid is
+  holds-released : (crosspoints : Crosspoints) (changes : List Change) → Holds crosspoints → Holds (released crosspoints changes)
+  holds-released crosspoints [] holds = holds
+  holds-released crosspoints (change ∷ changes) holds =
+      holds-released (finite.remove crosspoints change.dest) changes (values-remove P crosspoints change.dest holds)
 
-  IsValid-released : (crosspoints : Crosspoints) (changes : List Change) → IsValid (record { plant = plant; boards = boards; crosspoints = crosspoints }) →
-      IsValid (record { plant = plant; boards = boards; crosspoints = released crosspoints changes })
-  IsValid-released crosspoints [] valid = valid
-  IsValid-released crosspoints (change ∷ changes) valid =
-      IsValid-released (finite.remove crosspoints change.dest) changes (IsValid-remove crosspoints change.dest valid)
+  holds-given : (crosspoints : Crosspoints) (dest : ℕ) (source : Option ℕ) → Holds crosspoints → IfSome source (λ source. P dest (record { source = source; tie = None })) → Holds (given crosspoints dest source)
+  holds-given crosspoints dest None holds gives = holds
+  holds-given crosspoints dest (Some source) holds gives = values-insert P crosspoints dest (record { source = source; tie = None }) holds gives
 
-  IsValid-given : (crosspoints : Crosspoints) (dest : ℕ) (source : Option ℕ) → IsValid (record { plant = plant; boards = boards; crosspoints = crosspoints }) → IfSome source (IsCrosspoint plant dest) →
-      IsValid (record { plant = plant; boards = boards; crosspoints = given crosspoints dest source })
-  IsValid-given crosspoints dest None valid is = valid
-  IsValid-given crosspoints dest (Some source) valid is = IsValid-insert crosspoints dest source valid is
+  holds-all_given : (crosspoints : Crosspoints) (changes : List Change) → Holds crosspoints → All Gives changes → Holds (all_given crosspoints changes)
+  holds-all_given crosspoints [] holds all = holds
+  holds-all_given crosspoints (change ∷ changes) holds all =
+      holds-all_given (given crosspoints change.dest change.source) changes (holds-given crosspoints change.dest change.source holds (all 0 change (omega arith))) (λ k d below. all (suc k) d (omega arith))
 
-  IsValid-all_given : (crosspoints : Crosspoints) (changes : List Change) → IsValid (record { plant = plant; boards = boards; crosspoints = crosspoints }) → All (IsChangeOf plant) changes →
-      IsValid (record { plant = plant; boards = boards; crosspoints = all_given crosspoints changes })
-  IsValid-all_given crosspoints [] valid all = valid
-  IsValid-all_given crosspoints (change ∷ changes) valid all =
-      let first : IsChangeOf plant change = all 0 change (omega arith) in
-      IsValid-all_given (given crosspoints change.dest change.source) changes (IsValid-given crosspoints change.dest change.source valid first.source) (λ k d below. all (suc k) d (omega arith))
-
-  -- a list of changes keeps a state valid
-  pub IsValid-applied : (crosspoints : Crosspoints) (changes : List Change) → IsValid (record { plant = plant; boards = boards; crosspoints = crosspoints }) → All (IsChangeOf plant) changes →
-      IsValid (record { plant = plant; boards = boards; crosspoints = applied crosspoints changes })
-  IsValid-applied crosspoints changes valid all =
+  holds-applied : (crosspoints : Crosspoints) (changes : List Change) → Holds crosspoints → All Gives changes → Holds (applied crosspoints changes)
+  holds-applied crosspoints changes holds all =
       let busy : List Change = filter (λ (change : Change). not (is_idle crosspoints change)) changes in
-      IsValid-all_given (released crosspoints busy) busy (IsValid-released crosspoints busy valid) (All-filter _ (IsChangeOf plant) changes all)
+      holds-all_given (released crosspoints busy) busy (holds-released crosspoints busy holds) (All-filter _ Gives changes all)
 
--- other boards, and the crosspoints as they are
-IsValid-boards : (state : State) (boards : List Board) → IsValid state → AreBoards boards (length state.plant.panels) (destinations_of state.plant) → NoProtects boards → IsValid (record state { boards = boards })
-IsValid-boards state boards valid are none = record {
+-- one part of a valid state is replaced
+pub IsValid-applied : (state : State) (changes : List Change) → IsValid state → All (IsChangeOf state.plant) changes → IsValid (record state { crosspoints = applied state.crosspoints changes })
+IsValid-applied state changes valid all = record {
+  is_plant = valid.is_plant;
+  is_crosspoint = holds-applied (λ dest spot. IsCrosspoint state.plant dest spot.source) state.crosspoints changes valid.is_crosspoint (λ k d below. gives_source (get_or changes k d) (all k d below));
+  ties = holds-applied (λ dest spot. spot.tie ≡ None) state.crosspoints changes valid.ties (λ k d below. gives_no_tie (get_or changes k d).source);
+  owners = valid.owners;
+  groups = valid.groups;
+  changes = valid.changes;
+  boards = valid.boards;
+}
+  where
+    gives_source : (change : Change) → IsChangeOf state.plant change → IfSome change.source (λ source. IsCrosspoint state.plant change.dest source)
+    gives_source change is = is.source
+
+    gives_no_tie : (source : Option ℕ) → IfSome source (λ source. (let spot : Spot = record { source = source; tie = None } in spot.tie) ≡ None)
+    gives_no_tie None = tt
+    gives_no_tie (Some source) = refl
+
+pub IsValid-boards : (state : State) (boards : List Board) → IsValid state → AreBoards boards (length state.plant.panels) (destinations_of state.plant) → IsValid (record state { boards = boards })
+IsValid-boards state boards valid are = record {
   is_plant = valid.is_plant;
   is_crosspoint = valid.is_crosspoint;
   ties = valid.ties;
+  owners = valid.owners;
+  groups = valid.groups;
+  changes = valid.changes;
   boards = are;
-  no_protects = none;
 }
 
--- a change of a panel, a poll and a leave keep a state valid
-pub IsValid-noticed : (state : State) (asker dest : ℕ) → dest < destinations_of state.plant → IsValid state → IsValid (record state { boards = noticed state.boards asker dest })
-IsValid-noticed state asker dest within valid =
-    IsValid-boards state (noticed state.boards asker dest) valid (AreBoards-noticed state.boards _ _ asker dest within valid.boards) (no_protects-noticed state.boards asker dest valid.no_protects)
+pub IsValid-owners : (state : State) (owners : Owners) → IsValid state → AreOwners state.plant owners → IsValid (record state { owners = owners })
+IsValid-owners state owners valid are = record {
+  is_plant = valid.is_plant;
+  is_crosspoint = valid.is_crosspoint;
+  ties = valid.ties;
+  owners = are;
+  groups = valid.groups;
+  changes = valid.changes;
+  boards = valid.boards;
+}
 
-pub IsValid-changed : (state : State) (asker : ℕ) (change : Change) → IsValid state → IsChangeOf state.plant change → IsValid (changed state asker change)
-IsValid-changed state asker change valid is =
-    let made : State = record state { crosspoints = applied state.crosspoints (change ∷ []) } in
-    let made_is : IsValid made = IsValid-applied state.plant state.boards state.crosspoints (change ∷ []) valid (All-push (IsChangeOf state.plant) [] change (All-nil (IsChangeOf state.plant)) is) in
-    elim (is_idle state.crosspoints change) as (λ b. IsValid (record made { boards = cond b state.boards (noticed state.boards asker change.dest) })) [
-      | true ↦ made_is
-      | false ↦ IsValid-noticed made asker change.dest is.dest made_is
-    ]
+IsValid-groups : (state : State) (groups : List Group) → IsValid state → AreGroups groups → ((number : ℕ) → All (IsChangeOf state.plant) (group_of groups number)) → IsValid (record state { groups = groups })
+IsValid-groups state groups valid are changes = record {
+  is_plant = valid.is_plant;
+  is_crosspoint = valid.is_crosspoint;
+  ties = valid.ties;
+  owners = valid.owners;
+  groups = are;
+  changes = changes;
+  boards = valid.boards;
+}
+
+-- marks, polls and leaves keep a state valid
+pub IsValid-others : (state : State) (asker dest : ℕ) (sort : Sort) → dest < destinations_of state.plant → IsValid state → IsValid (record state { boards = marked_for_others state.boards asker dest sort })
+IsValid-others state asker dest sort within valid =
+    IsValid-boards state (marked_for_others state.boards asker dest sort) valid (AreBoards-others state.boards _ _ asker dest sort within valid.boards)
+
+pub IsValid-marked : (state : State) (dests : List ℕ) → All (λ dest. dest < destinations_of state.plant) dests → IsValid state → IsValid (record state { boards = all_marked state.boards dests })
+IsValid-marked state dests within valid =
+    IsValid-boards state (all_marked state.boards dests) valid (AreBoards-marked dests state.boards _ _ within valid.boards)
 
 pub IsValid-take : (state : State) (panel : ℕ) → IsValid state → IsValid (record state { boards = with_take state.boards panel })
-IsValid-take state panel valid =
-    IsValid-boards state (with_take state.boards panel) valid (AreBoards-take state.boards _ _ panel valid.boards) (no_protects-take state.boards panel valid.no_protects)
+IsValid-take state panel valid = IsValid-boards state (with_take state.boards panel) valid (AreBoards-take state.boards _ _ panel valid.boards)
 
 pub IsValid-leave : (state : State) (panel : ℕ) → IsValid state → IsValid (record state { boards = with_leave state.boards panel })
-IsValid-leave state panel valid =
-    IsValid-boards state (with_leave state.boards panel) valid (AreBoards-leave state.boards _ _ panel valid.boards) (no_protects-leave state.boards panel valid.no_protects)
+IsValid-leave state panel valid = IsValid-boards state (with_leave state.boards panel) valid (AreBoards-leave state.boards _ _ panel valid.boards)
+
+-- a panel's device has a number that panels may have
+pub device-within : (plant : PlantData) (panel : ℕ) → IsPlant plant → device_of plant panel ≤ last_device
+device-within plant panel is = elim (cases_lt panel (length plant.panels)) [
+  | inl within ↦
+      let some : Panel = record { device = 0; port = 0; master = false } in
+      subst (λ o. option_map_or (λ (found : Panel). found.device) o 0 ≤ last_device) (sym (slice_get-get_or plant.panels panel some within)) (is.each_panel panel some within).device
+  | inr past ↦
+      subst (λ o. option_map_or (λ (found : Panel). found.device) o 0 ≤ last_device) (sym (slice_get_past plant.panels panel past)) (omega arith)
+]
+
+-- takes and lifts leave owners that may be
+pub AreOwners-taken : (plant : PlantData) (owners : Owners) (device dest : ℕ) → dest < destinations_of plant → device ≤ last_device → AreOwners plant owners → AreOwners plant (taken owners device dest)
+AreOwners-taken plant owners device dest within few are =
+    elim (allows owners device dest) as (λ b. AreOwners plant (cond b (finite.insert owners dest device) owners)) [
+      | true ↦ values-insert (λ dest device. (dest < destinations_of plant) × (device ≤ last_device)) owners dest device are (within, few)
+      | false ↦ are
+    ]
+
+pub AreOwners-lifted : (plant : PlantData) (owners : Owners) (device : ℕ) (master : Bool) (dest : ℕ) → AreOwners plant owners → AreOwners plant (lifted owners device master dest)
+AreOwners-lifted plant owners device master dest are =
+    elim (may_lift owners device master dest) as (λ b. AreOwners plant (cond b (finite.remove owners dest) owners)) [
+      | true ↦ values-remove (λ dest device. (dest < destinations_of plant) × (device ≤ last_device)) owners dest are
+      | false ↦ are
+    ]
+
+-- a group is replaced: what holds of each group, and of the new one, holds of each
+each_group : (P : Group → Type 0) (groups : List Group) (number : ℕ) (group : Group) → P [] → ((n : ℕ) → P (group_of groups n)) → P group → (n : ℕ) → P (group_of (set groups number group) n)
+each_group P groups number group none all new n = elim (cases_eq n number) [
+  | inl here ↦ elim (cases_lt number (length groups)) [
+    | inl within ↦ subst P (sym (ap (group_of (set groups number group)) here ∙ get_or-set_same groups number group [] within)) new
+    | inr past ↦ subst P (sym (get_or_past (set groups number group) n [] (omega (arith, here, past, length-set groups number group)))) none
+  ]
+  | inr other ↦ subst P (sym (get_or-set_other groups number n group [] other)) (all n)
+]
+
+-- a stored change is of the plant as the others are
+All-stored : (P : Change → Type 0) (group : Group) (change : Change) → All P group → P change → All P (stored group change)
+All-stored P group change all new =
+    elim (has_entry group change.dest) as (λ b. All P (cond b (with_changed group change) (group ++ change ∷ []))) [
+      | true ↦ All-map P (λ (entry : Change). cond (entry.dest == change.dest) change entry) group (λ k d below. one (get_or group k d) (all k d below))
+      | false ↦ All-push P group change all new
+    ]
+  where
+    one : (entry : Change) → P entry → P (cond (entry.dest == change.dest) change entry)
+    one entry is = elim (entry.dest == change.dest) as (λ b. P (cond b change entry)) [ true ↦ new | false ↦ is ]
+
+pub IsValid-store : (state : State) (salvo : ℕ) (change : Change) → IsValid state → IsChangeOf state.plant change → IsValid (record state { groups = with_store state.groups salvo change })
+IsValid-store state salvo change valid is =
+    IsValid-groups state (with_store state.groups salvo change) valid (AreGroups-store state.groups salvo change valid.groups)
+    (elim (may_store (group_of state.groups salvo) change) as (λ b. (n : ℕ) → All (IsChangeOf state.plant) (group_of (cond b (set state.groups salvo (stored (group_of state.groups salvo) change)) state.groups) n)) [
+      | true ↦
+          each_group (All (IsChangeOf state.plant)) state.groups salvo (stored (group_of state.groups salvo) change) (All-nil (IsChangeOf state.plant)) valid.changes
+          (All-stored (IsChangeOf state.plant) (group_of state.groups salvo) change (valid.changes salvo) is)
+      | false ↦ valid.changes
+    ])
+
+pub IsValid-clear : (state : State) (salvo : ℕ) → IsValid state → IsValid (record state { groups = with_clear state.groups salvo })
+IsValid-clear state salvo valid =
+    IsValid-groups state (with_clear state.groups salvo) valid (AreGroups-clear state.groups salvo valid.groups)
+    (each_group (All (IsChangeOf state.plant)) state.groups salvo [] (All-nil (IsChangeOf state.plant)) valid.changes (All-nil (IsChangeOf state.plant)))
 
 -- what a connect asks for is of the level of its destination
 wanted-IfSome : (plant : PlantData) (at : Point) (source carried : Option ℕ) (dest : ℕ) → dest_at plant at.matrix at.level at.dest ≡ Some dest → wanted plant at source ≡ Some carried → IfSome carried (IsCrosspoint plant dest)

@@ -2,7 +2,7 @@
 use Rattle.std.specs.Prelude.{◌≡◌, ℕ, ◌≤◌, max}
 use Rattle.std.specs.List.{fold}
 use Rattle.swp08_messages.specs.declared.message.Message.{Message}
-use Rattle.swp08_messages.specs.declared.message.Message.TheVariants.{DumpAsk}
+use Rattle.swp08_messages.specs.declared.message.Message.TheVariants.{DumpAsk, Store}
 use Rattle.swp08_messages.specs.Text.{IsPoint, IsSource, InRange}
 use Rattle.plant_config.specs.Plant.{PlantData}
 use Rattle.plant_core.specs.declared.request.Request.{Request}
@@ -22,8 +22,10 @@ abbrev pub told_count : PlantData → Message → ℕ
 told_count plant (DumpAsk matrix level) = dest_count plant matrix level
 told_count plant message = 1
 
--- A message that asks something has its answers, a poll at most one, and a leave none.
+-- A message that asks something has its answers, but the store of an entry may have none. A poll has at most one, and a
+-- leave none.
 abbrev pub IsAnswerCount : PlantData → Request → ℕ → Type 0
+IsAnswerCount plant (Told panel item (Store at source salvo)) count = count ≤ 1
 IsAnswerCount plant (Told panel item message) count = count ≡ told_count plant message
 IsAnswerCount plant (Poll panel item turn) count = count ≤ 1
 IsAnswerCount plant (Leave panel) count = count ≡ 0

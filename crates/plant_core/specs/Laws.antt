@@ -1,9 +1,9 @@
 -- What is true of every state and every step, said by places and answers, without the step's cases.
-use Rattle.std.specs.Prelude.{◌≡◌, ◌≢◌, ℕ, ◌≤◌, List, [], ◌∷◌, length, All, slice_get, Option, Some, None, IfSome, IsSome, IsNone}
+use Rattle.std.specs.Prelude.{◌≡◌, ◌≢◌, ℕ, ◌≤◌, false, List, [], ◌∷◌, length, All, slice_get, Option, Some, None, IfSome, IsSome, IsNone}
 use Rattle.std.specs.FinMap.{get}
 use Rattle.swp08_messages.specs.declared.point.Point.{Point}
 use Rattle.swp08_messages.specs.declared.message.Message.{Message}
-use Rattle.swp08_messages.specs.declared.message.Message.TheVariants.{Interrogate, Connect, Tally, Connected, DumpAsk}
+use Rattle.swp08_messages.specs.declared.message.Message.TheVariants.{Interrogate, Connect, Tally, Connected, DumpAsk, ProtectAsk, EntryAsk, Go}
 use Rattle.plant_config.specs.Plant.{PlantData}
 use Rattle.plant_config.specs.IsPlant.{IsPlant}
 use Rattle.plant_config.specs.Sites.{dest_at, source_at}
@@ -13,7 +13,8 @@ use Rattle.plant_core.specs.declared.request.Request.TheVariants.{Told, Poll}
 use Rattle.history_lock.specs.Step.{Stepped}
 use Rattle.plant_core.specs.declared.answer.Answer.{Answer}
 use Rattle.plant_core.specs.declared.answer.Answer.TheVariants.{Say, Dumped}
-use Rattle.plant_core.specs.State.{State, IsValid, IsChangeOf, Fits, start, applied}
+use Rattle.crosspoint_state.specs.Crosspoints.{applied}
+use Rattle.plant_core.specs.State.{State, IsValid, IsChangeOf, Fits, start, device_of, owner_at}
 use Rattle.plant_core.specs.Step.{step}
 use Rattle.plant_core.specs.Answer.{IsSayable, IsAnswerCount, room_of}
 
@@ -26,6 +27,16 @@ AnswersWith state at source = (panel item : ℕ)
 pub record IsConnectable (plant : PlantData) (at : Point) (source : Option ℕ) : Type 0 where
   pub has_place : IsSome (dest_at plant at.matrix at.level at.dest)
   pub has_source : IfSome source (λ number. IsSome (source_at plant at.matrix at.level number))
+
+-- A panel may change a place where it is in the plant, and no device but the panel's protects it.
+pub record IsFree (state : State) (panel : ℕ) (at : Point) : Type 0 where
+  pub has_place : IsSome (dest_at state.plant at.matrix at.level at.dest)
+  pub owner : IfSome (owner_at state at) (λ device. device ≡ device_of state.plant panel)
+
+-- A panel may give a place a source where that may be given, and the panel may change the place.
+pub record MayConnect (state : State) (panel : ℕ) (at : Point) (source : Option ℕ) : Type 0 where
+  pub connectable : IsConnectable state.plant at source
+  pub free : IsFree state panel at
 
 -- Every destination but that of this place carries what it carried.
 abbrev pub OthersCarryAsBefore : State → Point → State → Type 0
@@ -79,10 +90,11 @@ abbrev pub after : State → List Request → State
 after state [] = state
 after state (request ∷ requests) = after (step state request).state requests
 
--- A request isn't a connect of this place.
+-- A request isn't a connect of this place, nor a go that takes a group.
 abbrev pub LeavesAlone : Point → Request → Type 0
 LeavesAlone at request =
-    (panel item : ℕ) (source : Option ℕ) → request ≢ Told panel item (Connect at source)
+    ((panel item : ℕ) (source : Option ℕ) → request ≢ Told panel item (Connect at source))
+    × ((panel item salvo : ℕ) → request ≢ Told panel item (Go false salvo))
 
 -- the state at the start of a plant is valid
 abbrev pub StartsAreValid : Type 0
@@ -104,31 +116,39 @@ ChangesStayValid = (state : State) (changes : List Change)
     → IsValid state → All (IsChangeOf state.plant) changes
     → IsValid (record state { crosspoints = applied state.crosspoints changes })
 
--- a connect that may be made is made
+-- a connect that its panel may make is made
 abbrev pub ConnectablesAreMade : Type 0
 ConnectablesAreMade = (state : State) (panel item : ℕ) (at : Point) (source : Option ℕ)
-    → IsValid state → IsConnectable state.plant at source
+    → IsValid state → MayConnect state panel at source
     → IsMade state at source (step state (Told panel item (Connect at source)))
 
 -- every other connect isn't made
 abbrev pub OthersAreNotMade : Type 0
 OthersAreNotMade = (state : State) (panel item : ℕ) (at : Point) (source : Option ℕ)
-    → ¬ IsConnectable state.plant at source
+    → ¬ MayConnect state panel at source
     → IsNotMade state at (step state (Told panel item (Connect at source)))
 
 -- A connect that is made stands: whoever interrogates its place is answered with its source, whatever was asked meanwhile
--- but a connect of that place.
+-- but a connect of that place and a go that takes a group.
 abbrev pub ConnectsStand : Type 0
-ConnectsStand =
-    (state : State) (panel item : ℕ) (at : Point) (source : Option ℕ) (later : List Request)
-    → IsValid state → IsConnectable state.plant at source → All (LeavesAlone at) later
+ConnectsStand = (state : State) (panel item : ℕ) (at : Point) (source : Option ℕ)
+    (later : List Request)
+    → IsValid state → MayConnect state panel at source → All (LeavesAlone at) later
     → (let new : State = (step state (Told panel item (Connect at source))).state
     in AnswersWith (after new later) at source)
 
--- an interrogate changes nothing
-abbrev pub InterrogatesChangeNothing : Type 0
-InterrogatesChangeNothing = (state : State) (panel item : ℕ) (at : Point)
-    → (step state (Told panel item (Interrogate at))).state ≡ state
+-- A message only asks: for a source, an owner, a level's sources, or an entry of a group.
+abbrev pub OnlyAsks : Message → Type 0
+OnlyAsks (Interrogate at) = Unit {0}
+OnlyAsks (ProtectAsk at) = Unit {0}
+OnlyAsks (DumpAsk matrix level) = Unit {0}
+OnlyAsks (EntryAsk salvo index) = Unit {0}
+OnlyAsks message = ⊥
+
+-- a message that only asks changes nothing
+abbrev pub QuestionsChangeNothing : Type 0
+QuestionsChangeNothing = (state : State) (panel item : ℕ) (message : Message)
+    → OnlyAsks message → (step state (Told panel item message)).state ≡ state
 
 -- at the start of a plant each interrogate is answered with 'parked'
 abbrev pub StartsAnswerParked : Type 0

@@ -1,6 +1,6 @@
 //! What a dump of a level is answered.
 
-ghost use Rattle.std.specs.Prelude.{◌≡◌, ◌<◌, ◌≤◌, ◌==◌, ◌&&◌, [], ◌∷◌, ◌++◌, length, find};
+ghost use Rattle.std.specs.Prelude.{◌≡◌, ◌<◌, ◌≤◌, [], ◌∷◌, ◌++◌, length};
 ghost use Rattle.plant_core.specs.State.{IsValid};
 ghost use Rattle.plant_core.specs.Step.{dest_count, dumped, dumped_at};
 ghost use Rattle.plant_core.specs.Answer.{room_of};
@@ -8,7 +8,6 @@ ghost use Rattle.plant_core.specs.Answer.{room_of};
 use crate::answer::Answer;
 use crate::state::PlantState;
 use history_lock::OutBox;
-use plant_config::Level;
 use swp08_messages::Point;
 
 impl PlantState {
@@ -51,19 +50,9 @@ impl PlantState {
         ensures within { result ≤ room_of self.now.plant }
         ensures valid { IsValid self.now }
     {
-        match level_at(self.plant().levels(), matrix, level) {
+        match self.plant.level_at(matrix, level) {
             Some(at) => at.destinations as u16,
             None => 0,
         }
     }
-}
-
-// The level of this matrix and this level number.
-fn level_at(levels: &[Level], matrix: u8, level: u8) -> Option<Level>
-    ensures { result ≡ find (λ at. at.matrix == matrix && at.level == level) levels.now }
-{
-    levels
-        .iter()
-        .copied()
-        .find(|at| at.matrix == matrix && at.level == level)
 }

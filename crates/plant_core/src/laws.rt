@@ -2,7 +2,7 @@
 
 ghost use Rattle.plant_core.specs.Laws.{StartsAreValid, StepsStayValid, StepsKeepThePlant, ChangesStayValid};
 ghost use Rattle.plant_core.specs.Laws.{ConnectablesAreMade, OthersAreNotMade, ConnectsStand};
-ghost use Rattle.plant_core.specs.Laws.{InterrogatesChangeNothing, StartsAnswerParked, OutsidersAnswerParked};
+ghost use Rattle.plant_core.specs.Laws.{QuestionsChangeNothing, StartsAnswerParked, OutsidersAnswerParked};
 ghost use Rattle.plant_core.specs.Laws.{DumpsTellWhatStands};
 ghost use Rattle.plant_core.specs.Laws.{AnswersAreFew, AnswersAreSayable, AnswersFit, RoomsAreBounded};
 ghost use Rattle.plant_core.specs.Laws.{ItemsHaveNoEffect, PollNumbersHaveNoEffect};
@@ -16,23 +16,23 @@ pub fn states_stay_valid()
     ensures changes { ChangesStayValid }
 {}
 
-/// A connect is made exactly where its place is in the plant, and its source is parked or in that level. Else nothing
-/// changes, and the source that stands is the answer.
+/// A connect is made exactly where its place is in the plant, its source is parked or in that level, and no device but the
+/// panel's protects the place. Else nothing changes, and the source that stands is the answer.
 pub fn connects_are_made()
     ensures made { ConnectablesAreMade }
     ensures not_made { OthersAreNotMade }
 {}
 
 /// A connect that is made stands: whatever is asked behind it, each interrogate of its place is answered with its source,
-/// until that place is connected again.
+/// until that place is connected again or a group is taken.
 pub fn connects_stand()
     ensures { ConnectsStand }
 {}
 
-/// An interrogate changes nothing. Before the first connect, and where the plant has no such place, it is answered with
-/// 'parked'.
-pub fn interrogates_only_ask()
-    ensures same { InterrogatesChangeNothing }
+/// A message that only asks changes nothing. Before the first connect, and where the plant has no such place, an interrogate
+/// is answered with 'parked'.
+pub fn questions_only_ask()
+    ensures same { QuestionsChangeNothing }
     ensures first { StartsAnswerParked }
     ensures outside { OutsidersAnswerParked }
 {}
@@ -42,8 +42,8 @@ pub fn dumps_tell_what_stands()
     ensures { DumpsTellWhatStands }
 {}
 
-/// A message that asks for a dump has an answer for each destination of its level, any other that asks something has one,
-/// a poll at most one, and a leave none. From a valid state each answer can be spelled. No request has more answers than
+/// A message that asks for a dump has an answer for each destination of its level, the store of an entry at most one, any
+/// other that asks something has one, a poll at most one, and a leave none. From a valid state each answer can be spelled. No request has more answers than
 /// there has to be room for, and no plant asks for room for more than 1,024.
 pub fn answers_are_few()
     ensures count { AnswersAreFew }

@@ -4,16 +4,21 @@
 #![tactic(auto)]
 
 mod answer;
+mod connect;
 mod dump;
 #[cfg(test)]
 mod example;
+mod hear;
 mod laws;
 mod machine;
 mod notice_laws;
 mod notify;
 mod place;
+mod protect;
+mod protect_laws;
 mod request;
-mod rows;
+mod salvo;
+mod salvo_laws;
 mod state;
 #[cfg(test)]
 mod tests;
@@ -21,11 +26,15 @@ mod tests;
 pub use answer::Answer;
 pub use laws::{
     answers_are_few, connects_are_made, connects_stand, dumps_tell_what_stands,
-    interrogates_only_ask, numbers_have_no_effect, states_stay_valid,
+    numbers_have_no_effect, questions_only_ask, states_stay_valid,
 };
 pub use notice_laws::{
-    connects_give_notice, notices_stand_until_told, polls_go_in_order, polls_tell_one_notice,
+    changes_give_notice, notices_stand_until_told, polls_go_in_order, polls_tell_one_notice,
     whoever_left_hears_nothing,
 };
+pub use protect_laws::{
+    protects_are_lifted, protects_are_made, protects_begin_with_none, protects_hold,
+};
 pub use request::Request;
+pub use salvo_laws::{entries_are_kept, goes_are_answered, goes_are_whole};
 pub use state::PlantState;

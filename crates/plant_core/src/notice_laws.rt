@@ -1,21 +1,23 @@
 //! What is true of the notices of every valid state: who gets them, and who is told for them.
 
-ghost use Rattle.plant_core.specs.NoticeLaws.{ConnectsAreHeard, OthersAreQuiet, OnlyConnectsChange};
+ghost use Rattle.plant_core.specs.NoticeLaws.{SourcesAreHeard, OwnersAreHeard, GoesAreHeard, OthersAreQuiet};
 ghost use Rattle.plant_core.specs.NoticeLaws.{PollsTell, PollsOfNoneAreSilent};
 ghost use Rattle.plant_core.specs.NoticeLaws.{OthersLeaveNotices, NoticesStandUntilTold};
 ghost use Rattle.plant_core.specs.NoticeLaws.{PollsTellInOrder, PollsLeaveTheRest};
 ghost use Rattle.plant_core.specs.NoticeLaws.{LeavesAreHeeded, LeaversStayAway, LeaversHearNothing, LeaversAreServed};
 
-/// A connect that changes a source gives notice to all other panels that haven't left, and to nobody else. One that isn't
-/// made or is idle gives none, and so does every other message.
-pub fn connects_give_notice()
-    ensures heard { ConnectsAreHeard }
+/// A connect that changes a source, and a protect or a lift that changes an owner, gives notice of it to all other panels
+/// that haven't left, and to nobody else. A go gives notice of the sources that it changes to the asker too. What changes
+/// neither a source nor an owner gives none.
+pub fn changes_give_notice()
+    ensures sources { SourcesAreHeard }
+    ensures owners { OwnersAreHeard }
+    ensures goes { GoesAreHeard }
     ensures quiet { OthersAreQuiet }
-    ensures others { OnlyConnectsChange }
 {}
 
-/// A poll of a panel that has a notice tells it of one destination, with the source that stands there, and takes this
-/// notice alone. Where the panel has none, a poll has no answer and changes nothing.
+/// A poll of a panel that has a notice tells it of one destination, with the source that stands there or its owner, and takes
+/// this notice alone. Where the panel has none, a poll has no answer and changes nothing.
 pub fn polls_tell_one_notice()
     ensures told { PollsTell }
     ensures nothing { PollsOfNoneAreSilent }
@@ -28,7 +30,7 @@ pub fn notices_stand_until_told()
     ensures told { NoticesStandUntilTold }
 {}
 
-/// With no other event between, polls tell a panel of its notices in their order, each once, with the sources that stand.
+/// With no other event between, polls tell a panel of its notices in their order, each once, with what stands by then.
 pub fn polls_go_in_order()
     ensures answers { PollsTellInOrder }
     ensures left { PollsLeaveTheRest }

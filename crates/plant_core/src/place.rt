@@ -2,7 +2,7 @@
 //! is of this crate, so none of their traits can be implemented here.
 
 ghost use Rattle.std.specs.Prelude.{◌≡◌};
-ghost use Rattle.plant_core.specs.Step.{message_place};
+ghost use Rattle.plant_core.specs.Salvos.{message_place};
 
 use plant_config::Point;
 

@@ -1,27 +1,27 @@
 //! A plant and what stands in it, and its step.
 
-ghost use Rattle.std.specs.Prelude.{◌≡◌, ◌<◌, ◌≤◌, [], length, All, Some, IfOk, IfSome};
-ghost use Rattle.std.specs.Option.{option_to_list};
-ghost use Rattle.swp08_messages.specs.Text.{kind_of};
-ghost use Rattle.swp08_messages.specs.declared.message.Message.TheVariants.{Connect, Tally};
+ghost use Rattle.std.specs.Prelude.{◌≡◌, ◌<◌, ◌≤◌, [], length, All, IfOk, IfSome};
+ghost use Rattle.std.specs.FinMap.{get};
+ghost use Rattle.swp08_messages.specs.Text.{InRange, kind_of};
+ghost use Rattle.swp08_messages.specs.declared.message.Message.TheVariants.{Tally};
 ghost use Rattle.swp08_messages.specs.declared.message.MessageKind.TheVariants as kinds;
 ghost use Rattle.plant_config.specs.Plant.{destinations_of};
-ghost use Rattle.plant_config.specs.Sites.{dest_at};
-ghost use Rattle.change_boards.specs.Board.{next};
-ghost use Rattle.change_boards.specs.Notices.{board_of, with_leave, with_take};
-ghost use Rattle.plant_core.specs.State.{start, source_of, standing, is_idle, Fits, IsValid, IsChangeOf};
-ghost use Rattle.plant_core.specs.Step.{step, answered, changed, change_of, noticed, notice_of, poll_answers, wanted, with_change};
+ghost use Rattle.plant_config.specs.Limits.{last_device};
+ghost use Rattle.crosspoint_state.specs.Crosspoints.{source_of};
+ghost use Rattle.plant_core.specs.State.{start, standing, device_of, Fits, IsValid};
+ghost use Rattle.plant_core.specs.Step.{step, answered, dest_of};
 ghost use Rattle.plant_core.specs.Answer.{IsSayable, IsAnswerCount, room_of};
-ghost use Rattle.plant_core.specs.AnswerInside.{SaysJust};
+ghost use Rattle.plant_core.specs.AnswerInside.{AsksOne, SaysAtMost};
 
 use crate::answer::Answer;
-use crate::notify::notify;
-use crate::place::{message_place, place_of};
+use crate::place::place_of;
 use crate::request::Request;
-use crate::rows::Rows;
-use change_boards::{Notices, Sort};
+use change_boards::Notices;
+use crosspoint_state::Crosspoints;
 use history_lock::OutBox;
-use plant_config::{Change, DestId, PanelNo, Plant, SourceId};
+use plant_config::{DestId, PanelNo, Plant, SourceId};
+use protects::Protects;
+use salvo_groups::Groups;
 use std::alloc::{AllocError, Global};
 use std::marker::Model;
 use swp08_messages::{Message, Point};
@@ -29,38 +29,55 @@ use swp08_messages::{Message, Point};
 /// A plant and what stands in it.
 #[derive(Debug, Drop)]
 pub struct PlantState {
-    plant: Plant,
-    rows: Rows,
-    notices: Notices,
+    pub(crate) plant: Plant,
+    pub(crate) crosspoints: Crosspoints,
+    pub(crate) protects: Protects,
+    pub(crate) groups: Groups,
+    pub(crate) notices: Notices,
 }
 
 impl Model for PlantState {
     ghost use Rattle.std.specs.Coded.{codes};
+    ghost use Rattle.crosspoint_state.specs.Crosspoints as points;
+    ghost use Rattle.protects.specs.Owners as owned;
+    ghost use Rattle.salvo_groups.specs.Groups as salvos;
     ghost use Rattle.change_boards.specs.Board as board;
-    ghost use Rattle.plant_core.specs.State.{State};
-    ghost use Rattle.plant_core.specs.RowsInside.{state_of, IsKept, crosspoints_code};
+    ghost use Rattle.plant_core.specs.State.{State, IsValid};
+    ghost use Rattle.plant_core.specs.StateInside.{state_of};
 
     ghost Value = { State };
 
-    ghost coded = { Prim.hlevel (codes, board.code, crosspoints_code) };
+    ghost coded = { Prim.hlevel (
+      codes,
+      board.code,
+      salvos.code,
+      owned.owners_code,
+      points.crosspoints_code,
+    ) };
 
-    ghost view = { λ state. state_of state.plant state.rows state.notices };
+    ghost view = { λ state. state_of state.plant state.crosspoints state.protects state.groups
+        state.notices };
 
-    ghost invariant = { λ state. IsKept state.plant state.rows state.notices };
+    ghost invariant = { λ state. IsValid (state_of state.plant state.crosspoints state.protects
+        state.groups state.notices) };
 }
 
 impl PlantState {
-    /// The state at the start: every destination is parked, and nobody has notices or has left. It keeps a copy of the
-    /// plant, and has room for all that may stand in it.
+    /// The state at the start: every destination is parked and unprotected, every group is empty, and nobody has notices or
+    /// has left. It keeps a copy of the plant, and has room for all that may stand in it.
     pub fn start(alloc: Global, plant: &Plant) -> Result<PlantState, AllocError>
         ensures { IfOk result (λ state. state ≡ start plant.now) }
     {
-        let rows = Rows::with_room(alloc, plant.destination_count() as usize)?;
+        let crosspoints = Crosspoints::new(alloc)?;
+        let protects = Protects::new(alloc)?;
+        let groups = Groups::new(alloc)?;
         let notices = Notices::new(alloc, plant)?;
         let plant = plant.copy(alloc)?;
         Ok(PlantState {
             plant,
-            rows,
+            crosspoints,
+            protects,
+            groups,
             notices,
         })
     }
@@ -78,7 +95,15 @@ impl PlantState {
         ensures source { result ≡ source_of self.now.crosspoints dest }
         ensures valid { IsValid self.now }
     {
-        self.rows.get(dest)
+        self.crosspoints.source_at(dest)
+    }
+
+    /// The device that protects a destination, 0 to 1023, `None` where it is unprotected.
+    pub fn owner(&self, dest: DestId) -> Option<u16>
+        ensures owner { result ≡ get self.now.owners dest }
+        ensures valid { IsValid self.now }
+    {
+        self.protects.owner(dest)
     }
 
     // The plant.
@@ -96,9 +121,20 @@ impl PlantState {
         self.plant.panels().len() as u32
     }
 
+    // The device that a panel acts for.
+    pub(crate) fn device_of(&self, panel: PanelNo) -> u16
+        ensures device { result ≡ device_of self.now.plant panel }
+        ensures within { result ≤ last_device }
+    {
+        match self.plant.panels().get(panel.get() as usize) {
+            Some(found) => found.device,
+            None => 0,
+        }
+    }
+
     // The destination at a place, `None` where the plant has no such place.
-    fn dest_of(&self, at: Point) -> Option<DestId>
-        ensures dest { result ≡ dest_at self.now.plant at.matrix at.level at.dest }
+    pub(crate) fn dest_of(&self, at: Point) -> Option<DestId>
+        ensures dest { result ≡ dest_of self.now at }
         ensures below { IfSome result (λ dest. dest < destinations_of self.now.plant) }
         ensures valid { IsValid self.now }
     {
@@ -117,7 +153,7 @@ impl PlantState {
     }
 
     // The tally of a place.
-    fn tally(&self, at: Point) -> Message
+    pub(crate) fn tally(&self, at: Point) -> Message
         ensures tally { result ≡ Tally at (standing self.now at) }
         ensures valid { IsValid self.now }
     {
@@ -128,7 +164,7 @@ impl PlantState {
     }
 
     /// One event: what it does to the state, and its answers, which can be spelled. It takes no memory.
-    #[tactic(auto, using(crate::proofs::AnswerLemmas::room_some))]
+    #[tactic(auto, using(crate::proofs::CountLemmas::room_some))]
     pub fn step(&mut self, request: &Request, out: &mut OutBox<Answer>)
         requires fits { Fits self.old request.now }
         requires empty { out.old.items ≡ [] }
@@ -152,9 +188,10 @@ impl PlantState {
     }
 
     // What a message does, and its answers.
-    #[tactic(auto, using(crate::proofs::AnswerLemmas::room_some))]
+    #[tactic(auto, using(crate::proofs::CountLemmas::room_some))]
     fn answer(&mut self, panel: PanelNo, message: Message, out: &mut OutBox<Answer>)
         requires asks { kind_of message ≡ kinds.Plant }
+        requires in_range { InRange message }
         requires empty { out.old.items ≡ [] }
         requires places { room_of self.old.plant ≤ out.old.places }
         ensures state { self.new ≡ (answered self.old panel message).state }
@@ -162,129 +199,35 @@ impl PlantState {
         ensures places { out.new.places ≡ out.old.places }
         ensures valid { IsValid self.old }
     {
+        if let Message::DumpAsk { matrix, level } = message {
+            return self.dump(matrix, level, out);
+        }
+        if let Some(message) = self.say(panel, message) {
+            out.put(Answer::Say(message));
+        }
+    }
+
+    // What a message that has at most one answer does, and that answer.
+    fn say(&mut self, panel: PanelNo, message: Message) -> Option<Message>
+        requires asks { AsksOne message }
+        requires in_range { InRange message }
+        ensures state { self.new ≡ (answered self.old panel message).state }
+        ensures answer { SaysAtMost (answered self.old panel message) result }
+        ensures valid { IsValid self.old }
+    {
         match message {
-            Message::Interrogate { at } => out.put(Answer::Say(self.tally(at))),
-            Message::Connect { at, source } => {
-                out.put(Answer::Say(self.connect(panel, at, source)));
-            }
-            Message::DumpAsk { matrix, level } => self.dump(matrix, level, out),
+            Message::Interrogate { at } => Some(self.tally(at)),
+            Message::Connect { at, source } => Some(self.connect(panel, at, source)),
+            Message::ProtectAsk { at } => Some(self.protect_tally(at)),
+            Message::ProtectConnect { at, .. } => Some(self.protect(panel, at)),
+            Message::ProtectDisconnect { at, .. } => Some(self.unprotect(panel, at)),
+            Message::Store { at, source, salvo } => self.store(at, source, salvo),
+            Message::Go { clear, salvo } => Some(Message::GoDone {
+                status: self.go(panel, clear, salvo),
+                salvo,
+            }),
+            Message::EntryAsk { salvo, index } => Some(self.entry(salvo, index)),
             _ => unreachable!(),
         }
-    }
-
-    // Makes a connect where it is in range, and answers so; else answers with the source that stands.
-    fn connect(&mut self, panel: PanelNo, at: Point, source: Option<u16>) -> Message
-        ensures state { self.new ≡ (answered self.old panel (Connect at source)).state }
-        ensures answer { SaysJust (answered self.old panel (Connect at source)) result }
-        ensures valid { IsValid self.old }
-    {
-        match self.change(at, source) {
-            Some(change) => {
-                self.make(panel, &change);
-                Message::Connected { at, source }
-            }
-            None => self.tally(at),
-        }
-    }
-
-    // The change that a connect asks for, `None` where the destination or the source is out of range.
-    fn change(&self, at: Point, source: Option<u16>) -> Option<Change>
-        ensures change { result ≡ change_of self.now.plant at source }
-        ensures valid { IsValid self.now }
-    {
-        let dest = self.dest_of(at)?;
-        let source = self.wanted(at, source)?;
-        Some(Change { dest, source })
-    }
-
-    // What the destination of a connect is to carry, `None` where the source is out of range.
-    fn wanted(&self, at: Point, source: Option<u16>) -> Option<Option<SourceId>>
-        ensures { result ≡ wanted self.now.plant at source }
-    {
-        match source {
-            Some(number) => Some(Some(self.plant.source(at.matrix, at.level, number)?)),
-            None => Some(None),
-        }
-    }
-
-    // Whether a change would change nothing.
-    fn is_idle(&self, change: &Change) -> bool
-        ensures { result ≡ is_idle self.now.crosspoints change.now }
-    {
-        self.source_at(change.dest) == change.source
-    }
-
-    // Makes a panel's change, and gives notice of it to the others, unless it is idle.
-    fn make(&mut self, asker: PanelNo, change: &Change)
-        requires { IsChangeOf self.old.plant change.now }
-        ensures { self.new ≡ changed self.old asker change.now }
-    {
-        if self.is_idle(change) {
-            return;
-        }
-        self.apply(change);
-        self.give_notice(asker, change.dest);
-    }
-
-    // Gives a destination its source, or parks it.
-    fn apply(&mut self, change: &Change)
-        requires { IsChangeOf self.old.plant change.now }
-        ensures { self.new ≡ with_change self.old change.now }
-    {
-        self.rows.set(change.dest, change.source);
-    }
-
-    // Gives notice of a destination's source to all panels but the one that changed it.
-    fn give_notice(&mut self, asker: PanelNo, dest: DestId)
-        requires { dest < destinations_of self.old.plant }
-        ensures { self.new ≡ record self.old { boards = noticed self.old.boards asker dest } }
-    {
-        let panels = self.panel_count();
-        notify(&mut self.notices, panels, asker, dest);
-    }
-
-    // Takes a panel's next notice.
-    fn take_notice(&mut self, panel: PanelNo) -> Option<(DestId, Sort)>
-        requires { panel < length self.old.plant.panels }
-        ensures next { result ≡ next (board_of self.old.boards panel) }
-        ensures taken { self.new ≡ record self.old { boards = with_take self.old.boards panel } }
-        ensures dest { IfSome result (λ notice. notice.0 < destinations_of self.old.plant) }
-        ensures valid { IsValid self.old }
-    {
-        self.notices.take_lowest(panel)
-    }
-
-    // What a panel is told for a notice.
-    fn told(&self, dest: DestId, sort: Sort) -> Option<Answer>
-        requires { dest < destinations_of self.now.plant }
-        ensures { option_to_list result ≡ notice_of self.now (Some (dest, sort)) }
-    {
-        match sort {
-            Sort::Source => {
-                let at = message_place(self.plant.point(dest));
-                let source = self.standing(at);
-                Some(Answer::Say(Message::Connected { at, source }))
-            }
-            Sort::Protect => None,
-        }
-    }
-
-    // Takes a panel's next notice, and answers what the panel is told for it.
-    fn poll(&mut self, panel: PanelNo) -> Option<Answer>
-        requires { panel < length self.old.plant.panels }
-        ensures state { self.new ≡ record self.old { boards = with_take self.old.boards panel } }
-        ensures answer { option_to_list result ≡ poll_answers self.old panel }
-        ensures valid { IsValid self.old }
-    {
-        let (dest, sort) = self.take_notice(panel)?;
-        self.told(dest, sort)
-    }
-
-    // A panel leaves.
-    fn leave(&mut self, panel: PanelNo)
-        requires { panel < length self.old.plant.panels }
-        ensures { self.new ≡ record self.old { boards = with_leave self.old.boards panel } }
-    {
-        self.notices.drop_panel(panel);
     }
 }

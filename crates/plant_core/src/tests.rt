@@ -4,6 +4,8 @@ ghost use Rattle.std.specs.Prelude.{◌≤◌};
 ghost use Rattle.plant_core.specs.Answer.{room_of};
 
 mod dumps;
+mod protecting;
+mod salvos;
 mod shared;
 
 use crate::{Answer, PlantState, Request};

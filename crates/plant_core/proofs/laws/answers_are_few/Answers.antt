@@ -1,4 +1,5 @@
-use Rattle.plant_core.proofs.AnswerLemmas.{All-sayable, answer_count, answers_within, room_within}
+use Rattle.plant_core.proofs.AnswerLemmas.{All-sayable}
+use Rattle.plant_core.proofs.CountLemmas.{answer_count, answers_within, room_within}
 use Rattle.plant_core.proofs.laws.answers_are_few.Goals as goal
 
 pub returns-clause-count : goal.returns-clause-count

@@ -2,7 +2,9 @@ use Rattle.swp08_messages.specs.declared.message.Message.TheVariants.{Connect}
 use Rattle.plant_core.specs.declared.request.Request.{Request}
 use Rattle.plant_core.specs.declared.request.Request.TheVariants.{Told}
 use Rattle.plant_core.specs.Step.{step}
-use Rattle.plant_core.proofs.Steps.{connect-IsMade, IsValid-step, keep}
+use Rattle.plant_core.proofs.Steps.{connect-IsMade}
+use Rattle.plant_core.proofs.StepValidity.{IsValid-step}
+use Rattle.plant_core.proofs.StepLeaves.{keep}
 use Rattle.plant_core.proofs.laws.connects_stand.Goals as goal
 
 pub returns : goal.returns

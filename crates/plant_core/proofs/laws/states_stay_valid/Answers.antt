@@ -1,5 +1,6 @@
 use Rattle.plant_core.proofs.Validity.{IsValid-start, IsValid-applied}
-use Rattle.plant_core.proofs.Steps.{IsValid-step, plant-step}
+use Rattle.plant_core.proofs.StepValidity.{IsValid-step}
+use Rattle.plant_core.proofs.StepLeaves.{plant-step}
 use Rattle.plant_core.proofs.laws.states_stay_valid.Goals as goal
 
 pub returns-clause-first : goal.returns-clause-first
@@ -12,4 +13,4 @@ pub returns-clause-plant : goal.returns-clause-plant
 returns-clause-plant c = plant-step
 
 pub returns-clause-changes : goal.returns-clause-changes
-returns-clause-changes c state changes valid all = IsValid-applied state.plant state.boards state.crosspoints changes valid all
+returns-clause-changes c = IsValid-applied

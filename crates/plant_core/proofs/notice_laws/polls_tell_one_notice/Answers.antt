@@ -1,4 +1,4 @@
-use Rattle.plant_core.proofs.NoticeLemmas.{poll-IsTold, poll-nothing}
+use Rattle.plant_core.proofs.TellLemmas.{poll-IsTold, poll-nothing}
 use Rattle.plant_core.proofs.notice_laws.polls_tell_one_notice.Goals as goal
 
 pub returns-clause-told : goal.returns-clause-told

@@ -1,4 +1,4 @@
-use Rattle.plant_core.proofs.AnswerLemmas.{answers_within}
+use Rattle.plant_core.proofs.CountLemmas.{answers_within}
 use Rattle.plant_core.proofs.machine.PlantStateMachine.step.Goals as goal
 
 pub returns-clause-at_most : goal.returns-clause-at_most

@@ -1,12 +1,13 @@
 use Rattle.std.proofs.Common.{ap, sym, ◌∙◌}
+use Rattle.change_boards.specs.declared.sort.Sort.TheVariants.{Source}
 use Rattle.plant_core.specs.State.{State}
-use Rattle.plant_core.specs.Step.{noticed}
-use Rattle.plant_core.proofs.Changes.{changed-busy}
+use Rattle.plant_core.specs.Noticed.{marked_for_others}
+use Rattle.plant_core.proofs.StepValidity.{changed-busy}
 use Rattle.plant_core.proofs.state.PlantState.make.Goals as goal
 
 pub returns : goal.returns
 returns c =
-    let busy = sym c.is_idle.ensures ∙ c.if-is_idle.false in
+    let busy = sym c.is_idle.ensures.idle ∙ c.if-is_idle.false in
     c.give_notice.ensures
-    ∙ ap (λ (state : State). record state { boards = noticed state.boards c.args.asker c.args.change.now.dest }) c.apply.ensures
-    ∙ changed-busy c.args.self.now c.args.asker c.args.change.now busy
+    ∙ ap (λ (state : State). record state { boards = marked_for_others state.boards c.args.asker c.args.change.dest Source }) c.apply.ensures
+    ∙ changed-busy c.args.self.now c.args.asker c.args.change busy

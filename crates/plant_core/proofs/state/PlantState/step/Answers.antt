@@ -5,7 +5,8 @@ use Rattle.plant_core.specs.declared.request.Request.TheVariants.{Told, Poll}
 use Rattle.plant_core.specs.State.{State, Fits, IsValid}
 use Rattle.plant_core.specs.Step.{step}
 use Rattle.plant_core.specs.Answer.{IsSayable, IsAnswerCount}
-use Rattle.plant_core.proofs.AnswerLemmas.{All-sayable, answer_count}
+use Rattle.plant_core.proofs.AnswerLemmas.{All-sayable}
+use Rattle.plant_core.proofs.CountLemmas.{answer_count}
 use Rattle.plant_core.proofs.state.PlantState.step.Goals as goal
 
 -- what the definition answers can be spelled

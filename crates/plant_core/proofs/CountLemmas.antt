@@ -1,0 +1,133 @@
+-- How many answers there are.
+use Rattle.std.proofs.Common.{◌≡◌, ℕ, ◌<◌, ◌≤◌, Bool, true, false, cond, List, [], ◌∷◌, length, All, Option, Some, None, max, refl, sym, subst, arith}
+use Rattle.std.specs.Prelude.{◌==◌, ◌&&◌, find, slice_get}
+use Rattle.std.specs.List.{fold, AllByRecursion}
+use Rattle.std.specs.Option.{option_map, option_map_or, option_and_then, unwrap_or}
+use Rattle.std.proofs.lemmas.List.FromFn.{length-map-range_with_len, get_or-map-range_with_len}
+use Rattle.std.proofs.lemmas.List.Elements.{All-nil, All-push, All-head, All-tail}
+use Rattle.swp08_messages.specs.declared.point.Point.{Point}
+use Rattle.swp08_messages.specs.declared.message.Message.{Message}
+use Rattle.swp08_messages.specs.declared.message.Message.TheVariants.{Interrogate, Connect, Tally, Connected, ProtectAsk, ProtectConnect, ProtectDisconnect, ProtectTally, ProtectConnected, ProtectDisconnected, DumpAsk, Store, Stored, Go, GoDone, EntryAsk, Entry}
+use Rattle.swp08_messages.specs.declared.go_status.GoStatus.TheVariants.{Made, Cleared, Empty, Protected}
+use Rattle.swp08_messages.specs.Field.{devices, salvos, indexes, HasRoom}
+use Rattle.swp08_messages.specs.Row.{protect_told}
+use Rattle.swp08_messages.specs.Text.{IsPoint, IsSource, InRange}
+use Rattle.std.specs.FinMap as finite
+use Rattle.plant_config.specs.Limits.{last_device}
+use Rattle.protects.specs.Owners.{allows, may_lift, taken, lifted}
+use Rattle.crosspoint_state.specs.Crosspoints.{source_of}
+use Rattle.salvo_groups.specs.Groups.{Group, group_of, may_store, with_store}
+use Rattle.plant_config.specs.declared.records.Point as places
+use Rattle.plant_config.specs.declared.records.Change.{Change}
+use Rattle.plant_config.specs.declared.records.Level.{Level}
+use Rattle.plant_config.specs.Plant.{PlantData, dest_numbers, source_numbers}
+use Rattle.plant_config.specs.IsPlant.{IsLevel, IsPlant}
+use Rattle.plant_config.specs.Sites.{Site, site_of, dest_at, point_of, source_number_of}
+use Rattle.plant_config.proofs.SiteLemmas.{dests_are, sources_are, site_of-IsSite}
+use Rattle.change_boards.specs.declared.sort.Sort.{Sort}
+use Rattle.change_boards.specs.declared.sort.Sort.TheVariants.{Source, Protect}
+use Rattle.change_boards.specs.Board.{next}
+use Rattle.change_boards.specs.Notices.{board_of}
+use Rattle.plant_core.specs.declared.request.Request.{Request}
+use Rattle.plant_core.specs.declared.request.Request.TheVariants.{Told, Poll, Leave}
+use Rattle.plant_core.specs.declared.answer.Answer.{Answer}
+use Rattle.plant_core.specs.declared.answer.Answer.TheVariants.{Say}
+use Rattle.plant_core.specs.State.{State, IsValid, Fits, standing, owner_at, device_of, is_master}
+use Rattle.plant_core.specs.Connects.{says, says_nothing, change_of, are_permitted, changed, connected}
+use Rattle.plant_core.specs.Protecting.{owner_told, with_owners, protected, unprotected}
+use Rattle.plant_core.specs.Salvos.{stored_in, emptied, all_changed, taken_whole, cleared, message_place, no_place, told_place, entry_told, entry_answer}
+use Rattle.plant_core.specs.Step.{step, dest_of, dest_count, dumped_at, told_at, told_owner, notice_of}
+use Rattle.plant_core.proofs.Validity.{device-within}
+use Rattle.plant_core.specs.Answer.{IsSayable, IsAnswerCount, room_of}
+
+-- no level has more destinations
+pub room_within : (plant : PlantData) → IsPlant plant → room_of plant ≤ 1024
+room_within plant is = go plant.levels 64 is.each_level (omega arith)
+  where
+    go : (levels : List Level) (most : ℕ) → All IsLevel levels → most ≤ 1024 → fold (λ most (level : Level). max most level.destinations) most levels ≤ 1024
+    go [] most all within = within
+    go (level ∷ levels) most all within =
+        go levels (max most level.destinations) (All-tail IsLevel level levels all) (omega (arith, within, (All-head IsLevel level levels all).destinations.most))
+
+-- and there is room for as many answers as one has, and for 64
+grows : (levels : List Level) (most : ℕ) → most ≤ fold (λ most (level : Level). max most level.destinations) most levels
+grows [] most = omega arith
+grows (level ∷ levels) most = omega (arith, grows levels (max most level.destinations))
+
+pub room_some : (plant : PlantData) → 64 ≤ room_of plant
+room_some plant = grows plant.levels 64
+
+pub dest_count_within : (plant : PlantData) (matrix level : ℕ) → dest_count plant matrix level ≤ room_of plant
+dest_count_within plant matrix level = go plant.levels 64
+  where
+    is_it : Level → Bool
+    is_it at = at.matrix == matrix && at.level == level
+
+    go : (levels : List Level) (most : ℕ) → option_map_or (λ (at : Level). at.destinations) (find is_it levels) 0 ≤ fold (λ most (level : Level). max most level.destinations) most levels
+    go [] most = omega arith
+    go (first ∷ levels) most =
+        elim (is_it first) as (λ b. option_map_or (λ (at : Level). at.destinations) (cond b (Some first) (find is_it levels)) 0 ≤ fold (λ most (level : Level). max most level.destinations) (max most first.destinations) levels) [
+          | true ↦ omega (arith, grows levels (max most first.destinations))
+          | false ↦ go levels (max most first.destinations)
+        ]
+
+-- a message has one answer, or as many as its kind may have
+connected-one : (state : State) (panel : ℕ) (at : Point) (source : Option ℕ) (change : Option Change) → length (connected state panel at source change).answers ≡ 1
+connected-one state panel at source None = refl
+connected-one state panel at source (Some change) =
+    elim (are_permitted state.owners (device_of state.plant panel) (change ∷ [])) as (λ b. length (cond b (says (changed state panel change) (Connected at source)) (says state (Tally at (standing state at)))).answers ≡ 1) [ true ↦ refl | false ↦ refl ]
+
+protected-one : (state : State) (panel : ℕ) (at : Point) (dest : Option ℕ) → length (protected state panel at dest).answers ≡ 1
+protected-one state panel at None = refl
+protected-one state panel at (Some dest) =
+    let device : ℕ = device_of state.plant panel in
+    elim (allows state.owners device dest) as (λ b. length (cond b (says (with_owners state panel dest (taken state.owners device dest)) (owner_told ProtectConnected at (Some device))) (says state (owner_told ProtectTally at (finite.get state.owners dest)))).answers ≡ 1) [ true ↦ refl | false ↦ refl ]
+
+unprotected-one : (state : State) (panel : ℕ) (at : Point) (dest : Option ℕ) → length (unprotected state panel at dest).answers ≡ 1
+unprotected-one state panel at None = refl
+unprotected-one state panel at (Some dest) =
+    let device : ℕ = device_of state.plant panel in
+    let master : Bool = is_master state.plant panel in
+    elim (may_lift state.owners device master dest) as (λ b. length (cond b (says (with_owners state panel dest (lifted state.owners device master dest)) (owner_told ProtectDisconnected at None)) (says state (owner_told ProtectTally at (finite.get state.owners dest)))).answers ≡ 1) [ true ↦ refl | false ↦ refl ]
+
+stored-few : (state : State) (at : Point) (source : Option ℕ) (salvo : ℕ) (change : Option Change) → length (stored_in state at source salvo change).answers ≤ 1
+stored-few state at source salvo None = omega arith
+stored-few state at source salvo (Some change) =
+    elim (may_store (group_of state.groups salvo) change) as (λ b. length (cond b (says (record state { groups = with_store state.groups salvo change }) (Stored at source salvo)) (says_nothing state)).answers ≤ 1) [ true ↦ omega arith | false ↦ omega arith ]
+
+cleared-one : (state : State) (salvo : ℕ) (group : Group) → length (cleared state salvo group).answers ≡ 1
+cleared-one state salvo [] = refl
+cleared-one state salvo (entry ∷ entries) = refl
+
+whole-one : (state : State) (panel salvo : ℕ) (group : Group) → length (taken_whole state panel salvo group).answers ≡ 1
+whole-one state panel salvo [] = refl
+whole-one state panel salvo (entry ∷ entries) =
+    elim (are_permitted state.owners (device_of state.plant panel) (entry ∷ entries)) as (λ b. length (cond b (says (emptied (all_changed state (entry ∷ entries)) salvo) (GoDone Made salvo)) (says state (GoDone Protected salvo))).answers ≡ 1) [ true ↦ refl | false ↦ refl ]
+
+few-notices : (state : State) (notice : Option (ℕ × Sort)) → length (notice_of state notice) ≤ 1
+few-notices state None = omega arith
+few-notices state (Some (dest, sort)) = omega arith
+
+pub answer_count : (state : State) (request : Request) → Fits state request → IsAnswerCount state.plant request (length (step state request).answers)
+answer_count state (Told panel item (Interrogate at)) fits = refl
+answer_count state (Told panel item (Connect at source)) fits = connected-one state panel at source (change_of state.plant at source)
+answer_count state (Told panel item (ProtectAsk at)) fits = refl
+answer_count state (Told panel item (ProtectConnect at device)) fits = protected-one state panel at (dest_of state at)
+answer_count state (Told panel item (ProtectDisconnect at device)) fits = unprotected-one state panel at (dest_of state at)
+answer_count state (Told panel item (DumpAsk matrix level)) fits =
+    length-map-range_with_len (λ dest. dumped_at state (record { matrix = matrix; level = level; dest = dest })) 0 (dest_count state.plant matrix level)
+answer_count state (Told panel item (Store at source salvo)) fits = stored-few state at source salvo (change_of state.plant at source)
+answer_count state (Told panel item (Go true salvo)) fits = cleared-one state salvo (group_of state.groups salvo)
+answer_count state (Told panel item (Go false salvo)) fits = whole-one state panel salvo (group_of state.groups salvo)
+answer_count state (Told panel item (EntryAsk salvo index)) fits = refl
+answer_count state (Told panel item message) fits = let not = fits.1.0 in absurd cc
+answer_count state (Poll panel item turn) fits = few-notices state (next (board_of state.boards panel))
+answer_count state (Leave panel) fits = refl
+
+-- there is room for the answers to any event
+pub answers_within : (plant : PlantData) (request : Request) (count : ℕ) → IsAnswerCount plant request count → count ≤ room_of plant
+answers_within plant (Told panel item (DumpAsk matrix level)) count is = omega (arith, is, dest_count_within plant matrix level)
+answers_within plant (Told panel item (Store at source salvo)) count is = omega (arith, is, room_some plant)
+answers_within plant (Told panel item message) count is = omega (arith, is, room_some plant)
+answers_within plant (Poll panel item turn) count is = omega (arith, is, room_some plant)
+answers_within plant (Leave panel) count is = omega arith

@@ -1,0 +1,154 @@
+-- What a protect keeps, whatever another device's panel asks.
+use Rattle.std.proofs.Common.{◌≡◌, ◌≢◌, ℕ, Bool, true, false, cond, ◌||◌, [], ◌∷◌, Option, Some, None, IsNone, inl, inr, refl, sym, ap, subst, ◌∙◌, arith}
+use Rattle.std.specs.Option.{option_and_then}
+use Rattle.std.specs.Ordering.{nat_cmp}
+use Rattle.std.specs.FinMap as finite
+use Rattle.std.proofs.lemmas.Bool.{cases_eq, both_ways}
+use Rattle.swp08_messages.specs.declared.point.Point.{Point}
+use Rattle.swp08_messages.specs.declared.message.Message.{Message}
+use Rattle.swp08_messages.specs.declared.message.Message.TheVariants.{Interrogate, Connect, Tally, Connected, ProtectAsk, ProtectConnect, ProtectDisconnect, ProtectTally, ProtectConnected, ProtectDisconnected, DumpAsk, Store, Stored, Go, GoDone, EntryAsk}
+use Rattle.swp08_messages.specs.declared.go_status.GoStatus.TheVariants.{Made, Protected}
+use Rattle.plant_config.specs.Plant.{PlantData}
+use Rattle.plant_config.specs.Sites.{dest_at}
+use Rattle.plant_config.specs.declared.records.Change.{Change}
+use Rattle.protects.specs.Owners.{Owners, allows, may_lift, taken, lifted}
+use Rattle.salvo_groups.specs.Groups.{Group, group_of, may_store, with_store}
+use Rattle.plant_core.specs.declared.request.Request.{Request}
+use Rattle.plant_core.specs.declared.request.Request.TheVariants.{Told, Poll, Leave}
+use Rattle.plant_core.specs.State.{State, standing, owner_at, device_of, is_master, start}
+use Rattle.plant_core.specs.Connects.{says, says_nothing, change_of, are_permitted, changed, connected}
+use Rattle.plant_core.specs.Protecting.{owner_told, with_owners, protected, unprotected}
+use Rattle.plant_core.specs.Salvos.{stored_in, emptied, all_changed, taken_whole, cleared, gone}
+use Rattle.plant_core.specs.Step.{step, dest_of}
+use Rattle.plant_core.specs.ProtectLaws.{HasOwner, panel_of}
+use Rattle.plant_core.proofs.Changes.{kept-allows, permitted-apart, get-one_other, get-applied_other}
+use Rattle.plant_core.proofs.OwnerLemmas.{has-owner, taken_other, lifted_other}
+use Rattle.plant_core.proofs.StepLeaves.{protected-leaves, unprotected-leaves, stored-leaves, cleared-leaves}
+
+-- the source of a destination that another device protects stays
+module _ (state : State) (panel dest device : ℕ) (owned : finite.get state.owners dest ≡ Some device) (other : device ≢ device_of state.plant panel) where
+  source-connect : (at : Point) (source : Option ℕ) (change : Option Change) → finite.get (connected state panel at source change).state.crosspoints dest ≡ finite.get state.crosspoints dest
+  source-connect at source None = refl
+  source-connect at source (Some change) = go (are_permitted state.owners (device_of state.plant panel) (change ∷ [])) refl
+    where
+      go : (b : Bool) → are_permitted state.owners (device_of state.plant panel) (change ∷ []) ≡ b →
+          finite.get (cond b (says (changed state panel change) (Connected at source)) (says state (Tally at (standing state at)))).state.crosspoints dest ≡ finite.get state.crosspoints dest
+      go true permitted =
+          get-one_other state.crosspoints change dest (λ same. permitted-apart (change ∷ []) state.owners (device_of state.plant panel) dest device owned other permitted 0 change (omega arith) (sym same))
+      go false kept = refl
+
+  source-whole : (salvo : ℕ) (group : Group) → finite.get (taken_whole state panel salvo group).state.crosspoints dest ≡ finite.get state.crosspoints dest
+  source-whole salvo [] = refl
+  source-whole salvo (entry ∷ entries) = go (are_permitted state.owners (device_of state.plant panel) (entry ∷ entries)) refl
+    where
+      go : (b : Bool) → are_permitted state.owners (device_of state.plant panel) (entry ∷ entries) ≡ b →
+          finite.get (cond b (says (emptied (all_changed state (entry ∷ entries)) salvo) (GoDone Made salvo)) (says state (GoDone Protected salvo))).state.crosspoints dest ≡ finite.get state.crosspoints dest
+      go true permitted = get-applied_other dest state.crosspoints (entry ∷ entries) (permitted-apart (entry ∷ entries) state.owners (device_of state.plant panel) dest device owned other permitted)
+      go false kept = refl
+
+  source-told : (item : ℕ) (message : Message) → finite.get (step state (Told panel item message)).state.crosspoints dest ≡ finite.get state.crosspoints dest
+  source-told item (Interrogate at) = refl
+  source-told item (Connect at source) = source-connect at source (change_of state.plant at source)
+  source-told item (ProtectConnect at named) = ap (λ x. finite.get x dest) (protected-leaves state panel at (dest_of state at)).crosspoints
+  source-told item (ProtectDisconnect at named) = ap (λ x. finite.get x dest) (unprotected-leaves state panel at (dest_of state at)).crosspoints
+  source-told item (Store at source salvo) = ap (λ x. finite.get x dest) (stored-leaves state at source salvo (change_of state.plant at source)).crosspoints
+  source-told item (Go true salvo) = ap (λ x. finite.get x dest) (cleared-leaves state salvo (group_of state.groups salvo)).crosspoints
+  source-told item (Go false salvo) = source-whole salvo (group_of state.groups salvo)
+  source-told item message = refl
+
+  -- and so does its owner, if the panel is no master
+  owner-protect : (at : Point) (named : Option ℕ) → finite.get (protected state panel at named).state.owners dest ≡ Some device
+  owner-protect at None = owned
+  owner-protect at (Some d) = go (allows state.owners (device_of state.plant panel) d) refl
+    where
+      go : (b : Bool) → allows state.owners (device_of state.plant panel) d ≡ b →
+          finite.get (cond b (says (with_owners state panel d (taken state.owners (device_of state.plant panel) d)) (owner_told ProtectConnected at (Some (device_of state.plant panel)))) (says state (owner_told ProtectTally at (finite.get state.owners d)))).state.owners dest ≡ Some device
+      go false kept = owned
+      go true allowed = elim (cases_eq dest d) [
+        | inl same ↦
+            absurd (both_ways (allows state.owners (device_of state.plant panel) d) (ap (allows state.owners (device_of state.plant panel)) (sym same) ∙ kept-allows state.owners (device_of state.plant panel) dest device owned other) allowed)
+        | inr apart ↦ taken_other state.owners (device_of state.plant panel) d dest apart ∙ owned
+      ]
+
+  owner-lift : is_master state.plant panel ≡ false → (at : Point) (named : Option ℕ) → finite.get (unprotected state panel at named).state.owners dest ≡ Some device
+  owner-lift mere at None = owned
+  owner-lift mere at (Some d) = go (may_lift state.owners (device_of state.plant panel) (is_master state.plant panel) d) refl
+    where
+      kept_here : dest ≡ d → may_lift state.owners (device_of state.plant panel) (is_master state.plant panel) d ≡ false
+      kept_here same =
+          ap (λ b. b || allows state.owners (device_of state.plant panel) d) mere
+          ∙ ap (allows state.owners (device_of state.plant panel)) (sym same) ∙ kept-allows state.owners (device_of state.plant panel) dest device owned other
+
+      go : (b : Bool) → may_lift state.owners (device_of state.plant panel) (is_master state.plant panel) d ≡ b →
+          finite.get (cond b (says (with_owners state panel d (lifted state.owners (device_of state.plant panel) (is_master state.plant panel) d)) (owner_told ProtectDisconnected at None)) (says state (owner_told ProtectTally at (finite.get state.owners d)))).state.owners dest ≡ Some device
+      go false kept = owned
+      go true may = elim (cases_eq dest d) [
+        | inl same ↦ absurd (both_ways (may_lift state.owners (device_of state.plant panel) (is_master state.plant panel) d) (kept_here same) may)
+        | inr apart ↦ lifted_other state.owners (device_of state.plant panel) (is_master state.plant panel) d dest apart ∙ owned
+      ]
+
+-- connects, stores and goes leave the owners
+pub connected-owners : (state : State) (panel : ℕ) (at : Point) (source : Option ℕ) (change : Option Change) → (connected state panel at source change).state.owners ≡ state.owners
+connected-owners state panel at source None = refl
+connected-owners state panel at source (Some change) =
+    elim (are_permitted state.owners (device_of state.plant panel) (change ∷ [])) as (λ b. (cond b (says (changed state panel change) (Connected at source)) (says state (Tally at (standing state at)))).state.owners ≡ state.owners) [
+      | true ↦ refl
+      | false ↦ refl
+    ]
+
+stored-owners : (state : State) (at : Point) (source : Option ℕ) (salvo : ℕ) (change : Option Change) → (stored_in state at source salvo change).state.owners ≡ state.owners
+stored-owners state at source salvo None = refl
+stored-owners state at source salvo (Some change) =
+    elim (may_store (group_of state.groups salvo) change) as (λ b. (cond b (says (record state { groups = with_store state.groups salvo change }) (Stored at source salvo)) (says_nothing state)).state.owners ≡ state.owners) [
+      | true ↦ refl
+      | false ↦ refl
+    ]
+
+pub gone-owners : (state : State) (panel : ℕ) (clear : Bool) (salvo : ℕ) (group : Group) → group_of state.groups salvo ≡ group → (gone state panel clear salvo).state.owners ≡ state.owners
+gone-owners state panel true salvo group h = ap (λ (g : Group). (cleared state salvo g).state.owners) h ∙ of_group group
+  where
+    of_group : (group : Group) → (cleared state salvo group).state.owners ≡ state.owners
+    of_group [] = refl
+    of_group (entry ∷ entries) = refl
+gone-owners state panel false salvo group h = ap (λ (g : Group). (taken_whole state panel salvo g).state.owners) h ∙ of_group group
+  where
+    of_group : (group : Group) → (taken_whole state panel salvo group).state.owners ≡ state.owners
+    of_group [] = refl
+    of_group (entry ∷ entries) =
+        elim (are_permitted state.owners (device_of state.plant panel) (entry ∷ entries)) as (λ b. (cond b (says (emptied (all_changed state (entry ∷ entries)) salvo) (GoDone Made salvo)) (says state (GoDone Protected salvo))).state.owners ≡ state.owners) [
+          | true ↦ refl
+          | false ↦ refl
+        ]
+
+pub sources-stay : (state : State) (request : Request) (dest device : ℕ) → finite.get state.owners dest ≡ Some device → device ≢ device_of state.plant (panel_of request) →
+    finite.get (step state request).state.crosspoints dest ≡ finite.get state.crosspoints dest
+sources-stay state (Told panel item message) dest device owned other = source-told state panel dest device owned other item message
+sources-stay state (Poll panel item turn) dest device owned other = refl
+sources-stay state (Leave panel) dest device owned other = refl
+
+pub owners-stay : (state : State) (request : Request) (dest device : ℕ) → finite.get state.owners dest ≡ Some device → device ≢ device_of state.plant (panel_of request) → is_master state.plant (panel_of request) ≡ false →
+    finite.get (step state request).state.owners dest ≡ Some device
+owners-stay state (Told panel item (Interrogate at)) dest device owned other mere = owned
+owners-stay state (Told panel item (Connect at source)) dest device owned other mere = ap (λ o. finite.get o dest) (connected-owners state panel at source (change_of state.plant at source)) ∙ owned
+owners-stay state (Told panel item (ProtectConnect at named)) dest device owned other mere = owner-protect state panel dest device owned other at (dest_of state at)
+owners-stay state (Told panel item (ProtectDisconnect at named)) dest device owned other mere = owner-lift state panel dest device owned other mere at (dest_of state at)
+owners-stay state (Told panel item (Store at source salvo)) dest device owned other mere = ap (λ o. finite.get o dest) (stored-owners state at source salvo (change_of state.plant at source)) ∙ owned
+owners-stay state (Told panel item (Go clear salvo)) dest device owned other mere = ap (λ o. finite.get o dest) (gone-owners state panel clear salvo (group_of state.groups salvo) refl) ∙ owned
+owners-stay state (Told panel item message) dest device owned other mere = owned
+owners-stay state (Poll panel item turn) dest device owned other mere = owned
+owners-stay state (Leave panel) dest device owned other mere = owned
+
+-- before the first protect, and outside the plant
+pub start-unprotected : (plant : PlantData) (at : Point) → HasOwner (start plant) at None
+start-unprotected plant at = has-owner (start plant) at None (
+    elim (dest_at plant at.matrix at.level at.dest) as (λ o. option_and_then (finite.get (start plant).owners) o ≡ None) [
+      | None ↦ refl
+      | Some dest ↦ finite.get-empty {X = ℕ} nat_cmp dest
+    ])
+
+pub outside-unprotected : (state : State) (at : Point) → IsNone (dest_at state.plant at.matrix at.level at.dest) → HasOwner state at None
+outside-unprotected state at none = has-owner state at None (
+    elim (dest_at state.plant at.matrix at.level at.dest) as (λ o. IsNone o → option_and_then (finite.get state.owners) o ≡ None) [
+      | None ↦ λ e. refl
+      | Some dest ↦ λ e. cc
+    ] none)

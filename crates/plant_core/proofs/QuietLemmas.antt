@@ -1,0 +1,106 @@
+-- What changes neither a source nor an owner gives no notice.
+use Rattle.std.proofs.Common.{◌≡◌, ◌≢◌, ℕ, nat_eq, Bool, true, false, cond, ◌||◌, ◌==◌, List, [], ◌∷◌, Option, Some, None, refl, sym, ap, subst, ◌∙◌, eq-eqb}
+use Rattle.std.proofs.lemmas.Bool.{both_ways}
+use Rattle.std.specs.Option.{option_eq}
+use Rattle.std.specs.FinMap as finite
+use Rattle.swp08_messages.specs.declared.point.Point.{Point}
+use Rattle.swp08_messages.specs.declared.message.Message.{Message}
+use Rattle.swp08_messages.specs.declared.message.Message.TheVariants.{Interrogate, Connect, Tally, Connected, ProtectAsk, ProtectConnect, ProtectDisconnect, ProtectTally, ProtectConnected, ProtectDisconnected, DumpAsk, Store, Stored, Go, GoDone, EntryAsk}
+use Rattle.swp08_messages.specs.declared.go_status.GoStatus.TheVariants.{Made, Protected}
+use Rattle.plant_config.specs.declared.records.Change.{Change}
+use Rattle.crosspoint_state.specs.Crosspoints.{Crosspoints, source_of, is_idle, applied, NamesOnce}
+use Rattle.protects.specs.Owners.{Owners, allows, may_lift, taken, lifted}
+use Rattle.salvo_groups.specs.Groups.{Group, group_of, may_store, with_store}
+use Rattle.change_boards.specs.Board.{Board}
+use Rattle.change_boards.specs.declared.sort.Sort.TheVariants.{Source, Protect}
+use Rattle.plant_core.specs.declared.request.Request.TheVariants.{Told}
+use Rattle.plant_core.specs.State.{State, IsValid, standing, device_of, is_master}
+use Rattle.plant_core.specs.Noticed.{marked_for_others, all_marked}
+use Rattle.plant_core.specs.Connects.{says, says_nothing, change_of, are_permitted, changed, connected}
+use Rattle.plant_core.specs.Protecting.{owner_told, has_same_owner, with_owners, protected, unprotected}
+use Rattle.plant_core.specs.Salvos.{stored_in, emptied, moved, all_changed, taken_whole, cleared, gone}
+use Rattle.plant_core.specs.Step.{step, dest_of}
+use Rattle.plant_core.proofs.Changes.{source_same, source_of-one, source-idle, is_moved}
+use Rattle.plant_core.proofs.Noticed.{is_among}
+
+connect-quiet : (state : State) (panel : ℕ) (at : Point) (source : Option ℕ) (change : Option Change) → (connected state panel at source change).state.crosspoints ≡ state.crosspoints →
+    (connected state panel at source change).state.boards ≡ state.boards
+connect-quiet state panel at source None same = refl
+connect-quiet state panel at source (Some change) same = by_permitted (are_permitted state.owners (device_of state.plant panel) (change ∷ [])) same
+  where
+    by_idle : (b : Bool) → is_idle state.crosspoints change ≡ b → applied state.crosspoints (change ∷ []) ≡ state.crosspoints → cond b state.boards (marked_for_others state.boards panel change.dest Source) ≡ state.boards
+    by_idle true idle same = refl
+    by_idle false busy same =
+        absurd (both_ways (is_idle state.crosspoints change) busy (source-idle state.crosspoints change (sym (ap (λ (x : Crosspoints). source_of x change.dest) same) ∙ source_of-one state.crosspoints change)))
+
+    by_permitted : (b : Bool) → (cond b (says (changed state panel change) (Connected at source)) (says state (Tally at (standing state at)))).state.crosspoints ≡ state.crosspoints →
+        (cond b (says (changed state panel change) (Connected at source)) (says state (Tally at (standing state at)))).state.boards ≡ state.boards
+    by_permitted true same = by_idle (is_idle state.crosspoints change) refl same
+    by_permitted false same = refl
+
+owners-quiet : (state : State) (panel dest : ℕ) (owners : Owners) → owners ≡ state.owners → (with_owners state panel dest owners).boards ≡ state.boards
+owners-quiet state panel dest owners same =
+    let alike : has_same_owner state.owners owners dest ≡ true =
+    ap (λ (o : Owners). option_eq nat_eq (finite.get state.owners dest) (finite.get o dest)) same ∙ source_same (finite.get state.owners dest) in
+    ap (λ b. cond b state.boards (marked_for_others state.boards panel dest Protect)) alike
+
+protect-quiet : (state : State) (panel : ℕ) (at : Point) (named : Option ℕ) → (protected state panel at named).state.owners ≡ state.owners → (protected state panel at named).state.boards ≡ state.boards
+protect-quiet state panel at None same = refl
+protect-quiet state panel at (Some d) same = go (allows state.owners (device_of state.plant panel) d) same
+  where
+    go : (b : Bool) → (cond b (says (with_owners state panel d (taken state.owners (device_of state.plant panel) d)) (owner_told ProtectConnected at (Some (device_of state.plant panel)))) (says state (owner_told ProtectTally at (finite.get state.owners d)))).state.owners ≡ state.owners →
+        (cond b (says (with_owners state panel d (taken state.owners (device_of state.plant panel) d)) (owner_told ProtectConnected at (Some (device_of state.plant panel)))) (says state (owner_told ProtectTally at (finite.get state.owners d)))).state.boards ≡ state.boards
+    go true same = owners-quiet state panel d (taken state.owners (device_of state.plant panel) d) same
+    go false same = refl
+
+lift-quiet : (state : State) (panel : ℕ) (at : Point) (named : Option ℕ) → (unprotected state panel at named).state.owners ≡ state.owners → (unprotected state panel at named).state.boards ≡ state.boards
+lift-quiet state panel at None same = refl
+lift-quiet state panel at (Some d) same = go (may_lift state.owners (device_of state.plant panel) (is_master state.plant panel) d) same
+  where
+    go : (b : Bool) → (cond b (says (with_owners state panel d (lifted state.owners (device_of state.plant panel) (is_master state.plant panel) d)) (owner_told ProtectDisconnected at None)) (says state (owner_told ProtectTally at (finite.get state.owners d)))).state.owners ≡ state.owners →
+        (cond b (says (with_owners state panel d (lifted state.owners (device_of state.plant panel) (is_master state.plant panel) d)) (owner_told ProtectDisconnected at None)) (says state (owner_told ProtectTally at (finite.get state.owners d)))).state.boards ≡ state.boards
+    go true same = owners-quiet state panel d (lifted state.owners (device_of state.plant panel) (is_master state.plant panel) d) same
+    go false same = refl
+
+pub store-quiet : (state : State) (at : Point) (source : Option ℕ) (salvo : ℕ) (change : Option Change) → (stored_in state at source salvo change).state.boards ≡ state.boards
+store-quiet state at source salvo None = refl
+store-quiet state at source salvo (Some change) =
+    elim (may_store (group_of state.groups salvo) change) as (λ b. (cond b (says (record state { groups = with_store state.groups salvo change }) (Stored at source salvo)) (says_nothing state)).state.boards ≡ state.boards) [
+      | true ↦ refl
+      | false ↦ refl
+    ]
+
+pub clear-quiet : (state : State) (salvo : ℕ) (group : Group) → (cleared state salvo group).state.boards ≡ state.boards
+clear-quiet state salvo [] = refl
+clear-quiet state salvo (entry ∷ entries) = refl
+
+-- a list in which nothing is is empty
+none_among : (dests : List ℕ) → ((d : ℕ) → is_among dests d ≡ true → ⊥) → dests ≡ []
+none_among [] none = refl
+none_among (dest ∷ dests) none = absurd (none dest (ap (λ b. b || is_among dests dest) (eq-eqb dest dest refl)))
+
+whole-quiet : (state : State) (panel salvo : ℕ) (group : Group) → group_of state.groups salvo ≡ group → IsValid state → (taken_whole state panel salvo group).state.crosspoints ≡ state.crosspoints →
+    (taken_whole state panel salvo group).state.boards ≡ state.boards
+whole-quiet state panel salvo [] h valid same = refl
+whole-quiet state panel salvo (entry ∷ entries) h valid same = go (are_permitted state.owners (device_of state.plant panel) (entry ∷ entries)) same
+  where
+    still : (group : Group) → group_of state.groups salvo ≡ group → applied state.crosspoints group ≡ state.crosspoints → all_marked state.boards (moved state.crosspoints group) ≡ state.boards
+    still group is same =
+        let once = subst (λ (g : Group). NamesOnce g) is (valid.groups.each salvo).distinct in
+        ap (all_marked state.boards) (none_among (moved state.crosspoints group) (λ d among. is_moved state.crosspoints group d once among (ap (λ (x : Crosspoints). source_of x d) same)))
+
+    go : (b : Bool) → (cond b (says (emptied (all_changed state (entry ∷ entries)) salvo) (GoDone Made salvo)) (says state (GoDone Protected salvo))).state.crosspoints ≡ state.crosspoints →
+        (cond b (says (emptied (all_changed state (entry ∷ entries)) salvo) (GoDone Made salvo)) (says state (GoDone Protected salvo))).state.boards ≡ state.boards
+    go true same = still (entry ∷ entries) h same
+    go false same = refl
+
+pub told-quiet : (state : State) (panel item : ℕ) (message : Message) → IsValid state → (step state (Told panel item message)).state.crosspoints ≡ state.crosspoints → (step state (Told panel item message)).state.owners ≡ state.owners →
+    (step state (Told panel item message)).state.boards ≡ state.boards
+told-quiet state panel item (Interrogate at) valid sources owners = refl
+told-quiet state panel item (Connect at source) valid sources owners = connect-quiet state panel at source (change_of state.plant at source) sources
+told-quiet state panel item (ProtectConnect at device) valid sources owners = protect-quiet state panel at (dest_of state at) owners
+told-quiet state panel item (ProtectDisconnect at device) valid sources owners = lift-quiet state panel at (dest_of state at) owners
+told-quiet state panel item (Store at source salvo) valid sources owners = store-quiet state at source salvo (change_of state.plant at source)
+told-quiet state panel item (Go true salvo) valid sources owners = clear-quiet state salvo (group_of state.groups salvo)
+told-quiet state panel item (Go false salvo) valid sources owners = whole-quiet state panel salvo (group_of state.groups salvo) refl valid sources
+told-quiet state panel item message valid sources owners = refl

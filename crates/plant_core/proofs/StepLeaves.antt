@@ -1,0 +1,188 @@
+-- What steps leave as it was.
+use Rattle.std.proofs.Common.{◌≡◌, ◌≢◌, ℕ, ◌<◌, Bool, true, false, cond, List, [], ◌∷◌, All, Option, Some, None, IsSome, IsNone, IfSome, suc, refl, sym, ap, subst, ◌∙◌, arith}
+use Rattle.std.specs.Option.{option_map, option_and_then}
+use Rattle.std.specs.FinMap as finite
+use Rattle.std.specs.Ordering.{nat_cmp}
+use Rattle.std.proofs.lemmas.List.Elements.{All-nil, All-push}
+use Rattle.swp08_messages.specs.declared.point.Point.{Point}
+use Rattle.swp08_messages.specs.declared.message.Message.{Message}
+use Rattle.swp08_messages.specs.declared.message.Message.TheVariants.{Interrogate, Connect, Tally, Connected, ProtectAsk, ProtectConnect, ProtectDisconnect, ProtectTally, ProtectConnected, ProtectDisconnected, DumpAsk, Store, Stored, Go, GoDone, EntryAsk}
+use Rattle.swp08_messages.specs.declared.go_status.GoStatus.TheVariants.{Made, Protected}
+use Rattle.plant_config.specs.declared.records.Point as places
+use Rattle.plant_config.specs.declared.records.Change.{Change}
+use Rattle.plant_config.specs.Plant.{PlantData, destinations_of}
+use Rattle.plant_config.specs.IsPlant.{IsPlant}
+use Rattle.plant_config.specs.Sites.{dest_at, source_at, source_number_of}
+use Rattle.plant_config.proofs.SiteLemmas.{dest_at-point_of, source_at-source_number_of}
+use Rattle.crosspoint_state.specs.Crosspoints.{Crosspoints, source_of, is_idle, applied}
+use Rattle.crosspoint_state.specs.declared.spot.Spot.{Spot}
+use Rattle.protects.specs.Owners.{Owners, allows, may_lift, taken, lifted}
+use Rattle.salvo_groups.specs.Groups.{Group, group_of, may_store, with_store}
+use Rattle.change_boards.specs.declared.sort.Sort.TheVariants.{Source, Protect}
+use Rattle.history_lock.specs.Step.{Stepped}
+use Rattle.plant_core.specs.declared.request.Request.{Request}
+use Rattle.plant_core.specs.declared.request.Request.TheVariants.{Told, Poll, Leave}
+use Rattle.plant_core.specs.declared.answer.Answer.{Answer}
+use Rattle.plant_core.specs.declared.answer.Answer.TheVariants.{Say}
+use Rattle.plant_core.specs.State.{State, IsValid, IsChangeOf, AreOwners, standing, owner_at, device_of, is_master, start}
+use Rattle.plant_core.specs.Noticed.{marked_for_others}
+use Rattle.plant_core.specs.Connects.{says, says_nothing, wanted, change_of, are_permitted, changed, connected}
+use Rattle.plant_core.specs.Protecting.{owner_told, has_same_owner, with_owners, protected, unprotected}
+use Rattle.plant_core.specs.Salvos.{stored_in, emptied, moved, all_changed, taken_whole, cleared, gone}
+use Rattle.plant_core.specs.Step.{step, dest_of}
+use Rattle.plant_core.specs.Laws.{AnswersWith, IsConnectable, IsFree, MayConnect, IsMade, IsNotMade, LeavesAlone, OnlyAsks, after}
+use Rattle.plant_core.proofs.StepValidity.{IsValid-step}
+use Rattle.plant_core.proofs.Steps.{connected-made, connected-kept, made, stands-answers, answers-stands}
+use Rattle.plant_core.proofs.Validity.{IsValid-applied, IsValid-owners, IsValid-others, IsValid-marked, IsValid-take, IsValid-leave, IsValid-store, IsValid-clear, AreOwners-taken, AreOwners-lifted, device-within, change_of-is, change_of-IsChangeOf, found-below}
+use Rattle.plant_core.proofs.Changes.{allows-free, free-allows, permitted-one, source_of-one, get-one_other, moved-within}
+
+-- no step changes the plant
+connected-plant : (state : State) (panel : ℕ) (at : Point) (source : Option ℕ) (change : Option Change) → (connected state panel at source change).state.plant ≡ state.plant
+connected-plant state panel at source None = refl
+connected-plant state panel at source (Some change) =
+    elim (are_permitted state.owners (device_of state.plant panel) (change ∷ [])) as (λ b. (cond b (says (changed state panel change) (Connected at source)) (says state (Tally at (standing state at)))).state.plant ≡ state.plant) [
+      | true ↦ refl
+      | false ↦ refl
+    ]
+
+-- what protects, lifts, stores and clears leave of the plant and its crosspoints
+pub record LeavesSources (old new : State) : Type 0 where
+  pub plant : new.plant ≡ old.plant
+  pub crosspoints : new.crosspoints ≡ old.crosspoints
+
+leaves_all : (state : State) → LeavesSources state state
+leaves_all state = record { plant = refl; crosspoints = refl }
+
+pub protected-leaves : (state : State) (panel : ℕ) (at : Point) (dest : Option ℕ) → LeavesSources state (protected state panel at dest).state
+protected-leaves state panel at None = leaves_all state
+protected-leaves state panel at (Some dest) =
+    let device : ℕ = device_of state.plant panel in
+    elim (allows state.owners device dest) as (λ b. LeavesSources state (cond b (says (with_owners state panel dest (taken state.owners device dest)) (owner_told ProtectConnected at (Some device))) (says state (owner_told ProtectTally at (finite.get state.owners dest)))).state) [
+      | true ↦ record { plant = refl; crosspoints = refl }
+      | false ↦ leaves_all state
+    ]
+
+pub unprotected-leaves : (state : State) (panel : ℕ) (at : Point) (dest : Option ℕ) → LeavesSources state (unprotected state panel at dest).state
+unprotected-leaves state panel at None = leaves_all state
+unprotected-leaves state panel at (Some dest) =
+    let device : ℕ = device_of state.plant panel in
+    let master : Bool = is_master state.plant panel in
+    elim (may_lift state.owners device master dest) as (λ b. LeavesSources state (cond b (says (with_owners state panel dest (lifted state.owners device master dest)) (owner_told ProtectDisconnected at None)) (says state (owner_told ProtectTally at (finite.get state.owners dest)))).state) [
+      | true ↦ record { plant = refl; crosspoints = refl }
+      | false ↦ leaves_all state
+    ]
+
+pub stored-leaves : (state : State) (at : Point) (source : Option ℕ) (salvo : ℕ) (change : Option Change) → LeavesSources state (stored_in state at source salvo change).state
+stored-leaves state at source salvo None = leaves_all state
+stored-leaves state at source salvo (Some change) =
+    elim (may_store (group_of state.groups salvo) change) as (λ b. LeavesSources state (cond b (says (record state { groups = with_store state.groups salvo change }) (Stored at source salvo)) (says_nothing state)).state) [
+      | true ↦ record { plant = refl; crosspoints = refl }
+      | false ↦ leaves_all state
+    ]
+
+pub cleared-leaves : (state : State) (salvo : ℕ) (group : Group) → LeavesSources state (cleared state salvo group).state
+cleared-leaves state salvo [] = leaves_all state
+cleared-leaves state salvo (entry ∷ entries) = record { plant = refl; crosspoints = refl }
+
+whole-plant : (state : State) (panel salvo : ℕ) (group : Group) → (taken_whole state panel salvo group).state.plant ≡ state.plant
+whole-plant state panel salvo [] = refl
+whole-plant state panel salvo (entry ∷ entries) =
+    elim (are_permitted state.owners (device_of state.plant panel) (entry ∷ entries)) as (λ b. (cond b (says (emptied (all_changed state (entry ∷ entries)) salvo) (GoDone Made salvo)) (says state (GoDone Protected salvo))).state.plant ≡ state.plant) [
+      | true ↦ refl
+      | false ↦ refl
+    ]
+
+-- whatever is no connect and no go that takes a group leaves the sources
+pub message-leaves : (state : State) (panel item : ℕ) (message : Message) → ((at : Point) (source : Option ℕ) → message ≢ Connect at source) → ((salvo : ℕ) → message ≢ Go false salvo) →
+    LeavesSources state (step state (Told panel item message)).state
+message-leaves state panel item (Interrogate at) no_connect no_go = leaves_all state
+message-leaves state panel item (Connect at source) no_connect no_go = absurd (no_connect at source refl)
+message-leaves state panel item (ProtectConnect at device) no_connect no_go = protected-leaves state panel at (dest_of state at)
+message-leaves state panel item (ProtectDisconnect at device) no_connect no_go = unprotected-leaves state panel at (dest_of state at)
+message-leaves state panel item (Store at source salvo) no_connect no_go = stored-leaves state at source salvo (change_of state.plant at source)
+message-leaves state panel item (Go true salvo) no_connect no_go = cleared-leaves state salvo (group_of state.groups salvo)
+message-leaves state panel item (Go false salvo) no_connect no_go = absurd (no_go salvo refl)
+message-leaves state panel item message no_connect no_go = leaves_all state
+
+pub plant-step : (state : State) (request : Request) → (step state request).state.plant ≡ state.plant
+plant-step state (Told panel item (Interrogate at)) = refl
+plant-step state (Told panel item (Connect at source)) = connected-plant state panel at source (change_of state.plant at source)
+plant-step state (Told panel item (ProtectConnect at device)) = (protected-leaves state panel at (dest_of state at)).plant
+plant-step state (Told panel item (ProtectDisconnect at device)) = (unprotected-leaves state panel at (dest_of state at)).plant
+plant-step state (Told panel item (Store at source salvo)) = (stored-leaves state at source salvo (change_of state.plant at source)).plant
+plant-step state (Told panel item (Go true salvo)) = (cleared-leaves state salvo (group_of state.groups salvo)).plant
+plant-step state (Told panel item (Go false salvo)) = whole-plant state panel salvo (group_of state.groups salvo)
+plant-step state (Told panel item message) = refl
+plant-step state (Poll panel item turn) = refl
+plant-step state (Leave panel) = refl
+
+-- what leaves the sources leaves what stands
+standing-left : (old new : State) (place : Point) → LeavesSources old new → standing new place ≡ standing old place
+standing-left old new place leaves = λ i. stands (leaves.plant i) (leaves.crosspoints i)
+  where
+    stands : PlantData → Crosspoints → Option ℕ
+    stands plant crosspoints =
+        option_and_then (λ (dest : ℕ). option_and_then (source_number_of plant) (source_of crosspoints dest)) (dest_at plant place.matrix place.level place.dest)
+
+left_alone : (old new : State) (place : Point) (stands : Option ℕ) → LeavesSources old new → AnswersWith old place stands → AnswersWith new place stands
+left_alone old new place stands leaves answers = stands-answers new place stands (standing-left old new place leaves ∙ answers-stands old place stands answers)
+
+-- what doesn't connect a place, and takes no group, leaves the source that stands there
+keeps-connect : (state : State) (panel item : ℕ) (place at : Point) (source stands : Option ℕ) → IsValid state → place ≢ at → AnswersWith state place stands → AnswersWith (step state (Told panel item (Connect at source))).state place stands
+keeps-connect state panel item place at source stands valid other answers =
+    elim (change_of state.plant at source) as (λ o. change_of state.plant at source ≡ o → AnswersWith (step state (Told panel item (Connect at source))).state place stands) [
+      | None ↦ λ h. subst (λ (stepped : Stepped State Answer). AnswersWith stepped.state place stands) (sym (ap (connected state panel at source) h)) answers
+      | Some change ↦ λ h. of_permitted change h (are_permitted state.owners (device_of state.plant panel) (change ∷ [])) refl
+    ] refl
+  where
+    of_permitted : (change : Change) → change_of state.plant at source ≡ Some change → (b : Bool) → are_permitted state.owners (device_of state.plant panel) (change ∷ []) ≡ b → AnswersWith (step state (Told panel item (Connect at source))).state place stands
+    of_permitted change h true permitted =
+        subst (λ (stepped : Stepped State Answer). AnswersWith stepped.state place stands) (sym (connected-made state panel item at source change h permitted))
+        ((made state panel item at source change valid h).others place stands other answers)
+    of_permitted change h false kept =
+        subst (λ (stepped : Stepped State Answer). AnswersWith stepped.state place stands) (sym (connected-kept state panel item at source change h kept)) answers
+
+keeps-told : (state : State) (place : Point) (panel item : ℕ) (message : Message) (stands : Option ℕ) → IsValid state → LeavesAlone place (Told panel item message) → AnswersWith state place stands →
+    AnswersWith (step state (Told panel item message)).state place stands
+keeps-told state place panel item (Connect at source) stands valid alone answers =
+    keeps-connect state panel item place at source stands valid (λ same. alone.0 panel item source (ap (λ (at : Point). Told panel item (Connect at source)) (sym same))) answers
+keeps-told state place panel item (Interrogate at) stands valid alone answers = answers
+keeps-told state place panel item (ProtectConnect at device) stands valid alone answers = left_alone state _ place stands (protected-leaves state panel at (dest_of state at)) answers
+keeps-told state place panel item (ProtectDisconnect at device) stands valid alone answers = left_alone state _ place stands (unprotected-leaves state panel at (dest_of state at)) answers
+keeps-told state place panel item (Store at source salvo) stands valid alone answers = left_alone state _ place stands (stored-leaves state at source salvo (change_of state.plant at source)) answers
+keeps-told state place panel item (Go true salvo) stands valid alone answers = left_alone state _ place stands (cleared-leaves state salvo (group_of state.groups salvo)) answers
+keeps-told state place panel item (Go false salvo) stands valid alone answers = absurd (alone.1 panel item salvo refl)
+keeps-told state place panel item message stands valid alone answers = answers
+
+keeps : (state : State) (place : Point) (request : Request) (stands : Option ℕ) → IsValid state → LeavesAlone place request → AnswersWith state place stands → AnswersWith (step state request).state place stands
+keeps state place (Told panel item message) stands valid alone answers = keeps-told state place panel item message stands valid alone answers
+keeps state place (Poll panel item turn) stands valid alone answers = answers
+keeps state place (Leave panel) stands valid alone answers = answers
+
+pub keep : (state : State) (place : Point) (later : List Request) (stands : Option ℕ) → IsValid state → All (LeavesAlone place) later → AnswersWith state place stands → AnswersWith (after state later) place stands
+keep state place [] stands valid alone answers = answers
+keep state place (request ∷ later) stands valid alone answers =
+    keep (step state request).state place later stands (IsValid-step state request valid) (λ k d below. alone (suc k) d (omega arith)) (keeps state place request stands valid (alone 0 request (omega arith)) answers)
+
+-- before the first connect, and outside the plant
+pub start-parked : (plant : PlantData) (at : Point) → AnswersWith (start plant) at None
+start-parked plant at = stands-answers (start plant) at None (
+    elim (dest_at plant at.matrix at.level at.dest) as (λ o. option_and_then (λ (dest : ℕ). option_and_then (source_number_of plant) (source_of (start plant).crosspoints dest)) o ≡ None) [
+      | None ↦ refl
+      | Some dest ↦ ap (λ (o : Option Spot). option_and_then (source_number_of plant) (option_map (λ (spot : Spot). spot.source) o)) (finite.get-empty {X = Spot} nat_cmp dest)
+    ])
+
+pub outside-parked : (state : State) (at : Point) → IsNone (dest_at state.plant at.matrix at.level at.dest) → AnswersWith state at None
+outside-parked state at none = stands-answers state at None (
+    elim (dest_at state.plant at.matrix at.level at.dest) as (λ o. IsNone o → option_and_then (λ (dest : ℕ). option_and_then (source_number_of state.plant) (source_of state.crosspoints dest)) o ≡ None) [
+      | None ↦ λ e. refl
+      | Some dest ↦ λ e. cc
+    ] none)
+
+-- a message that only asks changes nothing
+pub question-same : (state : State) (panel item : ℕ) (message : Message) → OnlyAsks message → (step state (Told panel item message)).state ≡ state
+question-same state panel item (Interrogate at) asks = refl
+question-same state panel item (ProtectAsk at) asks = refl
+question-same state panel item (DumpAsk matrix level) asks = refl
+question-same state panel item (EntryAsk salvo index) asks = refl
+question-same state panel item message asks = absurd asks

@@ -1,0 +1,171 @@
+-- Every step leaves a valid state.
+use Rattle.std.proofs.Common.{◌≡◌, ◌≢◌, ℕ, ◌<◌, Bool, true, false, cond, List, [], ◌∷◌, All, Option, Some, None, IsSome, IsNone, IfSome, suc, refl, sym, ap, subst, ◌∙◌, arith, length, get_or, inl, inr}
+use Rattle.std.specs.Option.{option_map, option_and_then}
+use Rattle.std.specs.FinMap as finite
+use Rattle.std.specs.Ordering.{nat_cmp}
+use Rattle.std.specs.Prelude.{slice_get}
+use Rattle.std.proofs.lemmas.Bool.{cases_lt}
+use Rattle.std.proofs.lemmas.Option.{slice_get_past, slice_get-get_or}
+use Rattle.std.proofs.lemmas.List.Elements.{All-nil, All-push}
+use Rattle.swp08_messages.specs.declared.point.Point.{Point}
+use Rattle.swp08_messages.specs.declared.message.Message.{Message}
+use Rattle.swp08_messages.specs.declared.message.Message.TheVariants.{Interrogate, Connect, Tally, Connected, ProtectAsk, ProtectConnect, ProtectDisconnect, ProtectTally, ProtectConnected, ProtectDisconnected, DumpAsk, Store, Stored, Go, GoDone, EntryAsk}
+use Rattle.swp08_messages.specs.declared.go_status.GoStatus.TheVariants.{Made, Protected}
+use Rattle.plant_config.specs.declared.records.Point as places
+use Rattle.plant_config.specs.declared.records.Change.{Change}
+use Rattle.plant_config.specs.Plant.{PlantData, destinations_of}
+use Rattle.plant_config.specs.IsPlant.{IsPlant}
+use Rattle.plant_config.specs.Sites.{dest_at, source_at, source_number_of}
+use Rattle.plant_config.proofs.SiteLemmas.{dest_at-point_of, source_at-source_number_of}
+use Rattle.crosspoint_state.specs.Crosspoints.{Crosspoints, source_of, is_idle, applied}
+use Rattle.crosspoint_state.specs.declared.spot.Spot.{Spot}
+use Rattle.protects.specs.Owners.{Owners, allows, may_lift, taken, lifted}
+use Rattle.salvo_groups.specs.Groups.{Group, group_of, may_store, with_store}
+use Rattle.change_boards.specs.declared.sort.Sort.TheVariants.{Source, Protect}
+use Rattle.history_lock.specs.Step.{Stepped}
+use Rattle.plant_core.specs.declared.request.Request.{Request}
+use Rattle.plant_core.specs.declared.request.Request.TheVariants.{Told, Poll, Leave}
+use Rattle.plant_core.specs.declared.answer.Answer.{Answer}
+use Rattle.plant_core.specs.declared.answer.Answer.TheVariants.{Say}
+use Rattle.plant_core.specs.State.{State, IsValid, IsChangeOf, AreOwners, standing, owner_at, device_of, is_master, start}
+use Rattle.plant_core.specs.Noticed.{marked_for_others}
+use Rattle.plant_core.specs.Connects.{says, says_nothing, wanted, change_of, are_permitted, changed, connected}
+use Rattle.plant_core.specs.Protecting.{owner_told, has_same_owner, with_owners, protected, unprotected}
+use Rattle.plant_core.specs.Salvos.{stored_in, emptied, moved, all_changed, taken_whole, cleared, gone}
+use Rattle.plant_core.specs.Step.{step, dest_of}
+use Rattle.plant_core.specs.Laws.{AnswersWith, IsConnectable, IsFree, MayConnect, IsMade, IsNotMade, LeavesAlone, after}
+use Rattle.plant_core.proofs.Validity.{IsValid-applied, IsValid-owners, IsValid-others, IsValid-marked, IsValid-take, IsValid-leave, IsValid-store, IsValid-clear, AreOwners-taken, AreOwners-lifted, device-within, change_of-is, change_of-IsChangeOf, found-below}
+use Rattle.plant_core.proofs.Changes.{applied-idle, allows-free, free-allows, permitted-one, source_of-one, get-one_other, moved-within}
+
+-- a panel's connect leaves a valid state
+pub IsValid-changed : (state : State) (asker : ℕ) (change : Change) → IsValid state → IsChangeOf state.plant change → IsValid (changed state asker change)
+IsValid-changed state asker change valid is =
+    let made : State = record state { crosspoints = applied state.crosspoints (change ∷ []) } in
+    let made_is : IsValid made = IsValid-applied state (change ∷ []) valid (All-push (IsChangeOf state.plant) [] change (All-nil (IsChangeOf state.plant)) is) in
+    elim (is_idle state.crosspoints change) as (λ b. IsValid (record made { boards = cond b state.boards (marked_for_others state.boards asker change.dest Source) })) [
+      | true ↦ made_is
+      | false ↦ IsValid-others made asker change.dest Source is.dest made_is
+    ]
+
+IsValid-connected : (state : State) (panel : ℕ) (at : Point) (source : Option ℕ) → IsValid state → IsValid (connected state panel at source (change_of state.plant at source)).state
+IsValid-connected state panel at source valid =
+    elim (change_of state.plant at source) as (λ o. change_of state.plant at source ≡ o → IsValid (connected state panel at source o).state) [
+      | None ↦ λ h. valid
+      | Some change ↦ λ h.
+          elim (are_permitted state.owners (device_of state.plant panel) (change ∷ [])) as (λ b. IsValid (cond b (says (changed state panel change) (Connected at source)) (says state (Tally at (standing state at)))).state) [
+            | true ↦ IsValid-changed state panel change valid (change_of-IsChangeOf state.plant at source change valid.is_plant h)
+            | false ↦ valid
+          ]
+    ] refl
+
+-- so does a protect, and a lift
+pub IsValid-with_owners : (state : State) (asker dest : ℕ) (owners : Owners) → dest < destinations_of state.plant → IsValid state → AreOwners state.plant owners → IsValid (with_owners state asker dest owners)
+IsValid-with_owners state asker dest owners within valid are =
+    let owned : State = record state { owners = owners } in
+    let owned_is : IsValid owned = IsValid-owners state owners valid are in
+    elim (has_same_owner state.owners owners dest) as (λ b. IsValid (record owned { boards = cond b state.boards (marked_for_others state.boards asker dest Protect) })) [
+      | true ↦ owned_is
+      | false ↦ IsValid-others owned asker dest Protect within owned_is
+    ]
+
+pub IsValid-taken : (state : State) (asker dest : ℕ) → dest < destinations_of state.plant → IsValid state → IsValid (with_owners state asker dest (taken state.owners (device_of state.plant asker) dest))
+IsValid-taken state asker dest within valid =
+    let device : ℕ = device_of state.plant asker in
+    IsValid-with_owners state asker dest (taken state.owners device dest) within valid
+    (AreOwners-taken state.plant state.owners device dest within (device-within state.plant asker valid.is_plant) valid.owners)
+
+pub IsValid-lifted : (state : State) (asker dest : ℕ) → dest < destinations_of state.plant → IsValid state →
+    IsValid (with_owners state asker dest (lifted state.owners (device_of state.plant asker) (is_master state.plant asker) dest))
+IsValid-lifted state asker dest within valid =
+    let device : ℕ = device_of state.plant asker in
+    let master : Bool = is_master state.plant asker in
+    IsValid-with_owners state asker dest (lifted state.owners device master dest) within valid (AreOwners-lifted state.plant state.owners device master dest valid.owners)
+
+IsValid-protected : (state : State) (panel : ℕ) (at : Point) (dest : Option ℕ) → IfSome dest (λ dest. dest < destinations_of state.plant) → IsValid state → IsValid (protected state panel at dest).state
+IsValid-protected state panel at None within valid = valid
+IsValid-protected state panel at (Some dest) within valid =
+    let device : ℕ = device_of state.plant panel in
+    elim (allows state.owners device dest) as (λ b. IsValid (cond b (says (with_owners state panel dest (taken state.owners device dest)) (owner_told ProtectConnected at (Some device))) (says state (owner_told ProtectTally at (finite.get state.owners dest)))).state) [
+      | true ↦ IsValid-taken state panel dest within valid
+      | false ↦ valid
+    ]
+
+IsValid-unprotected : (state : State) (panel : ℕ) (at : Point) (dest : Option ℕ) → IfSome dest (λ dest. dest < destinations_of state.plant) → IsValid state → IsValid (unprotected state panel at dest).state
+IsValid-unprotected state panel at None within valid = valid
+IsValid-unprotected state panel at (Some dest) within valid =
+    let device : ℕ = device_of state.plant panel in
+    let master : Bool = is_master state.plant panel in
+    elim (may_lift state.owners device master dest) as (λ b. IsValid (cond b (says (with_owners state panel dest (lifted state.owners device master dest)) (owner_told ProtectDisconnected at None)) (says state (owner_told ProtectTally at (finite.get state.owners dest)))).state) [
+      | true ↦ IsValid-lifted state panel dest within valid
+      | false ↦ valid
+    ]
+
+-- and what is done to groups
+IsValid-stored : (state : State) (at : Point) (source : Option ℕ) (salvo : ℕ) → IsValid state → IsValid (stored_in state at source salvo (change_of state.plant at source)).state
+IsValid-stored state at source salvo valid =
+    elim (change_of state.plant at source) as (λ o. change_of state.plant at source ≡ o → IsValid (stored_in state at source salvo o).state) [
+      | None ↦ λ h. valid
+      | Some change ↦ λ h.
+          elim (may_store (group_of state.groups salvo) change) as (λ b. IsValid (cond b (says (record state { groups = with_store state.groups salvo change }) (Stored at source salvo)) (says_nothing state)).state) [
+            | true ↦ IsValid-store state salvo change valid (change_of-IsChangeOf state.plant at source change valid.is_plant h)
+            | false ↦ valid
+          ]
+    ] refl
+
+pub IsValid-all_changed : (state : State) (group : Group) → IsValid state → All (IsChangeOf state.plant) group → IsValid (all_changed state group)
+IsValid-all_changed state group valid all =
+    let made : State = record state { crosspoints = applied state.crosspoints group } in
+    IsValid-marked made (moved state.crosspoints group) (moved-within group state.crosspoints (λ dest. dest < destinations_of state.plant) (λ k d below. (all k d below).dest)) (IsValid-applied state group valid all)
+
+pub IsValid-taken_whole : (state : State) (salvo : ℕ) (group : Group) → IsValid state → All (IsChangeOf state.plant) group → IsValid (emptied (all_changed state group) salvo)
+IsValid-taken_whole state salvo group valid all = IsValid-clear (all_changed state group) salvo (IsValid-all_changed state group valid all)
+
+IsValid-whole : (state : State) (panel salvo : ℕ) (group : Group) → IsValid state → All (IsChangeOf state.plant) group → IsValid (taken_whole state panel salvo group).state
+IsValid-whole state panel salvo [] valid all = valid
+IsValid-whole state panel salvo (entry ∷ entries) valid all =
+    elim (are_permitted state.owners (device_of state.plant panel) (entry ∷ entries)) as (λ b. IsValid (cond b (says (emptied (all_changed state (entry ∷ entries)) salvo) (GoDone Made salvo)) (says state (GoDone Protected salvo))).state) [
+      | true ↦ IsValid-taken_whole state salvo (entry ∷ entries) valid all
+      | false ↦ valid
+    ]
+
+IsValid-cleared : (state : State) (salvo : ℕ) (group : Group) → IsValid state → IsValid (cleared state salvo group).state
+IsValid-cleared state salvo [] valid = valid
+IsValid-cleared state salvo (entry ∷ entries) valid = IsValid-clear state salvo valid
+
+IsValid-gone : (state : State) (panel : ℕ) (clear : Bool) (salvo : ℕ) → IsValid state → IsValid (gone state panel clear salvo).state
+IsValid-gone state panel true salvo valid = IsValid-cleared state salvo (group_of state.groups salvo) valid
+IsValid-gone state panel false salvo valid = IsValid-whole state panel salvo (group_of state.groups salvo) valid (valid.changes salvo)
+
+-- every step leaves a valid state
+pub IsValid-step : (state : State) (request : Request) → IsValid state → IsValid (step state request).state
+IsValid-step state (Told panel item (Interrogate at)) valid = valid
+IsValid-step state (Told panel item (Connect at source)) valid = IsValid-connected state panel at source valid
+IsValid-step state (Told panel item (ProtectConnect at device)) valid =
+    IsValid-protected state panel at (dest_of state at) (found-below state.plant at.matrix at.level at.dest (dest_of state at) valid.is_plant refl) valid
+IsValid-step state (Told panel item (ProtectDisconnect at device)) valid =
+    IsValid-unprotected state panel at (dest_of state at) (found-below state.plant at.matrix at.level at.dest (dest_of state at) valid.is_plant refl) valid
+IsValid-step state (Told panel item (Store at source salvo)) valid = IsValid-stored state at source salvo valid
+IsValid-step state (Told panel item (Go clear salvo)) valid = IsValid-gone state panel clear salvo valid
+IsValid-step state (Told panel item message) valid = valid
+IsValid-step state (Poll panel item turn) valid = IsValid-take state panel valid
+IsValid-step state (Leave panel) valid = IsValid-leave state panel valid
+
+-- a change that isn't idle is made, and the others hear of it; an idle one leaves all as it was
+pub changed-busy : (state : State) (asker : ℕ) (change : Change) → is_idle state.crosspoints change ≡ false →
+    record state { crosspoints = applied state.crosspoints (change ∷ []); boards = marked_for_others state.boards asker change.dest Source } ≡ changed state asker change
+changed-busy state asker change busy =
+    λ i. record state { crosspoints = applied state.crosspoints (change ∷ []); boards = cond (sym busy i) state.boards (marked_for_others state.boards asker change.dest Source) }
+
+pub changed-idle : (state : State) (asker : ℕ) (change : Change) → is_idle state.crosspoints change ≡ true → state ≡ changed state asker change
+changed-idle state asker change idle =
+    λ i. record state { crosspoints = sym (applied-idle state.crosspoints change idle) i; boards = cond (sym idle i) state.boards (marked_for_others state.boards asker change.dest Source) }
+
+-- an entry of a group is a change of the plant
+pub entry-IsChangeOf : (state : State) (salvo index : ℕ) (entry : Change) → IsValid state → slice_get (group_of state.groups salvo) index ≡ Some entry → IsChangeOf state.plant entry
+entry-IsChangeOf state salvo index entry valid here = elim (cases_lt index (length (group_of state.groups salvo))) [
+  | inl within ↦
+      let found : Some (get_or (group_of state.groups salvo) index entry) ≡ Some entry = sym (slice_get-get_or (group_of state.groups salvo) index entry within) ∙ here in
+      let same : get_or (group_of state.groups salvo) index entry ≡ entry = cc in
+      subst (IsChangeOf state.plant) same (valid.changes salvo index entry within)
+  | inr past ↦ let none = slice_get_past (group_of state.groups salvo) index past in absurd cc
+]

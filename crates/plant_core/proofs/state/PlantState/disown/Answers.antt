@@ -1,0 +1,7 @@
+use Rattle.plant_core.specs.StateInside.{state_of}
+use Rattle.plant_core.proofs.Validity.{IsValid-owners, AreOwners-lifted}
+use Rattle.plant_core.proofs.state.PlantState.disown.Goals as goal
+
+pub invariant_of-self : goal.invariant_of-self
+invariant_of-self c =
+    rw c.lift.ensures.owners (IsValid-owners (state_of c.self.inside.plant c.self.inside.crosspoints c.self.inside.protects c.self.inside.groups c.self.inside.notices) _ c.self.invariant (AreOwners-lifted c.self.inside.plant c.self.inside.protects c.args.device c.args.master c.args.dest c.self.invariant.owners))

@@ -1,0 +1,6 @@
+use Rattle.plant_core.specs.StateInside.{state_of}
+use Rattle.plant_core.proofs.Validity.{IsValid-clear}
+use Rattle.plant_core.proofs.state.PlantState.empty.Goals as goal
+
+pub invariant_of-self : goal.invariant_of-self
+invariant_of-self c = rw c.clear.ensures (IsValid-clear (state_of c.self.inside.plant c.self.inside.crosspoints c.self.inside.protects c.self.inside.groups c.self.inside.notices) c.args.salvo c.self.invariant)

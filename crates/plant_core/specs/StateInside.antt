@@ -1,0 +1,18 @@
+-- How a state is kept.
+use Rattle.std.specs.Prelude.{ℕ, List}
+use Rattle.plant_config.specs.Plant.{PlantData}
+use Rattle.crosspoint_state.specs.Crosspoints.{Crosspoints}
+use Rattle.protects.specs.Owners.{Owners}
+use Rattle.salvo_groups.specs.Groups.{Group}
+use Rattle.change_boards.specs.Board.{Board}
+use Rattle.plant_core.specs.State.{State}
+
+-- the state that its parts stand for
+abbrev pub state_of : PlantData → Crosspoints → Owners → List Group → List Board → State
+state_of plant crosspoints owners groups boards = record {
+  plant = plant;
+  crosspoints = crosspoints;
+  owners = owners;
+  groups = groups;
+  boards = boards;
+}

@@ -1,0 +1,103 @@
+//! Connects: what they ask for, whether they are permitted, and how they are made.
+
+ghost use Rattle.std.specs.Prelude.{◌≡◌, [], ◌∷◌, IfSome};
+ghost use Rattle.crosspoint_state.specs.Crosspoints.{is_idle, applied};
+ghost use Rattle.protects.specs.Owners.{allows};
+ghost use Rattle.swp08_messages.specs.declared.message.Message.TheVariants.{Connect};
+ghost use Rattle.plant_core.specs.State.{IsValid, IsChangeOf, device_of};
+ghost use Rattle.plant_core.specs.Connects.{wanted, change_of, are_permitted, changed};
+ghost use Rattle.plant_core.specs.Step.{answered};
+ghost use Rattle.plant_core.specs.AnswerInside.{SaysJust};
+
+use crate::state::PlantState;
+use change_boards::Sort;
+use plant_config::{Change, DestId, PanelNo, SourceId};
+use protects::Protects;
+use swp08_messages::{Message, Point};
+
+impl PlantState {
+    // Makes a connect where it is in range and permitted, and answers so; else answers with the source that stands.
+    pub(crate) fn connect(&mut self, panel: PanelNo, at: Point, source: Option<u16>) -> Message
+        ensures state { self.new ≡ (answered self.old panel (Connect at source)).state }
+        ensures answer { SaysJust (answered self.old panel (Connect at source)) result }
+        ensures valid { IsValid self.old }
+    {
+        let Some(change) = self.change(at, source) else {
+            return self.tally(at);
+        };
+        if !self.may_change(panel, change.dest) {
+            return self.tally(at);
+        }
+        self.make(panel, change);
+        Message::Connected { at, source }
+    }
+
+    // Whether no device but the panel's protects a destination.
+    fn may_change(&self, panel: PanelNo, dest: DestId) -> bool
+        ensures { result ≡ allows self.now.owners (device_of self.now.plant panel) dest }
+    {
+        let device = self.device_of(panel);
+        self.protects.allows(device, dest)
+    }
+
+    // The change that a connect, or the store of an entry, asks for, `None` where the destination or the source is out of
+    // range.
+    pub(crate) fn change(&self, at: Point, source: Option<u16>) -> Option<Change>
+        ensures change { result ≡ change_of self.now.plant at source }
+        ensures within { IfSome result (IsChangeOf self.now.plant) }
+        ensures valid { IsValid self.now }
+    {
+        let dest = self.dest_of(at)?;
+        let source = self.wanted(at, source)?;
+        Some(Change { dest, source })
+    }
+
+    // What the destination of a connect is to carry, `None` where the source is out of range.
+    fn wanted(&self, at: Point, source: Option<u16>) -> Option<Option<SourceId>>
+        ensures { result ≡ wanted self.now.plant at source }
+    {
+        match source {
+            Some(number) => Some(Some(self.plant.source(at.matrix, at.level, number)?)),
+            None => Some(None),
+        }
+    }
+
+    // Whether a change would change nothing.
+    fn is_idle(&self, change: &Change) -> bool
+        ensures idle { result ≡ is_idle self.now.crosspoints change.now }
+        ensures valid { IsValid self.now }
+    {
+        self.crosspoints.is_idle(change)
+    }
+
+    // Makes a panel's change, and gives notice of it to the others, unless it is idle.
+    fn make(&mut self, asker: PanelNo, change: Change)
+        requires { IsChangeOf self.old.plant change }
+        ensures { self.new ≡ changed self.old asker change }
+    {
+        if self.is_idle(&change) {
+            return;
+        }
+        self.apply(change);
+        self.give_notice(asker, change.dest, Sort::Source);
+    }
+
+    // Makes a change, as a list of one.
+    fn apply(&mut self, change: Change)
+        requires { IsChangeOf self.old.plant change }
+        ensures { self.new ≡ record self.old {
+          crosspoints = applied self.old.crosspoints (change ∷ []);
+        } }
+    {
+        self.crosspoints.set_all(&[change]);
+    }
+}
+
+// Whether no device but this one protects a destination of these changes.
+pub(crate) fn are_permitted(protects: &Protects, device: u16, changes: &[Change]) -> bool
+    ensures { result ≡ are_permitted protects.now device changes.now }
+{
+    changes
+        .iter()
+        .all(|change| protects.allows(device, change.dest))
+}
