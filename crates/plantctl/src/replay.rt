@@ -10,6 +10,7 @@ ghost use Rattle.plantctl.specs.StopInside.{stopped_by_files, stopped_by_output,
 use crate::stop::Stop;
 use ctl_io::{Files, Sink, read_file};
 use plant_config::Plant;
+use plant_names::Names;
 use record_replay::replay_script;
 use std::alloc::Global;
 
@@ -45,6 +46,7 @@ pub(crate) fn replay<'a, F: Files, K: Sink>(
         Ok(script) => script,
         Err(fault) => return Err(Stop::of_file(fault, name, Stop::ScriptTooLong)),
     };
-    replay_script(alloc, plant, &script, out)?;
+    let names = Names::new(alloc, plant)?;
+    replay_script(alloc, plant, &names, &script, out)?;
     Ok(())
 }

@@ -1,6 +1,9 @@
 pub mod LinesLemmas
 pub mod NumberSpellsLemmas
 pub mod LineInsideLemmas
+pub mod MessageFrames
+pub mod TakeLemmas
+pub mod ConnectLemmas
 pub mod LineSpellsLemmas
 pub mod LinesSpellLemmas
 pub mod WorksLemmas
@@ -17,6 +20,7 @@ pub mod EncodeLemmas
 pub mod OutputLemmas
 pub mod TurnLemmas
 pub mod ItemsFew
+pub mod NeedLemmas
 pub mod SmallLemmas
 pub mod ServesLemmas
 pub mod StageLemmas

@@ -1,19 +1,20 @@
 -- What a line spells.
-use Rattle.std.proofs.Common.{◌≡◌, ℕ, ◌+◌, ◌*◌, ◌≤◌, ◌≢◌, ◌⊎◌, inl, inr, Bool, true, false, List, [], ◌∷◌, ◌++◌, length, get_or, take, drop, All, refl, sym, ◌∙◌, ap, subst, append_assoc, arith, length-append}
-use Rattle.std.specs.Prelude.{codes, filter, ◌==◌, not}
+use Rattle.std.proofs.Common.{◌≡◌, ℕ, ◌<◌, ◌≤◌, ◌≢◌, ◌⊎◌, inl, inr, Bool, true, false, List, [], ◌∷◌, ◌++◌, length, get_or, take, drop, All, refl, sym, ◌∙◌, ap, subst, append_assoc, arith}
+use Rattle.std.specs.Prelude.{codes}
 use Rattle.std.specs.Str.{bytes_eq}
 use Rattle.std.proofs.Math.ListN.{take-append-drop}
 use Rattle.std.proofs.Math.Seq.{take-append_seam}
 use Rattle.std.proofs.lemmas.Bool.{cases_lt}
 use Rattle.std.proofs.lemmas.Bool.Decides.{nat_tests}
 use Rattle.std.proofs.lemmas.Slice.Eq.{bytes_eq-Decides}
-use Rattle.std.proofs.lemmas.List.Filters.{length-filter_both}
-use Rattle.hex.proofs.HexLemmas.{decode_of-same, decode_of-ok}
+use Rattle.hex.proofs.HexLemmas.{decode_of-same}
 use Rattle.plant_config.specs.Plant.{PlantData}
-use Rattle.record_replay.specs.Script.{Work, Read, Leave, space, hash, longest_line, is_skipped, IsDigit, NumberSpells, HexSpells, LineSpells}
-use Rattle.record_replay.specs.LineInside.{IsTurn}
+use Rattle.record_replay.specs.Take.{message_frame}
+use Rattle.record_replay.specs.Script.{Work, Read, Leave, space, tab, hash, longest_line, is_skipped, IsDigit, NumberSpells, HexSpells, Sends, Takes, LineSpells}
+use Rattle.record_replay.specs.LineInside.{IsTurn, IsNoTurn, IsTake, IsNoTake}
 use Rattle.record_replay.proofs.NumberSpellsLemmas.{NoPanel, one_number, panel_of_digits}
-use Rattle.record_replay.proofs.LineInsideLemmas.{no_space-digits, one_cut, turn_of}
+use Rattle.record_replay.proofs.LineInsideLemmas.{no_space-digits, no_tab-digits, one_cut, turn_of}
+use Rattle.record_replay.proofs.TakeLemmas.{one_take, take_of}
 
 -- the line of a turn with these digits
 abbrev turn : List ℕ → List ℕ → List ℕ
@@ -25,59 +26,76 @@ turn-cut digits hex = ap (λ (l : List ℕ). 62 ∷ 32 ∷ l) (append_assoc digi
 -- two turns that one line spells
 one_turn : (line digits others hex other_hex : List ℕ) → All IsDigit digits → All IsDigit others → line ≡ turn digits hex → line ≡ turn others other_hex → (digits ≡ others) × (hex ≡ other_hex)
 one_turn line digits others hex other_hex each_digits each_others is_one is_other =
-    one_cut digits others hex other_hex (no_space-digits digits each_digits) (no_space-digits others each_others)
+    one_cut space digits others hex other_hex (no_space-digits digits each_digits) (no_space-digits others each_others)
     (ap (drop 2) (sym (is_one ∙ turn-cut digits hex) ∙ is_other ∙ turn-cut others other_hex))
 
--- the three forms of a line differ in its first byte
+-- a take is what stands behind `take `
+pub take_behind : (plant : PlantData) (line digits piece : List ℕ) (panel : ℕ) → NumberSpells digits panel → panel < length plant.panels → Takes plant line digits piece → IsTake plant (drop 5 line) panel piece
+take_behind plant line digits piece panel number has_panel takes = record {
+  digits = digits;
+  matrix = takes.matrix;
+  level = takes.level;
+  dest = takes.dest;
+  source = takes.source;
+  parts = record {
+    place = ap (drop 5) takes.place;
+    panel_ends = no_space-digits digits number.each;
+    matrix_ends = no_space-digits takes.matrix takes.asks.matrix_spelled.each;
+    level_ends = no_tab-digits takes.level takes.asks.level_spelled.each;
+    dest_ends = takes.dest_ends;
+  };
+  number = number;
+  has_panel = has_panel;
+  message = takes.message;
+  asks = takes.asks;
+  piece_is = takes.piece_is;
+}
+
+-- the forms of a line differ in its first byte
 first_is : (line : List ℕ) (byte : ℕ) (more : List ℕ) → line ≡ byte ∷ more → get_or line 0 0 ≡ byte
 first_is line byte more is = ap (λ (l : List ℕ). get_or l 0 0) is
+
+-- A line has the form of a turn with bytes, and what its first byte is then.
+abbrev Fills : PlantData → List ℕ → List ℕ → List ℕ → Type 0
+Fills plant line digits piece = Sends line digits piece ⊎ Takes plant line digits piece
+
+first_filled : (plant : PlantData) (line digits piece : List ℕ) → Fills plant line digits piece → (get_or line 0 0 ≡ 62) ⊎ (get_or line 0 0 ≡ 116)
+first_filled plant line digits piece (inl sends) = inl (first_is line 62 _ sends.1)
+first_filled plant line digits piece (inr takes) = inr (first_is line 116 _ takes.place)
+
+-- No line of a turn with bytes begins with this byte.
+filled_apart : (plant : PlantData) (line digits piece : List ℕ) (byte : ℕ) → Fills plant line digits piece → get_or line 0 0 ≡ byte → 100 ≤ byte → byte ≤ 115 → ⊥
+filled_apart plant line digits piece byte fills is least most = elim (first_filled plant line digits piece fills) [
+  | inl turn ↦ omega (arith, turn, is, least)
+  | inr take ↦ omega (arith, take, is, most)
+]
+
+-- a line spells one turn with bytes
+one_filled : (plant : PlantData) (line digits others : List ℕ) (m n : ℕ) (piece other : List ℕ) → NumberSpells digits m → NumberSpells others n → m < length plant.panels → n < length plant.panels
+    → Fills plant line digits piece → Fills plant line others other → (m ≡ n) × (piece ≡ other)
+one_filled plant line digits others m n piece other number_m number_n has_m has_n (inl a) (inl b) =
+    let same = one_turn line digits others a.0 b.0 number_m.each number_n.each a.1 b.1 in
+    (one_number digits others m n same.0 number_m number_n, decode_of-same _ _ _ a.2 (subst (λ (hex : List ℕ). HexSpells hex other) (sym same.1) b.2))
+one_filled plant line digits others m n piece other number_m number_n has_m has_n (inl a) (inr b) = absurd (omega (arith, first_is line 62 _ a.1, first_is line 116 _ b.place))
+one_filled plant line digits others m n piece other number_m number_n has_m has_n (inr a) (inl b) = absurd (omega (arith, first_is line 116 _ a.place, first_is line 62 _ b.1))
+one_filled plant line digits others m n piece other number_m number_n has_m has_n (inr a) (inr b) =
+    one_take plant (drop 5 line) m n piece other (take_behind plant line digits piece m number_m has_m a) (take_behind plant line others other n number_n has_n b)
 
 -- a line spells one piece of work
 pub one_work : (plant : PlantData) (line : List ℕ) (a b : Work) → LineSpells plant line a → LineSpells plant line b → a ≡ b
 one_work plant line (Read m []) (Read n []) a b =
     ap (λ (panel : ℕ). Read panel []) (one_number a.digits b.digits m n (ap (drop 5) (sym a.form ∙ b.form)) a.number b.number)
-one_work plant line (Read m []) (Read n (byte ∷ bytes)) a b = absurd (omega (arith, first_is line 112 _ a.form, first_is line 62 _ b.form.1))
+one_work plant line (Read m []) (Read n (byte ∷ bytes)) a b = absurd (filled_apart plant line b.digits (byte ∷ bytes) 112 b.form (first_is line 112 _ a.form) (omega arith) (omega arith))
 one_work plant line (Read m []) (Leave n) a b = absurd (omega (arith, first_is line 112 _ a.form, first_is line 108 _ b.form))
-one_work plant line (Read m (byte ∷ bytes)) (Read n []) a b = absurd (omega (arith, first_is line 62 _ a.form.1, first_is line 112 _ b.form))
+one_work plant line (Read m (byte ∷ bytes)) (Read n []) a b = absurd (filled_apart plant line a.digits (byte ∷ bytes) 112 a.form (first_is line 112 _ b.form) (omega arith) (omega arith))
 one_work plant line (Read m (byte ∷ bytes)) (Read n (other ∷ others)) a b =
-    let same = one_turn line a.digits b.digits a.form.0 b.form.0 a.number.each b.number.each a.form.1 b.form.1 in
-    let panel = one_number a.digits b.digits m n same.0 a.number b.number in
-    let piece = decode_of-same _ _ _ a.form.2 (subst (λ (hex : List ℕ). HexSpells hex (other ∷ others)) (sym same.1) b.form.2) in
-    λ i. Read (panel i) (piece i)
-one_work plant line (Read m (byte ∷ bytes)) (Leave n) a b = absurd (omega (arith, first_is line 62 _ a.form.1, first_is line 108 _ b.form))
+    let same = one_filled plant line a.digits b.digits m n (byte ∷ bytes) (other ∷ others) a.number b.number a.has_panel b.has_panel a.form b.form in
+    λ i. Read (same.0 i) (same.1 i)
+one_work plant line (Read m (byte ∷ bytes)) (Leave n) a b = absurd (filled_apart plant line a.digits (byte ∷ bytes) 108 a.form (first_is line 108 _ b.form) (omega arith) (omega arith))
 one_work plant line (Leave m) (Read n []) a b = absurd (omega (arith, first_is line 108 _ a.form, first_is line 112 _ b.form))
-one_work plant line (Leave m) (Read n (byte ∷ bytes)) a b = absurd (omega (arith, first_is line 108 _ a.form, first_is line 62 _ b.form.1))
+one_work plant line (Leave m) (Read n (byte ∷ bytes)) a b = absurd (filled_apart plant line b.digits (byte ∷ bytes) 108 b.form (first_is line 108 _ a.form) (omega arith) (omega arith))
 one_work plant line (Leave m) (Leave n) a b =
     ap (λ (panel : ℕ). Leave panel) (one_number a.digits b.digits m n (ap (drop 6) (sym a.form ∙ b.form)) a.number b.number)
-
--- what passes a test is no longer than the text
-length-filter : (test : ℕ → Bool) (text : List ℕ) → length (filter test text) ≤ length text
-length-filter test text = omega (arith, length-filter_both test (λ byte. not (test byte)) (λ byte. refl) text)
-
-length-HexSpells : (hex bytes : List ℕ) → HexSpells hex bytes → 2 * length bytes ≤ length hex
-length-HexSpells hex bytes spells =
-    let digits = filter (λ byte. not (byte == space)) hex in
-    omega (arith, (decode_of-ok digits bytes spells).2, length-filter (λ byte. not (byte == space)) hex)
-
--- a line is longer than the hexadecimal of its bytes
-pub length-Read : (plant : PlantData) (line : List ℕ) (panel : ℕ) (piece : List ℕ) → LineSpells plant line (Read panel piece) → 2 * length piece + 4 ≤ length line
-length-Read plant line panel [] spells =
-    let some = spells.number.some in
-    omega (arith, ap length spells.form)
-length-Read plant line panel (byte ∷ bytes) spells =
-    let some = spells.number.some in
-    let hex = length-HexSpells spells.form.0 (byte ∷ bytes) spells.form.2 in
-    omega (arith, ap length (spells.form.1 ∙ turn-cut spells.digits spells.form.0), length-append spells.digits (space ∷ spells.form.0))
-
--- a line of work has at least six bytes
-pub length-work : (plant : PlantData) (line : List ℕ) (work : Work) → LineSpells plant line work → 6 ≤ length line
-length-work plant line (Read panel []) spells =
-    let some = spells.number.some in
-    omega (arith, ap length spells.form)
-length-work plant line (Read panel (byte ∷ bytes)) spells = omega (arith, length-Read plant line panel (byte ∷ bytes) spells)
-length-work plant line (Leave panel) spells =
-    let some = spells.number.some in
-    omega (arith, ap length spells.form)
 
 -- a line that isn't empty and doesn't begin with `#` isn't skipped
 pub not_skipped : (line : List ℕ) → 1 ≤ length line → get_or line 0 0 ≢ hash → is_skipped line ≡ false
@@ -105,40 +123,82 @@ turn_spells plant line behind panel (byte ∷ bytes) within front found = record
   digits = found.digits;
   number = found.number;
   has_panel = found.has_panel;
-  form = (found.hex, front ∙ ap (λ (l : List ℕ). codes "> " ++ l) found.place ∙ sym (turn-cut found.digits found.hex), found.spelled);
+  form = inl (found.hex, front ∙ ap (λ (l : List ℕ). codes "> " ++ l) found.place ∙ sym (turn-cut found.digits found.hex), found.spelled);
   within = within;
 }
 
-pub no_turn : (plant : PlantData) (line behind : List ℕ) → line ≡ codes "> " ++ behind → ((panel : ℕ) (piece : List ℕ) → IsTurn plant behind panel piece → ⊥) → (work : Work) → LineSpells plant line work → ⊥
-no_turn plant line behind front none (Read panel []) spells = absurd (omega (arith, first_is line 62 _ front, first_is line 112 _ spells.form))
-no_turn plant line behind front none (Read panel (byte ∷ bytes)) spells = none panel (byte ∷ bytes) (record {
-  digits = spells.digits;
-  hex = spells.form.0;
-  place = ap (drop 2) (sym front ∙ spells.form.1 ∙ turn-cut spells.digits spells.form.0);
-  number = spells.number;
-  has_panel = spells.has_panel;
-  spelled = spells.form.2;
-  some = omega arith;
+-- a take by what stands behind its front
+pub take_spells : (plant : PlantData) (line behind : List ℕ) (panel : ℕ) (piece : List ℕ) → length line ≤ longest_line → line ≡ codes "take " ++ behind → IsTake plant behind panel piece → LineSpells plant line (Read panel piece)
+take_spells plant line behind panel [] within front found =
+    let is : [] ≡ message_frame found.message = found.piece_is in
+    absurd cc
+take_spells plant line behind panel (byte ∷ bytes) within front found = record {
+  digits = found.digits;
+  number = found.number;
+  has_panel = found.has_panel;
+  form = inr (record {
+    matrix = found.matrix;
+    level = found.level;
+    dest = found.dest;
+    source = found.source;
+    place = front ∙ ap (λ (l : List ℕ). codes "take " ++ l) found.parts.place;
+    dest_ends = found.parts.dest_ends;
+    message = found.message;
+    asks = found.asks;
+    piece_is = found.piece_is;
+  });
+  within = within;
+}
+
+no_sends : (plant : PlantData) (line behind : List ℕ) (panel : ℕ) (digits piece : List ℕ) → line ≡ codes "> " ++ behind → IsNoTurn plant behind → NumberSpells digits panel → panel < length plant.panels → 1 ≤ length piece
+    → Fills plant line digits piece → ⊥
+no_sends plant line behind panel digits piece front none number has_panel some (inl sends) = none panel piece (record {
+  digits = digits;
+  hex = sends.0;
+  place = ap (drop 2) (sym front ∙ sends.1 ∙ turn-cut digits sends.0);
+  number = number;
+  has_panel = has_panel;
+  spelled = sends.2;
+  some = some;
 })
+no_sends plant line behind panel digits piece front none number has_panel some (inr takes) = omega (arith, first_is line 62 _ front, first_is line 116 _ takes.place)
+
+pub no_turn : (plant : PlantData) (line behind : List ℕ) → line ≡ codes "> " ++ behind → IsNoTurn plant behind → (work : Work) → LineSpells plant line work → ⊥
+no_turn plant line behind front none (Read panel []) spells = absurd (omega (arith, first_is line 62 _ front, first_is line 112 _ spells.form))
+no_turn plant line behind front none (Read panel (byte ∷ bytes)) spells = no_sends plant line behind panel spells.digits (byte ∷ bytes) front none spells.number spells.has_panel (omega arith) spells.form
 no_turn plant line behind front none (Leave panel) spells = absurd (omega (arith, first_is line 62 _ front, first_is line 108 _ spells.form))
 
-no_poll : (plant : PlantData) (line digits : List ℕ) → line ≡ codes "poll " ++ digits → NoPanel digits (length plant.panels) → (work : Work) → LineSpells plant line work → ⊥
+no_takes : (plant : PlantData) (line behind : List ℕ) (panel : ℕ) (digits piece : List ℕ) → line ≡ codes "take " ++ behind → IsNoTake plant behind → NumberSpells digits panel → panel < length plant.panels
+    → Fills plant line digits piece → ⊥
+no_takes plant line behind panel digits piece front none number has_panel (inl sends) = omega (arith, first_is line 116 _ front, first_is line 62 _ sends.1)
+no_takes plant line behind panel digits piece front none number has_panel (inr takes) =
+    none panel piece (subst (λ (text : List ℕ). IsTake plant text panel piece) (ap (drop 5) front) (take_behind plant line digits piece panel number has_panel takes))
+
+pub no_take : (plant : PlantData) (line behind : List ℕ) → line ≡ codes "take " ++ behind → IsNoTake plant behind → (work : Work) → LineSpells plant line work → ⊥
+no_take plant line behind front none (Read panel []) spells = absurd (omega (arith, first_is line 116 _ front, first_is line 112 _ spells.form))
+no_take plant line behind front none (Read panel (byte ∷ bytes)) spells = no_takes plant line behind panel spells.digits (byte ∷ bytes) front none spells.number spells.has_panel spells.form
+no_take plant line behind front none (Leave panel) spells = absurd (omega (arith, first_is line 116 _ front, first_is line 108 _ spells.form))
+
+pub no_poll : (plant : PlantData) (line digits : List ℕ) → line ≡ codes "poll " ++ digits → NoPanel digits (length plant.panels) → (work : Work) → LineSpells plant line work → ⊥
 no_poll plant line digits form none (Read panel []) spells =
     none panel (subst (λ (d : List ℕ). NumberSpells d panel) (ap (drop 5) (sym spells.form ∙ form)) spells.number) spells.has_panel
-no_poll plant line digits form none (Read panel (byte ∷ bytes)) spells = absurd (omega (arith, first_is line 112 _ form, first_is line 62 _ spells.form.1))
+no_poll plant line digits form none (Read panel (byte ∷ bytes)) spells = filled_apart plant line spells.digits (byte ∷ bytes) 112 spells.form (first_is line 112 _ form) (omega arith) (omega arith)
 no_poll plant line digits form none (Leave panel) spells = absurd (omega (arith, first_is line 112 _ form, first_is line 108 _ spells.form))
 
-no_leave : (plant : PlantData) (line digits : List ℕ) → line ≡ codes "leave " ++ digits → NoPanel digits (length plant.panels) → (work : Work) → LineSpells plant line work → ⊥
+pub no_leave : (plant : PlantData) (line digits : List ℕ) → line ≡ codes "leave " ++ digits → NoPanel digits (length plant.panels) → (work : Work) → LineSpells plant line work → ⊥
 no_leave plant line digits form none (Read panel []) spells = absurd (omega (arith, first_is line 108 _ form, first_is line 112 _ spells.form))
-no_leave plant line digits form none (Read panel (byte ∷ bytes)) spells = absurd (omega (arith, first_is line 108 _ form, first_is line 62 _ spells.form.1))
+no_leave plant line digits form none (Read panel (byte ∷ bytes)) spells = filled_apart plant line spells.digits (byte ∷ bytes) 108 spells.form (first_is line 108 _ form) (omega arith) (omega arith)
 no_leave plant line digits form none (Leave panel) spells =
     none panel (subst (λ (d : List ℕ). NumberSpells d panel) (ap (drop 6) (sym spells.form ∙ form)) spells.number) spells.has_panel
 
-no_form : (plant : PlantData) (line : List ℕ) → HasNoFront line (codes "> ") → HasNoFront line (codes "poll ") → HasNoFront line (codes "leave ") → (work : Work) → LineSpells plant line work → ⊥
-no_form plant line no_turn no_poll no_leave (Read panel []) spells = no_poll spells.digits spells.form
-no_form plant line no_turn no_poll no_leave (Read panel (byte ∷ bytes)) spells =
-    no_turn (spells.digits ++ space ∷ spells.form.0) (spells.form.1 ∙ turn-cut spells.digits spells.form.0)
-no_form plant line no_turn no_poll no_leave (Leave panel) spells = no_leave spells.digits spells.form
+no_filled : (plant : PlantData) (line digits piece : List ℕ) → HasNoFront line (codes "> ") → HasNoFront line (codes "take ") → Fills plant line digits piece → ⊥
+no_filled plant line digits piece no_turn no_take (inl sends) = no_turn (digits ++ space ∷ sends.0) (sends.1 ∙ turn-cut digits sends.0)
+no_filled plant line digits piece no_turn no_take (inr takes) = no_take (digits ++ space ∷ (takes.matrix ++ space ∷ (takes.level ++ tab ∷ (takes.dest ++ tab ∷ takes.source)))) takes.place
+
+no_form : (plant : PlantData) (line : List ℕ) → HasNoFront line (codes "> ") → HasNoFront line (codes "take ") → HasNoFront line (codes "poll ") → HasNoFront line (codes "leave ") → (work : Work) → LineSpells plant line work → ⊥
+no_form plant line no_turn no_take no_poll no_leave (Read panel []) spells = no_poll spells.digits spells.form
+no_form plant line no_turn no_take no_poll no_leave (Read panel (byte ∷ bytes)) spells = no_filled plant line spells.digits (byte ∷ bytes) no_turn no_take spells.form
+no_form plant line no_turn no_take no_poll no_leave (Leave panel) spells = no_leave spells.digits spells.form
 
 -- a line has a front or not
 front_of : (front line : List ℕ) → ((behind : List ℕ) × (line ≡ front ++ behind)) ⊎ HasNoFront line front
@@ -158,6 +218,12 @@ spelled_turn plant line behind within form = elim (turn_of plant behind) [
   | inr none ↦ inr (λ spelled. no_turn plant line behind form none spelled.0 spelled.1)
 ]
 
+spelled_take : (plant : PlantData) (line behind : List ℕ) → length line ≤ longest_line → line ≡ codes "take " ++ behind → IsSpelled plant line ⊎ ¬ IsSpelled plant line
+spelled_take plant line behind within form = elim (take_of plant behind) [
+  | inl take ↦ inl (Read take.0 take.1, take_spells plant line behind take.0 take.1 within form take.2)
+  | inr none ↦ inr (λ spelled. no_take plant line behind form none spelled.0 spelled.1)
+]
+
 spelled_poll : (plant : PlantData) (line digits : List ℕ) → length line ≤ longest_line → line ≡ codes "poll " ++ digits → IsSpelled plant line ⊎ ¬ IsSpelled plant line
 spelled_poll plant line digits within form = elim (panel_of_digits digits (length plant.panels)) [
   | inl panel ↦ inl (Read panel.0 [], record { digits = digits; number = panel.1; has_panel = panel.2; form = form; within = within })
@@ -173,11 +239,14 @@ spelled_leave plant line digits within form = elim (panel_of_digits digits (leng
 spelled_within : (plant : PlantData) (line : List ℕ) → length line ≤ longest_line → IsSpelled plant line ⊎ ¬ IsSpelled plant line
 spelled_within plant line within = elim (front_of (codes "> ") line) [
   | inl turn ↦ spelled_turn plant line turn.0 within turn.1
-  | inr isnt_turn ↦ elim (front_of (codes "poll ") line) [
-    | inl poll ↦ spelled_poll plant line poll.0 within poll.1
-    | inr isnt_poll ↦ elim (front_of (codes "leave ") line) [
-      | inl leave ↦ spelled_leave plant line leave.0 within leave.1
-      | inr isnt_leave ↦ inr (λ spelled. no_form plant line isnt_turn isnt_poll isnt_leave spelled.0 spelled.1)
+  | inr isnt_turn ↦ elim (front_of (codes "take ") line) [
+    | inl take ↦ spelled_take plant line take.0 within take.1
+    | inr isnt_take ↦ elim (front_of (codes "poll ") line) [
+      | inl poll ↦ spelled_poll plant line poll.0 within poll.1
+      | inr isnt_poll ↦ elim (front_of (codes "leave ") line) [
+        | inl leave ↦ spelled_leave plant line leave.0 within leave.1
+        | inr isnt_leave ↦ inr (λ spelled. no_form plant line isnt_turn isnt_take isnt_poll isnt_leave spelled.0 spelled.1)
+      ]
     ]
   ]
 ]

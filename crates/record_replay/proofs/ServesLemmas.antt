@@ -5,7 +5,8 @@ use Rattle.plant_config.specs.Plant.{PlantData}
 use Rattle.plant_core.specs.Answer.{room_of}
 use Rattle.plant_core.specs.State.{State, IsValid, FitsPlant, Fits}
 use Rattle.plant_core.specs.Step.{step}
-use Rattle.plant_core.proofs.AnswerLemmas.{All-sayable, room_within}
+use Rattle.plant_core.proofs.AnswerLemmas.{All-sayable}
+use Rattle.plant_core.proofs.CountLemmas.{room_within}
 use Rattle.panel_session.specs.Run.{Serves}
 use Rattle.record_replay.proofs.WorksLemmas.{run-valid}
 

@@ -1,35 +1,42 @@
 -- That what sessions do stays small.
-use Rattle.std.proofs.Common.{◌≡◌, ℕ, ◌+◌, ◌*◌, ◌^◌, ◌≤◌, ◌<◌, List, [], ◌∷◌, ◌++◌, length, ap, ◌∙◌, arith}
+use Rattle.std.proofs.Common.{◌≡◌, ℕ, zero, suc, ◌+◌, ◌*◌, ◌^◌, ◌≤◌, ◌<◌, List, [], ◌∷◌, ◌++◌, ap, ◌∙◌, arith}
 use Rattle.std.proofs.lemmas.List.{append-nil, length-append}
 use Rattle.panel_session.specs.Acting.{MayGoOn}
 use Rattle.panel_session.specs.Run.{turned}
 use Rattle.panel_session.specs.SoFar.{Past, unread, nothing_yet, read_so_far}
 use Rattle.panel_session.specs.Turns.{Turn, bytes_of}
 use Rattle.panel_session.proofs.KeptTurnLemmas.{bytes_of-append}
-use Rattle.record_replay.specs.StageInside.{IsSmall}
-use Rattle.record_replay.proofs.ItemsFew.{items-few}
+use Rattle.record_replay.specs.StageInside.{IsSmall, at_least_one, ends_in}
+use Rattle.record_replay.proofs.ItemsFew.{ends_in-append, items-few}
 
 pub small_nothing : (used : ℕ) → IsSmall used nothing_yet
-small_nothing used = record { bytes = omega arith; turns = omega arith }
+small_nothing used = record { ends = omega arith; turns = omega arith }
 
 pub small_later : (used later : ℕ) (past : Past) → used ≤ later → IsSmall used past → IsSmall later past
-small_later used later past within small = record { bytes = omega (arith, within, small.bytes); turns = omega (arith, within, small.turns) }
+small_later used later past within small = record { ends = omega (arith, within, small.ends); turns = omega (arith, within, small.turns) }
 
--- A turn more has a piece, whose bytes need two of the script each, and two for itself.
-pub small_turned : (used : ℕ) (past : Past) (turn : Turn) (more : List ℕ) → IsSmall used past → IsSmall (used + (2 * length turn.piece + 2)) (turned turn more past)
-small_turned used past turn more small = record {
-  bytes = omega (arith, small.bytes, ap (length {A = ℕ}) (bytes_of-append past.turns turn), length-append (bytes_of past.turns) turn.piece);
-  turns = omega (arith, small.turns, length-append past.turns (turn ∷ []));
-}
+pub one_least : (n : ℕ) → (n ≤ at_least_one n) × (1 ≤ at_least_one n)
+one_least zero = (omega arith, omega arith)
+one_least (suc n) = (omega arith, omega arith)
+
+-- A turn more has a piece.
+pub small_turned : (used : ℕ) (past : Past) (turn : Turn) (more : List ℕ) → IsSmall used past → IsSmall (used + 2 * at_least_one (ends_in turn.piece)) (turned turn more past)
+small_turned used past turn more small =
+    let least = one_least (ends_in turn.piece) in
+    record {
+      ends = omega (arith, small.ends, least.0, ap ends_in (bytes_of-append past.turns turn), ends_in-append (bytes_of past.turns) turn.piece);
+      turns = omega (arith, small.turns, least.1, length-append past.turns (turn ∷ []));
+    }
 
 -- What is small may go on.
-pub may_go_on : (used : ℕ) (past : Past) (piece : List ℕ) → past.now ≡ unread → IsSmall used past → used + (2 * length piece + 2) < 2 ^ 63 → MayGoOn past piece
+pub may_go_on : (used : ℕ) (past : Past) (piece : List ℕ) → past.now ≡ unread → IsSmall used past → used + 2 * at_least_one (ends_in piece) < 2 ^ 63 → MayGoOn past piece
 may_go_on used past piece begins small within =
     let read : read_so_far past ≡ bytes_of past.turns = ap (λ (now : Turn). bytes_of past.turns ++ now.piece) begins ∙ append-nil (bytes_of past.turns) in
-    let all : length (read_so_far past ++ piece) ≡ length (bytes_of past.turns) + length piece =
-    length-append (read_so_far past) piece ∙ ap (λ (text : List ℕ). length text + length piece) read in
+    let all : ends_in (read_so_far past ++ piece) ≡ ends_in (bytes_of past.turns) + ends_in piece =
+    ends_in-append (read_so_far past) piece ∙ ap (λ (text : List ℕ). ends_in text + ends_in piece) read in
+    let least = one_least (ends_in piece) in
     record {
-      items = omega (arith, small.bytes, within, all, items-few (read_so_far past ++ piece));
-      turns = omega (arith, small.turns, within);
+      items = omega (arith, small.ends, within, all, least.0, items-few (read_so_far past ++ piece));
+      turns = omega (arith, small.turns, within, least.1);
       rest = λ some. absurd (some (ap (λ (now : Turn). now.polls) begins));
     }

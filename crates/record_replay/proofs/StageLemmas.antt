@@ -1,5 +1,5 @@
 -- What works make of the plant and the sessions.
-use Rattle.std.proofs.Common.{◌≡◌, ◌≢◌, ℕ, ◌+◌, ◌*◌, ◌^◌, ◌≤◌, ◌<◌, ◌==◌, true, false, cond, List, length, refl, sym, ap, ◌∙◌, subst, arith}
+use Rattle.std.proofs.Common.{◌≡◌, ◌≢◌, ℕ, ◌+◌, ◌^◌, ◌≤◌, ◌<◌, ◌==◌, true, false, cond, List, length, refl, sym, ap, ◌∙◌, subst, arith}
 use Rattle.std.specs.Prelude.{slice_index_or, slice_set}
 use Rattle.std.proofs.lemmas.Bool.{eqb-true, eqb-false}
 use Rattle.std.proofs.lemmas.List.{get_or-set_same, get_or-set_other, length-set}
@@ -15,7 +15,7 @@ use Rattle.panel_session.specs.Session.{StandsFor}
 use Rattle.panel_session.specs.SettledInside.{Settled}
 use Rattle.panel_session.specs.SoFar.{Past}
 use Rattle.panel_session.specs.Turns.{entries_in}
-use Rattle.plant_core.proofs.Steps.{IsValid-step}
+use Rattle.plant_core.proofs.StepValidity.{IsValid-step}
 use Rattle.panel_session.proofs.TurnExists.{turn_exists}
 use Rattle.panel_session.proofs.TurnOnce.{one_turn_lem}
 use Rattle.record_replay.specs.declared.stage.Stage.{Stage}
@@ -35,7 +35,7 @@ with_one P panel past pasts here others other =
     ] refl
 
 -- A session of a stage may have a turn,
-pub may_turn : (plant : PlantData) (panel : ℕ) (piece : List ℕ) (stage : Stage) (session : Session) (stand : Stand) (used : ℕ) → panel < length plant.panels → StandsAt plant stage stand used → used + (2 * length piece + 2) < 2 ^ 63
+pub may_turn : (plant : PlantData) (panel : ℕ) (piece : List ℕ) (stage : Stage) (session : Session) (stand : Stand) (used : ℕ) → panel < length plant.panels → StandsAt plant stage stand used → used + need_of (Read panel piece) < 2 ^ 63
     → session ≡ slice_index_or stage.sessions.items panel session → MayTurn step Fits (λ (state : State). room_of state.plant) plant panel session (stand.pasts panel) stage.state piece
 may_turn plant panel piece stage session stand used has stands within is =
     record {
@@ -46,7 +46,7 @@ may_turn plant panel piece stage session stand used has stands within is =
     }
 
 -- and is ready for it.
-pub ready : (plant : PlantData) (panel : ℕ) (piece : List ℕ) (stage : Stage) (session : Session) → panel < length plant.panels → MayDo (2 * length piece + 2) plant stage
+pub ready : (plant : PlantData) (panel : ℕ) (piece : List ℕ) (stage : Stage) (session : Session) → panel < length plant.panels → MayDo (need_of (Read panel piece)) plant stage
     → session ≡ slice_index_or stage.sessions.items panel session → IsReady step Fits (λ (state : State). room_of state.plant) session stage.state piece
 ready plant panel piece stage session has may is = record { plant = plant; panel = panel; past = may.stand.pasts panel; may = may_turn plant panel piece stage session may.stand may.used has may.stands may.within is }
 
@@ -82,7 +82,7 @@ turn_done plant panel piece before after session stand used more has stands ran 
             other has_other;
         small =
             with_one (λ (one : ℕ) (past : Past). IsSmall (used + need_of (Read panel piece)) past) panel (turned ran.turn more (stand.pasts panel)) stand.pasts
-            (subst (λ (piece : List ℕ). IsSmall (used + (2 * length piece + 2)) (turned ran.turn more (stand.pasts panel))) ran.piece_is (small_turned used (stand.pasts panel) ran.turn more (stands.small panel)))
+            (subst (λ (piece : List ℕ). IsSmall (used + need_of (Read panel piece)) (turned ran.turn more (stand.pasts panel))) ran.piece_is (small_turned used (stand.pasts panel) ran.turn more (stands.small panel)))
             (λ one apart. small_later used (used + need_of (Read panel piece)) (stand.pasts one) (omega arith) (stands.small one));
         none = ap (λ box. box.items) same_none ∙ stands.none;
         places = subst (λ (places : ℕ). room_of plant ≤ places) (sym (ap (λ box. box.places) same_none)) stands.places;

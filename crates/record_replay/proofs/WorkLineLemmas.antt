@@ -4,10 +4,11 @@ use Rattle.std.proofs.lemmas.List.{append-nil}
 use Rattle.plant_config.specs.Plant.{PlantData}
 use Rattle.record_replay.specs.declared.stage.Stage.{Stage}
 use Rattle.record_replay.specs.LineInside.{IsBad}
-use Rattle.record_replay.specs.Script.{Work, Read, Leave, is_skipped, worked, LineSpells, LinesSpell}
+use Rattle.record_replay.specs.Script.{Work, is_skipped, worked, LineSpells, LinesSpell}
 use Rattle.record_replay.specs.Replay.{Stand, AllWork}
 use Rattle.record_replay.specs.StageInside.{StandsAt, MayDo, HasDone, HasDoneLine, DoesWork, DoesLine, need_of}
-use Rattle.record_replay.proofs.LineSpellsLemmas.{one_work, length-Read}
+use Rattle.record_replay.proofs.LineSpellsLemmas.{one_work}
+use Rattle.record_replay.proofs.NeedLemmas.{need_within}
 use Rattle.record_replay.proofs.LinesSpellLemmas.{worked-cons}
 use Rattle.record_replay.proofs.SmallLemmas.{small_later}
 
@@ -24,11 +25,6 @@ stands_later plant stage stand used later within stands = record {
   none = stands.none;
   places = stands.places;
 }
-
--- A line has more bytes than its work needs.
-pub need_within : (plant : PlantData) (line : List ℕ) (work : Work) → LineSpells plant line work → need_of work ≤ length line
-need_within plant line (Read panel piece) spells = omega (arith, length-Read plant line panel piece spells)
-need_within plant line (Leave panel) spells = omega arith
 
 -- the lines of one line that are worked
 worked_one : (line : List ℕ) (skipped : Bool) → is_skipped line ≡ skipped → worked (line ∷ []) ≡ cond (not skipped) (line ∷ []) []

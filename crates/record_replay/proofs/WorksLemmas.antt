@@ -8,7 +8,8 @@ use Rattle.plant_core.specs.State.{State, Fits, FitsPlant, IsValid}
 use Rattle.plant_core.specs.Step.{step}
 use Rattle.plant_core.specs.declared.request.Request.{Request}
 use Rattle.plant_core.specs.declared.request.Request.TheVariants as requests
-use Rattle.plant_core.proofs.Steps.{IsValid-step, plant-step}
+use Rattle.plant_core.proofs.StepValidity.{IsValid-step}
+use Rattle.plant_core.proofs.StepLeaves.{plant-step}
 use Rattle.panel_session.specs.Entry.{PlantEntry}
 use Rattle.panel_session.specs.Run.{turned}
 use Rattle.panel_session.specs.SettledInside.{Settled}

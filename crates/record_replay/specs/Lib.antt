@@ -4,6 +4,7 @@ pub use Rattle.plant_core.specs.State
 pub use Rattle.plant_config.specs.Plant
 pub use Rattle.plant_config.specs.IsPlant
 pub use Rattle.plant_config.specs.Bench
+pub mod Take
 pub mod Script
 pub mod LineInside
 pub mod Replay

@@ -1,19 +1,17 @@
 -- What the code finds in a line.
-use Rattle.std.specs.Prelude.{◌≡◌, ◌≢◌, ℕ, ◌<◌, ◌≤◌, true, false, List, ◌∷◌, ◌++◌, length, All, Ok}
+use Rattle.std.specs.Prelude.{◌≡◌, ℕ, ◌<◌, ◌≤◌, true, false, List, ◌∷◌, ◌++◌, length, Ok}
 use Rattle.hex.specs.Hex.{decode_of}
 use Rattle.plant_config.specs.Plant.{PlantData}
 use Rattle.record_replay.specs.declared.line.Line as code
 use Rattle.record_replay.specs.declared.line.Line.TheVariants as found
-use Rattle.record_replay.specs.Script.{Work, Read, Leave, space, is_skipped, lines, worked, NumberSpells, HexSpells, LineSpells, LinesSpell}
+use Rattle.swp08_messages.specs.declared.message.Message.{Message}
+use Rattle.record_replay.specs.Take.{message_frame}
+use Rattle.record_replay.specs.Script.{Work, Read, Leave, space, tab, is_skipped, lines, worked, HasNo, NumberSpells, HexSpells, take_parts, Asks, LineSpells, LinesSpell}
 
--- A text without a space.
-abbrev pub HasNoSpace : List ℕ → Type 0
-HasNoSpace text = All (λ byte. byte ≢ space) text
-
--- A text is cut at its first space.
-pub record IsCut (text front behind : List ℕ) : Type 0 where
-  pub place : text ≡ front ++ space ∷ behind
-  pub first : HasNoSpace front
+-- A text is cut at the first of this byte.
+pub record IsCut (byte : ℕ) (text front behind : List ℕ) : Type 0 where
+  pub place : text ≡ front ++ byte ∷ behind
+  pub first : HasNo byte front
 
 -- A text spells no number.
 abbrev pub SpellsNoNumber : List ℕ → Type 0
@@ -45,6 +43,42 @@ pub record IsTurn (plant : PlantData) (behind : List ℕ) (panel : ℕ) (piece :
 -- What a line has behind `> ` is a turn of no panel.
 abbrev pub IsNoTurn : PlantData → List ℕ → Type 0
 IsNoTurn plant behind = (panel : ℕ) (piece : List ℕ) → IsTurn plant behind panel piece → ⊥
+
+-- What a line has behind `take `, in its parts.
+pub record AreParts (behind panel matrix level dest source : List ℕ) : Type 0 where
+  pub place : behind ≡ take_parts panel matrix level dest source
+  pub panel_ends : HasNo space panel
+  pub matrix_ends : HasNo space matrix
+  pub level_ends : HasNo tab level
+  pub dest_ends : HasNo tab dest
+
+-- It hasn't these parts.
+abbrev pub HasNoParts : List ℕ → Type 0
+HasNoParts behind =
+    (panel matrix level dest source : List ℕ) → AreParts behind panel matrix level dest source → ⊥
+
+-- The parts ask for no connect.
+abbrev pub AsksNothing : PlantData → (matrix level dest source : List ℕ) → Type 0
+AsksNothing plant matrix level dest source =
+    (message : Message) → Asks plant matrix level dest source message → ⊥
+
+-- What a line has behind `take `: the digits of a panel of the plant, and what asks for a connect, whose frame are the bytes.
+pub record IsTake (plant : PlantData) (behind : List ℕ) (panel : ℕ) (piece : List ℕ) : Type 0 where
+  pub digits : List ℕ
+  pub matrix : List ℕ
+  pub level : List ℕ
+  pub dest : List ℕ
+  pub source : List ℕ
+  pub parts : AreParts behind digits matrix level dest source
+  pub number : NumberSpells digits panel
+  pub has_panel : panel < length plant.panels
+  pub message : Message
+  pub asks : Asks plant matrix level dest source message
+  pub piece_is : piece ≡ message_frame message
+
+-- What a line has behind `take ` is a take of no panel.
+abbrev pub IsNoTake : PlantData → List ℕ → Type 0
+IsNoTake plant behind = (panel : ℕ) (piece : List ℕ) → IsTake plant behind panel piece → ⊥
 
 -- Each line of a script that isn't skipped spells a piece of work.
 abbrev pub HasWorks : PlantData → List ℕ → Type 0

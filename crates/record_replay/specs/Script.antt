@@ -1,8 +1,10 @@
 -- Scripts: the lines of a text, and the piece of work that each of them spells.
-use Rattle.std.specs.Prelude.{◌≡◌, ℕ, ◌+◌, ◌-◌, ◌*◌, ◌<◌, ◌≤◌, ◌==◌, Bool, true, false, not, if◌then◌else◌, List, [], ◌∷◌, ◌++◌, length, filter, All, codes, Ok}
+use Rattle.std.specs.Prelude.{◌≡◌, ◌≢◌, ◌⊎◌, ℕ, ◌+◌, ◌-◌, ◌*◌, ◌<◌, ◌≤◌, ◌==◌, Bool, true, false, not, if◌then◌else◌, List, [], ◌∷◌, ◌++◌, length, filter, All, codes, Some, Ok}
 use Rattle.std.specs.List.{fold}
 use Rattle.hex.specs.Hex.{decode_of}
+use Rattle.swp08_messages.specs.declared.message.Message.{Message}
 use Rattle.plant_config.specs.Plant.{PlantData}
+use Rattle.record_replay.specs.Take.{connect_named, message_frame}
 
 -- A piece of a script's work. A panel's session has one turn with this piece, which is empty where the panel is idle; or
 -- the panel leaves.
@@ -22,6 +24,10 @@ line_feed = 10
 -- the byte that may stand anywhere in hexadecimal
 abbrev pub space : ℕ
 space = 32
+
+-- the byte before each name of a take
+abbrev pub tab : ℕ
+tab = 9
 
 -- the byte that a line begins with that is skipped
 abbrev pub hash : ℕ
@@ -70,21 +76,56 @@ pub record NumberSpells (digits : List ℕ) (number : ℕ) : Type 0 where
 abbrev pub HexSpells : List ℕ → List ℕ → Type 0
 HexSpells hex bytes = decode_of (filter (λ byte. not (byte == space)) hex) ≡ Ok bytes
 
--- A line has the form of a piece of work of the panel with these digits: `poll P` for an idle turn, `> P HEX` for one with
--- at least one byte, and `leave P`.
-abbrev pub HasForm : List ℕ → List ℕ → Work → Type 0
-HasForm line digits (Read panel []) = line ≡ codes "poll " ++ digits
-HasForm line digits (Read panel (byte ∷ bytes)) =
-    (hex : List ℕ) × (line ≡ codes "> " ++ digits ++ codes " " ++ hex)
-    × HexSpells hex (byte ∷ bytes)
-HasForm line digits (Leave panel) = line ≡ codes "leave " ++ digits
+-- A line is `> P HEX`, for the panel with these digits: its hexadecimal spells these bytes.
+abbrev pub Sends : List ℕ → List ℕ → List ℕ → Type 0
+Sends line digits piece =
+    (hex : List ℕ) × (line ≡ codes "> " ++ digits ++ codes " " ++ hex) × HexSpells hex piece
+
+-- A text is without this byte.
+abbrev pub HasNo : ℕ → List ℕ → Type 0
+HasNo byte text = All (λ other. other ≢ byte) text
+
+-- The digits of a matrix and of a level, and the names of a destination and of a source there, ask for this connect.
+pub record Asks (plant : PlantData) (matrix level dest source : List ℕ)
+    (message : Message) : Type 0 where
+  pub matrix_number : ℕ
+  pub level_number : ℕ
+  pub matrix_spelled : NumberSpells matrix matrix_number
+  pub level_spelled : NumberSpells level level_number
+  pub connect : connect_named plant matrix_number level_number dest source ≡ Some message
+
+-- `P M L`, TAB, the name of a destination, TAB, the name of a source
+abbrev pub take_parts : (digits matrix level dest source : List ℕ) → List ℕ
+take_parts digits matrix level dest source =
+    digits ++ space ∷ (matrix ++ space ∷ (level ++ tab ∷ (dest ++ tab ∷ source)))
+
+-- A line is a take, for the panel with these digits: the bytes are the frame of the connect that it asks for. The name of
+-- the destination ends at the next TAB.
+pub record Takes (plant : PlantData) (line digits piece : List ℕ) : Type 0 where
+  pub matrix : List ℕ
+  pub level : List ℕ
+  pub dest : List ℕ
+  pub source : List ℕ
+  pub place : line ≡ codes "take " ++ take_parts digits matrix level dest source
+  pub dest_ends : HasNo tab dest
+  pub message : Message
+  pub asks : Asks plant matrix level dest source message
+  pub piece_is : piece ≡ message_frame message
+
+-- A line has the form of a piece of work of the panel with these digits: `poll P` for an idle turn, `> P HEX` or a take for
+-- one with at least one byte, and `leave P`.
+abbrev pub HasForm : PlantData → List ℕ → List ℕ → Work → Type 0
+HasForm plant line digits (Read panel []) = line ≡ codes "poll " ++ digits
+HasForm plant line digits (Read panel (byte ∷ bytes)) =
+    Sends line digits (byte ∷ bytes) ⊎ Takes plant line digits (byte ∷ bytes)
+HasForm plant line digits (Leave panel) = line ≡ codes "leave " ++ digits
 
 -- A line spells a piece of work of one of the plant's panels.
 pub record LineSpells (plant : PlantData) (line : List ℕ) (work : Work) : Type 0 where
   pub digits : List ℕ
   pub number : NumberSpells digits (panel_of work)
   pub has_panel : panel_of work < length plant.panels
-  pub form : HasForm line digits work
+  pub form : HasForm plant line digits work
   pub within : length line ≤ longest_line
 
 -- The lines spell these works, one each, in order.

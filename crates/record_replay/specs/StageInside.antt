@@ -1,5 +1,6 @@
 -- How the plant and the sessions of a replay stand, and what works make of them.
-use Rattle.std.specs.Prelude.{◌≡◌, ℕ, ◌+◌, ◌*◌, ◌^◌, ◌<◌, ◌≤◌, Bool, false, List, [], ◌∷◌, ◌++◌, length, slice_index_or}
+use Rattle.std.specs.Prelude.{◌≡◌, ℕ, ◌+◌, ◌*◌, ◌^◌, ◌<◌, ◌≤◌, zero, suc, ◌==◌, ◌||◌, if◌then◌else◌, Bool, false, List, [], ◌∷◌, ◌++◌, length, slice_index_or}
+use Rattle.dle_framing.specs.Numbers.{etx, ack_byte, nak_byte}
 use Rattle.plant_config.specs.Plant.{PlantData}
 use Rattle.plant_core.specs.Answer.{room_of}
 use Rattle.plant_core.specs.State.{IsValid}
@@ -22,9 +23,24 @@ pub record AreNew (plant : PlantData) (sessions : List Session) : Type 0 where
   pub count : length sessions ≡ length plant.panels
   pub each : StandForPasts plant sessions (λ panel. nothing_yet)
 
--- What a session has done stays small: each of its turns, and each byte of them, has two bytes of the script.
+-- whether an item may end with this byte
+abbrev pub is_end : ℕ → Bool
+is_end byte = byte == etx || (byte == ack_byte || byte == nak_byte)
+
+-- how many bytes of a text may be the last of an item
+abbrev pub ends_in : List ℕ → ℕ
+ends_in [] = 0
+ends_in (byte ∷ bytes) = if is_end byte then suc (ends_in bytes) else ends_in bytes
+
+-- one where it is none
+abbrev pub at_least_one : ℕ → ℕ
+at_least_one zero = 1
+at_least_one (suc n) = suc n
+
+-- What a session has done stays small: each of its turns, and each byte of them with which an item may end, has two bytes of
+-- the script.
 pub record IsSmall (used : ℕ) (past : Past) : Type 0 where
-  pub bytes : 2 * length (bytes_of past.turns) ≤ used
+  pub ends : 2 * ends_in (bytes_of past.turns) ≤ used
   pub turns : 2 * length past.turns ≤ used
 
 -- The plant and the sessions stand so, behind this many bytes of a script.
@@ -41,7 +57,7 @@ pub record StandsAt (plant : PlantData) (stage : Stage) (stand : Stand) (used : 
 
 -- how many bytes of the script a piece of work needs
 abbrev pub need_of : Work → ℕ
-need_of (Read panel piece) = 2 * length piece + 2
+need_of (Read panel piece) = 2 * at_least_one (ends_in piece)
 need_of (Leave panel) = 0
 
 -- A stage stands somewhere, and this much more of a script is still small.

@@ -1,14 +1,18 @@
-//! The bytes that hexadecimal spells, in room that was taken before.
+//! The bytes of a turn, in room that was taken before.
 
 ghost use Rattle.std.specs.Prelude.{◌≡◌, ◌≤◌, ◌*◌, ◌/◌, ◌==◌, ℕ, List, [], length, take, not, filter, unwrap_or, vec_len, vec_capacity, IfOk};
 ghost use Rattle.std.specs.Bool.{OnTrue, OnFalse};
 ghost use Rattle.hex.specs.Hex.{decode_of, hex_digit_value};
+ghost use Rattle.swp08_messages.specs.Text.{InRange};
+ghost use Rattle.record_replay.specs.Take.{message_frame};
 ghost use Rattle.record_replay.specs.Script.{HexSpells, longest_line, space};
 ghost use Rattle.record_replay.specs.LineInside.{IsNoHex};
 
 use crate::script::{MAX_LINE, SPACE};
+use dle_framing::{MAX_FRAME, encode_frame};
 use std::alloc::{AllocError, Global};
 use std::marker::Model;
+use swp08_messages::Message;
 
 // The most bytes that a line spells.
 const MAX_BYTES: usize = MAX_LINE / 2;
@@ -32,11 +36,12 @@ static VALUES: [u16; 256] = [
 ];
 
 /// The bytes that were spelled last, as which a contract sees them. Only `new` takes memory: there is room for the
-/// hexadecimal of the longest line.
+/// hexadecimal of the longest line and for a frame.
 #[derive(Drop)]
 pub(crate) struct Digits {
-    // The text without its spaces.
+    // The text without its spaces, or the DATA of a message.
     digits: Vec<u8>,
+    frame: Vec<u8>,
     // The bytes are the first so many of it.
     room: Vec<u8>,
     used: usize,
@@ -44,6 +49,7 @@ pub(crate) struct Digits {
 
 impl Model for Digits {
     ghost use Rattle.std.specs.Prelude.{◌≡◌, ◌≤◌, ◌*◌, ℕ, List, length, take, vec_capacity};
+    ghost use Rattle.dle_framing.specs.Numbers.{most_frame};
     ghost use Rattle.record_replay.specs.Script.{longest_line};
 
     ghost Value = { List ℕ };
@@ -52,6 +58,7 @@ impl Model for Digits {
 
     ghost invariant = { λ digits.
         (longest_line ≤ vec_capacity digits.digits)
+        × (most_frame ≤ vec_capacity digits.frame)
         × (2 * length digits.room.items ≡ longest_line)
         × (digits.used ≤ length digits.room.items) };
 }
@@ -62,9 +69,11 @@ impl Digits {
         ensures { IfOk result (λ digits. digits ≡ []) }
     {
         let digits = Vec::with_capacity(alloc, MAX_LINE)?;
+        let frame = Vec::with_capacity(alloc, MAX_FRAME)?;
         let room = vec![in alloc; 0u8; MAX_BYTES]?;
         Ok(Digits {
             digits,
+            frame,
             room,
             used: 0,
         })
@@ -82,6 +91,20 @@ impl Digits {
         ensures { self.new ≡ [] }
     {
         self.used = 0;
+    }
+
+    // Takes the bytes of a message's frame.
+    #[tactic(auto, using(crate::proofs::MessageFrames::frame_within))]
+    pub(crate) fn put_frame(&mut self, message: &Message)
+        requires { InRange message.now }
+        ensures { self.new ≡ message_frame message.now }
+    {
+        self.digits.clear();
+        message.write(&mut self.digits);
+        self.frame.clear();
+        encode_frame(self.digits.as_slice(), &mut self.frame);
+        self.used = self.frame.len();
+        fill(self.frame.as_slice(), self.room.as_mut_slice());
     }
 
     // Takes the bytes that a text in hexadecimal spells, and answers whether it spells some or none.
@@ -124,6 +147,14 @@ fn drop_spaces(text: &[u8], digits: &mut Vec<u8>)
             digits.push_reserved(*byte);
         }
     }
+}
+
+// Puts bytes in front of the room.
+fn fill(bytes: &[u8], room: &mut [u8])
+    requires { length bytes.now ≤ length room.old }
+    ensures { take (length bytes.now) room.new ≡ bytes.now }
+{
+    room[..bytes.len()].copy_from_slice(bytes);
 }
 
 // Puts the bytes of digits in front of the room, and answers whether they are the digits of bytes.

@@ -14,6 +14,7 @@ mod replay;
 mod room;
 mod script;
 mod stage;
+mod take;
 
 pub use laws::{lines_answer_items, one_history, one_item, one_replay};
 pub use replay::{ReplayFault, replay_script};

@@ -1,13 +1,15 @@
 //! What a line of a script spells.
 
-ghost use Rattle.std.specs.Prelude.{◌≤◌, length, MatchOption};
+ghost use Rattle.std.specs.Prelude.{◌≡◌, ◌≤◌, length, MatchOption};
 ghost use Rattle.record_replay.specs.Script.{longest_line};
-ghost use Rattle.record_replay.specs.LineInside.{HasNoSpace, IsCut, IsTurn, IsNoTurn, IsBad, IsFound};
+ghost use Rattle.record_replay.specs.LineInside.{IsTurn, IsNoTurn, IsBad, IsFound};
 
 use crate::digits::Digits;
 use crate::number::read_panel;
-use crate::script::{HASH, MAX_LINE, SPACE};
+use crate::script::{HASH, MAX_LINE, SPACE, split_at};
+use crate::take::read_take;
 use plant_config::{PanelNo, Plant};
+use plant_names::Names;
 
 /// What a line asks. The bytes of a turn are in the digits' room.
 #[derive(Clone, Copy, Debug, PartialEq, Eq)]
@@ -21,7 +23,13 @@ pub(crate) enum Line {
 }
 
 // What a line asks, `None` where it has no form. It takes no memory.
-pub(crate) fn read_line(digits: &mut Digits, plant: &Plant, line: &[u8]) -> Option<Line>
+pub(crate) fn read_line(
+    digits: &mut Digits,
+    plant: &Plant,
+    names: &Names,
+    line: &[u8],
+) -> Option<Line>
+    requires { names.now ≡ plant.now }
     ensures { MatchOption result
         (IsBad plant.now line.now)
         (λ found. IsFound plant.now line.now found digits.new) }
@@ -36,6 +44,9 @@ pub(crate) fn read_line(digits: &mut Digits, plant: &Plant, line: &[u8]) -> Opti
     }
     if let Some(behind) = line.strip_prefix(b"> ") {
         return Some(Line::Read(read_turn(digits, plant, behind)?));
+    }
+    if let Some(behind) = line.strip_prefix(b"take ") {
+        return Some(Line::Read(read_take(digits, plant, names, behind)?));
     }
     if let Some(number) = line.strip_prefix(b"poll ") {
         digits.clear();
@@ -54,25 +65,11 @@ fn read_turn(digits: &mut Digits, plant: &Plant, behind: &[u8]) -> Option<PanelN
         (IsNoTurn plant.now behind.now)
         (λ panel. IsTurn plant.now behind.now panel digits.new) }
 {
-    let (number, hex) = split_at_space(behind)?;
+    let (number, hex) = split_at(SPACE, behind)?;
     let panel = read_panel(plant, number)?;
     if digits.read(hex) && !digits.bytes().is_empty() {
         Some(panel)
     } else {
         None
     }
-}
-
-// What stands before the first space of a text, and what behind it.
-fn split_at_space(text: &[u8]) -> Option<(&[u8], &[u8])>
-    ensures { MatchOption result
-        (HasNoSpace text.now)
-        (λ parts. IsCut text.now parts.0.now parts.1.now) }
-{
-    for (end, byte) in text.iter().enumerate() {
-        if *byte == SPACE {
-            return Some((&text[..end], &text[end + 1..]));
-        }
-    }
-    None
 }

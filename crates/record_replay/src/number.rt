@@ -1,7 +1,8 @@
-//! The number of a panel in a line.
+//! The numbers in a line.
 
 ghost use Rattle.std.specs.Prelude.{MatchOption};
 ghost use Rattle.record_replay.specs.LineInside.{SpellsNoNumber, SpellsNoPanel, SpellsPanel};
+ghost use Rattle.plant_config.specs.IsPlant.{IsPlant};
 ghost use Rattle.record_replay.specs.Script.{NumberSpells};
 
 use plant_config::{PanelNo, Plant};
@@ -11,12 +12,14 @@ const MAX_DIGITS: usize = 5;
 
 // The panel of the plant whose number the digits spell, `None` where they spell none.
 pub(crate) fn read_panel(plant: &Plant, digits: &[u8]) -> Option<PanelNo>
-    ensures { MatchOption result
+    ensures panel { MatchOption result
         (SpellsNoPanel plant.now digits.now)
         (λ panel. SpellsPanel plant.now digits.now panel) }
+    ensures plant { IsPlant plant.now }
 {
+    let panels = plant.panels().len();
     let number = read_number(digits)?;
-    if (number as usize) < plant.panels().len() {
+    if (number as usize) < panels {
         Some(PanelNo::of(number))
     } else {
         None
@@ -24,7 +27,7 @@ pub(crate) fn read_panel(plant: &Plant, digits: &[u8]) -> Option<PanelNo>
 }
 
 // The number that digits spell, `None` where a text isn't one to five digits.
-fn read_number(digits: &[u8]) -> Option<u32>
+pub(crate) fn read_number(digits: &[u8]) -> Option<u32>
     ensures { MatchOption result
         (SpellsNoNumber digits.now)
         (λ number. NumberSpells digits.now number) }

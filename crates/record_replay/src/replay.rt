@@ -36,13 +36,16 @@ impl From<AllocError> for ReplayFault {
 }
 
 /// Does the works of a script's lines in order on one plant, from its start, with one session a panel, and writes an output
-/// line for each. All memory is taken before the first line is worked.
+/// line for each. The names are those of the plant, by which takes are read. All memory is taken before the first line is
+/// worked.
 pub fn replay_script<K: Sink>(
     alloc: Global,
     plant: &Plant,
+    names: &Names,
     script: &[u8],
     out: &mut K,
 ) -> Result<(), ReplayFault>
+    requires names { names.now ≡ plant.now }
     ensures ok { OnOk result
         (HasReplayed plant.now script.now (K.written out.old) (K.written out.new)) }
     ensures bad_line { (number : ℕ) → result ≡ Err (ReplayFault.BadLine number)
@@ -58,11 +61,10 @@ pub fn replay_script<K: Sink>(
     ensures count { K.faults out.new ≡ counted (output_failed result) (K.faults out.old) }
 {
     let mut digits = Digits::new(alloc)?;
-    if let Some(number) = check_lines(&mut digits, plant, script) {
+    if let Some(number) = check_lines(&mut digits, plant, names, script) {
         return Err(ReplayFault::BadLine(number));
     }
-    let names = Names::new(alloc, plant)?;
-    replay_lines(alloc, plant, &names, &mut digits, script, out)
+    replay_lines(alloc, plant, names, &mut digits, script, out)
 }
 
 // So where each line has a form, with the plant's names.
@@ -88,7 +90,7 @@ fn replay_lines<K: Sink>(
     let mut stage = Stage::start(alloc, plant, names)?;
     let mut room = Room::new(alloc)?;
     let mut output = Output::new(&mut room, out);
-    stage.work(script, digits, &mut output);
+    stage.work(script, names, digits, &mut output);
     if output.finish() {
         Ok(())
     } else {

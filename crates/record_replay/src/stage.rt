@@ -30,7 +30,7 @@ pub(crate) struct Stage<'p> {
 
 impl<'p> Stage<'p> {
     ghost use Rattle.record_replay.specs.LineInside.{IsFound};
-    ghost use Rattle.record_replay.specs.StageInside.{StandsAt, MayDo, DoesWork, DoesLine, DoesScript};
+    ghost use Rattle.record_replay.specs.StageInside.{StandsAt, MayDo, DoesWork, DoesLine, DoesScript, need_of};
 
     // Nothing happened yet. It takes all the memory that it ever needs.
     pub(crate) fn start(
@@ -53,9 +53,11 @@ impl<'p> Stage<'p> {
     pub(crate) fn work<K: Drain>(
         &mut self,
         script: &[u8],
+        names: &Names,
         digits: &mut Digits,
         out: &mut Output<'_, K>,
     )
+        requires names { names.now ≡ self.old.plant.now }
         requires may { MayDo (length script.now) self.old.plant.now self.old }
         requires spelled { (works : List Work)
             × LinesSpell self.old.plant.now (worked (lines script.now)) works }
@@ -66,20 +68,27 @@ impl<'p> Stage<'p> {
         let mut rest = script;
         while !rest.is_empty() && !out.failed() {
             let (line, after) = split_line(rest);
-            self.work_line(line, digits, out);
+            self.work_line(line, names, digits, out);
             rest = after;
         }
     }
 
     // Does the work of a line.
-    fn work_line<K: Drain>(&mut self, line: &[u8], digits: &mut Digits, out: &mut Output<'_, K>)
+    fn work_line<K: Drain>(
+        &mut self,
+        line: &[u8],
+        names: &Names,
+        digits: &mut Digits,
+        out: &mut Output<'_, K>,
+    )
+        requires names { names.now ≡ self.old.plant.now }
         requires may { MayDo (length line.now) self.old.plant.now self.old }
         requires spelled { (works : List Work)
             × LinesSpell self.old.plant.now (worked (line.now ∷ [])) works }
         ensures { DoesLine self.old.plant.now line.now self.old self.new
             (λ text. Puts K.written K.faults text out.old out.new) }
     {
-        if let Some(found) = read_line(digits, self.plant, line) {
+        if let Some(found) = read_line(digits, self.plant, names, line) {
             self.work_found(found, digits.bytes(), out);
         }
     }
@@ -102,7 +111,7 @@ impl<'p> Stage<'p> {
     // One turn of a panel's session with this piece.
     fn turn<K: Drain>(&mut self, panel: PanelNo, piece: &[u8], out: &mut Output<'_, K>)
         requires panel { panel < length self.old.plant.now.panels }
-        requires may { MayDo (2 * length piece.now + 2) self.old.plant.now self.old }
+        requires may { MayDo (need_of (Read panel piece.now)) self.old.plant.now self.old }
         ensures { DoesWork self.old.plant.now (Read panel piece.now) self.old self.new
             (λ text. Puts K.written K.faults text out.old out.new) }
     {

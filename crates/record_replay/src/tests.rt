@@ -1,3 +1,4 @@
 //! The tests, by subject.
 
 mod output;
+mod take;

@@ -1,4 +1,4 @@
-//! Scripts of several panels, with bytes cut anywhere, notices, resends and leaves.
+//! Scripts of several panels, with bytes cut anywhere, notices, resends, leaves, protects and salvos.
 
 ghost use Rattle.std.specs.Prelude.{◌<◌};
 
@@ -7,7 +7,7 @@ use std::alloc::{AllocError, Global};
 use std::test::Fail;
 
 // A script, the status of its replay, and the output.
-const SCRIPTS: [(&str, u8, &str); 10] = [
+const SCRIPTS: [(&str, u8, &str); 12] = [
     // One byte of noise, and an idle turn.
     ("> 0 00\npoll 0\n", 0, "< 0 -\n< 0 -\n"),
     // A wrong check byte.
@@ -59,6 +59,40 @@ const SCRIPTS: [(&str, u8, &str); 10] = [
          < 1 -\n\
          < 1 10061002030000050305F01003\n\
          leave 1\n",
+    ),
+    // What another device protects isn't connected, and a salvo with such a destination is refused and kept.
+    (
+        "> 0 1002 0C 00000501 05 E91003\n\
+         > 1 1002 02 00000503 05 F11003\n\
+         > 1 1002 78 0000040307 06 741003\n\
+         > 1 1002 78 0000050307 06 731003\n\
+         > 1 1002 78 0000060307 06 721003\n\
+         > 1 1002 79 0007 03 7D1003\n\
+         > 1 1002 7C 0702 03 781003\n",
+        0,
+        "< 0 100610020D000100050106E61003\n\
+         < 1 10061002030007057F056D100310020D000100050106E61003\n\
+         < 1 100610027A000004030706721003\n\
+         < 1 100610027A000005030706711003\n\
+         < 1 100610027A000006030706701003\n\
+         < 1 100610027B030703781003\n\
+         < 1 100610027D0000060307020108681003\n",
+    ),
+    // An empty salvo is neither taken nor cleared, and one with an entry is read back and cleared.
+    (
+        "> 0 1002 79 0009 03 7B1003\n\
+         > 0 1002 78 0000010209 06 761003\n\
+         > 0 1002 7C 0900 03 781003\n\
+         > 0 1002 7C 0901 03 771003\n\
+         > 0 1002 79 0109 03 7A1003\n\
+         > 0 1002 79 0109 03 7A1003\n",
+        0,
+        "< 0 100610027B020903771003\n\
+         < 0 100610027A000001020906741003\n\
+         < 0 100610027D00000102090001086E1003\n\
+         < 0 100610027D00000000090102086F1003\n\
+         < 0 100610027B010903781003\n\
+         < 0 100610027B020903771003\n",
     ),
     // Lines that are skipped are counted.
     ("# \u{e9} > 9\n\npoll 00000\n#", 0, "< 0 -\n"),

@@ -1,6 +1,8 @@
-use Rattle.plantctl.specs.StopInside.{stop_of_replay}
 use Rattle.std.proofs.Common.{refl}
-use Rattle.plantctl.proofs.ReplayEndsLemmas.{err_stop, file_stop, done_stop, replay_stop}
+use Rattle.plantctl.specs.StopInside.{stop_of_replay}
+use Rattle.plantctl.specs.declared.stop.Stop.TheVariants as stops
+use Rattle.plantctl.proofs.OpensLemmas.{if_held}
+use Rattle.plantctl.proofs.ReplayEndsLemmas.{err_stop, memory_stop, file_stop, done_stop, replay_stop}
 use Rattle.plantctl.proofs.replay.replay.Goals as goal
 
 pub returns-in-Err-clause-ends : goal.returns-in-Err-clause-ends
@@ -8,10 +10,16 @@ returns-in-Err-clause-ends g c =
     rw c.of_file.ensures
     (file_stop c.in-Err.fault c.args.name c.args.plant.now _ _ _ refl c.in-Err.ensures.missing c.in-Err.ensures.too_long c.in-Err.ensures.no_memory)
 
+pub returns-in_err-names-clause-ends : goal.returns-in_err-names-clause-ends
+returns-in_err-names-clause-ends g c =
+    err_stop c.from_residual.result stops.NoMemory _ _ _ c.from_residual.ensures.1
+    (memory_stop c.args.plant.now c.args.name.now (g.F.Files.held c.args.files.now c.args.name.now 0) _ _
+    (if_held _ (λ bytes is. tt) c.in-Ok.ensures.whole) refl)
+
 pub returns-in_err-replay_script-clause-ends : goal.returns-in_err-replay_script-clause-ends
 returns-in_err-replay_script-clause-ends g c =
     let ends = c.in_err-replay_script.ensures in
-    err_stop c.from_residual.result (stop_of_replay c.in_err-replay_script.field-0.0) _ _ _ c.from_residual.ensures.1
+    err_stop c.from_residual-in_err-replay_script.result (stop_of_replay c.in_err-replay_script.field-0.0) _ _ _ c.from_residual-in_err-replay_script.ensures.1
     (replay_stop c.in_err-replay_script.field-0.0 c.args.plant.now c.args.name.now (g.F.Files.held c.args.files.now c.args.name.now 0) c.deref.result.now _ _ _ refl
     (rw c.deref.ensures.value c.in-Ok.ensures.whole) (rw c.deref.ensures.value c.in-Ok.ensures.within) ends.bad_line ends.same ends.output_fault ends.no_memory)
 

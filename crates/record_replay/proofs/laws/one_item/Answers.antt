@@ -1,18 +1,9 @@
-use Rattle.std.proofs.Common.{arith}
-use Rattle.dle_framing.specs.Frame.{IsData}
 use Rattle.dle_framing.proofs.LawLemmas.{reads_one}
-use Rattle.swp08_messages.specs.declared.message.Message.{Message}
-use Rattle.swp08_messages.specs.declared.message.Message.TheVariants.{Interrogate, Connect}
 use Rattle.swp08_messages.specs.Text.{text}
 use Rattle.swp08_messages.proofs.SpelledLemmas.{Spells-text}
 use Rattle.swp08_messages.proofs.ReadingLemmas.{one_message}
+use Rattle.record_replay.proofs.MessageFrames.{IsData-text}
 use Rattle.record_replay.proofs.laws.one_item.Goals as goal
-
--- A message's DATA can be framed.
-IsData-text : (message : Message) → IsData (text message)
-IsData-text (Interrogate at) = (omega arith, omega arith)
-IsData-text (Connect at source) = (omega arith, omega arith)
-IsData-text message = (omega arith, omega arith)
 
 pub returns-clause-item : goal.returns-clause-item
 returns-clause-item c = λ message in_range. reads_one (text message) (IsData-text message)

@@ -7,7 +7,7 @@ use Rattle.record_replay.proofs.line.read_turn.Goals.{else-read-via-then-read+el
 pub returns-in_err-panel : goal.returns-in_err-panel
 returns-in_err-panel c =
     rw c.from_residual-in_err-panel.ensures
-    (no_turn-panel c.args.plant.now c.args.behind.now c.in_ok-number.number.now c.in_ok-number.hex.now c.in_ok-number.ensures c.in_err-panel.ensures)
+    (no_turn-panel c.args.plant.now c.args.behind.now c.in_ok-number.number.now c.in_ok-number.hex.now c.in_ok-number.ensures c.in_err-panel.ensures.panel)
 
 pub returns-else-read : goal.returns-else-read
 returns-else-read c = elim c.else-read.branch [

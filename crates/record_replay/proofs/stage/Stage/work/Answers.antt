@@ -1,4 +1,4 @@
-use Rattle.std.proofs.Common.{rules, ℕ, List, [], ◌∷◌, length, sym, subst}
+use Rattle.std.proofs.Common.{rules, ℕ, List, [], ◌∷◌, length, sym, ◌∙◌, subst}
 use Rattle.std.proofs.lemmas.List.{nil_from_length}
 use Rattle.plant_config.specs.Plant.{PlantData}
 use Rattle.record_replay.specs.OutputInside.{Puts}
@@ -10,6 +10,12 @@ use Rattle.record_replay.proofs.stage.Stage.work.Goals as goal
 
 pub loop-out-init : goal.loop-out-init
 loop-out-init g c = begins c.args.self.now.plant.now c.args.script.now c.args.self.now _ (Puts-none g.K.Drain.written g.K.Drain.faults c.args.out.now)
+
+pub work_line-requires-clause-names : goal.work_line-requires-clause-names
+work_line-requires-clause-names g c =
+    let may = c.requires.may in
+    let way = c.loop-out.invariant may.stand may.used c.requires.spelled.0 may.stands may.within c.requires.spelled.1 in
+    c.requires.names ∙ sym way.stands.plant_is
 
 pub work_line-requires-clause-may : goal.work_line-requires-clause-may
 work_line-requires-clause-may g c =

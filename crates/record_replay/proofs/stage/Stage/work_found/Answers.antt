@@ -2,7 +2,8 @@ use Rattle.std.proofs.Common.{subst}
 use Rattle.record_replay.specs.declared.line.Line as code
 use Rattle.record_replay.specs.LineInside.{IsFound}
 use Rattle.record_replay.specs.OutputLaws.{Puts-none}
-use Rattle.record_replay.proofs.WorkLineLemmas.{need_within, may_less, does_line, does_nothing}
+use Rattle.record_replay.proofs.NeedLemmas.{need_within}
+use Rattle.record_replay.proofs.WorkLineLemmas.{may_less, does_line, does_nothing}
 use Rattle.record_replay.proofs.stage.Stage.work_found.Goals as goal
 
 pub returns-in-Skipped : goal.returns-in-Skipped
