@@ -3,7 +3,9 @@
 ghost use Rattle.std.specs.Prelude.{ℕ, List};
 ghost use Rattle.change_boards.specs.Board.{Board};
 ghost use Rattle.change_boards.specs.Notices.{start};
-ghost use Rattle.change_boards.specs.Laws.{AreBoards, IsBelow, LeavesAreOfOnePanel, MarksGiveOneNotice, StayBoards, TakesInOrder, TakesRemoveOneNotice};
+ghost use Rattle.change_boards.specs.Laws.{AreBoards, IsBelow, LeavesAreOfOnePanel};
+ghost use Rattle.change_boards.specs.Laws.{MarksGiveOneNotice, StayBoards, TakesInOrder};
+ghost use Rattle.change_boards.specs.Laws.{TakesRemoveOneNotice};
 
 /// A mark gives one notice to one panel, and a mark on a panel that has left changes nothing.
 pub fn marks_give_one_notice()

@@ -2,7 +2,8 @@
 
 ghost use Rattle.std.specs.Prelude.{◌≡◌, ◌<◌, ◌↔◌, length, All, IsTrue, IsNone, IfOk};
 ghost use Rattle.change_boards.specs.Board.{IsEmpty, next};
-ghost use Rattle.change_boards.specs.Notices.{board_of, has, has_left, start, with_mark, with_take, with_leave};
+ghost use Rattle.change_boards.specs.Notices.{board_of, has, has_left, start, with_mark};
+ghost use Rattle.change_boards.specs.Notices.{with_take, with_leave};
 
 use crate::panel_board::PanelBoard;
 use crate::sort::Sort;

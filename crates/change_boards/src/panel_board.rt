@@ -1,7 +1,8 @@
 //! The notices of one panel.
 
 ghost use Rattle.std.specs.Prelude.{◌≡◌, ◌<◌, ◌↔◌, IsNone, IsTrue, IfOk, IfSome};
-ghost use Rattle.change_boards.specs.Board.{IsEmpty, abandoned, blank, has_notice, marked, next, taken};
+ghost use Rattle.change_boards.specs.Board.{IsEmpty, abandoned, blank, has_notice};
+ghost use Rattle.change_boards.specs.Board.{marked, next, taken};
 
 use crate::dest_set::DestSet;
 use crate::sort::Sort;

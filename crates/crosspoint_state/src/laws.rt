@@ -3,7 +3,8 @@
 ghost use Rattle.std.specs.Prelude.{List};
 ghost use Rattle.plant_config.specs.declared.records.Change.{Change};
 ghost use Rattle.crosspoint_state.specs.Crosspoints.{Crosspoints, NamesOnce};
-ghost use Rattle.crosspoint_state.specs.Laws.{ChangesAreMade, OthersStay, IdleOnesStay, IdleOnesDoNothing, OrderDoesNotMatter};
+ghost use Rattle.crosspoint_state.specs.Laws.{ChangesAreMade, OthersStay, IdleOnesStay};
+ghost use Rattle.crosspoint_state.specs.Laws.{IdleOnesDoNothing, OrderDoesNotMatter};
 
 /// Each destination that a change names carries the source of its change afterwards, or is parked by it.
 pub fn changes_are_made()

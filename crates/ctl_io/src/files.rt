@@ -3,7 +3,8 @@
 ghost use Rattle.std.specs.Prelude.{◌≡◌, ◌<◌, ℕ, List};
 ghost use Rattle.ctl_io.specs.Faults.{counted, is_faulty};
 ghost use Rattle.ctl_io.specs.Sink.{IsEmpty};
-ghost use Rattle.ctl_io.specs.Held.{Held, HasLeft, MayBeMissing, Stays, OthersStay, AllStayBut, AfterFound, IsNamed};
+ghost use Rattle.ctl_io.specs.Held.{Held, HasLeft, MayBeMissing, Stays, OthersStay};
+ghost use Rattle.ctl_io.specs.Held.{AllStayBut, AfterFound, IsNamed};
 ghost use Rattle.ctl_io.specs.Custody.{Custody, TakesSource, TakesSink, source_lent, sink_lent};
 ghost use Rattle.ctl_io.specs.Files.{IfFound, IfMade, source_failed, sink_failed};
 

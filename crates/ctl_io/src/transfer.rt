@@ -4,7 +4,8 @@ ghost use Rattle.std.specs.Prelude.{◌≡◌, ◌+◌, ◌<◌, ◌≤◌, not,
 ghost use Rattle.std.specs.Bool.{OnFalse, OnTrue};
 ghost use Rattle.ctl_io.specs.Faults.{counted};
 ghost use Rattle.ctl_io.specs.Sink.{appended, AppendsPart};
-ghost use Rattle.ctl_io.specs.Source.{got, read_failed, AreLeft, IsWithin, IsAtEnd, TakesAtMost, TakesJust};
+ghost use Rattle.ctl_io.specs.Source.{got, read_failed, AreLeft, IsWithin, IsAtEnd};
+ghost use Rattle.ctl_io.specs.Source.{TakesAtMost, TakesJust};
 ghost use Rattle.ctl_io.specs.SourceInside.{TakesPiece};
 ghost use Rattle.ctl_io.specs.WholeFile.{whole_failed};
 ghost use Rattle.ctl_io.specs.declared.transfer.WholeFault.TheVariants.{NoMemory};

@@ -3,7 +3,8 @@
 ghost use Rattle.std.specs.Prelude.{◌≡◌, ◌≤◌, length, IfOk};
 ghost use Rattle.ctl_io.specs.Faults.{counted};
 ghost use Rattle.ctl_io.specs.Held.{IsHeld, IsLonger, MayBeHere, MayBeMissing, OthersStay};
-ghost use Rattle.ctl_io.specs.WholeFile.{file_failed, SaysMissing, SaysTooLong, SaysNoMemory, AfterFile, IsGivenBack};
+ghost use Rattle.ctl_io.specs.WholeFile.{file_failed, SaysMissing, SaysTooLong};
+ghost use Rattle.ctl_io.specs.WholeFile.{SaysNoMemory, AfterFile, IsGivenBack};
 
 use crate::{Files, Found, WholeFault, read_whole};
 use std::alloc::Global;

@@ -1,5 +1,6 @@
 //! A frame of DATA: how long it is, and its bytes.
-ghost use Rattle.std.specs.Prelude.{◌≡◌, ◌+◌, ◌*◌, ◌≤◌, ◌==◌, [], ◌∷◌, ◌++◌, length, count_by, vec_len, vec_capacity};
+ghost use Rattle.std.specs.Prelude.{◌≡◌, ◌+◌, ◌*◌, ◌≤◌, ◌==◌, [], ◌∷◌, ◌++◌, length};
+ghost use Rattle.std.specs.Prelude.{count_by, vec_len, vec_capacity};
 ghost use Rattle.dle_framing.specs.Numbers.{dle, most_data};
 ghost use Rattle.dle_framing.specs.Frame.{IsData, doubled, frame};
 

@@ -4,7 +4,8 @@ ghost use Rattle.dle_framing.specs.declared.item.Item.TheVariants.{Ack, Nak};
 ghost use Rattle.dle_framing.specs.Numbers.{dle, ack, nak, most_data};
 ghost use Rattle.dle_framing.specs.Frame.{frame};
 ghost use Rattle.dle_framing.specs.Items.{reading};
-ghost use Rattle.dle_framing.specs.Laws.{ReadsByStart, OneReadsByStart, ReadsOn, ItemsStay, IsReadAs, FramesAreGood, RowsAreGood, FramesAreShort};
+ghost use Rattle.dle_framing.specs.Laws.{ReadsByStart, OneReadsByStart, ReadsOn, ItemsStay};
+ghost use Rattle.dle_framing.specs.Laws.{IsReadAs, FramesAreGood, RowsAreGood, FramesAreShort};
 
 use crate::control::MAX_FRAME;
 

@@ -1,5 +1,6 @@
 //! Many pieces of a stream, one after the other.
-ghost use Rattle.std.specs.Prelude.{◌≡◌, ℕ, ◌<◌, ◌≤◌, ◌++◌, List, [], length, take, map, IfOk, OnOk};
+ghost use Rattle.std.specs.Prelude.{◌≡◌, ℕ, ◌<◌, ◌≤◌, ◌++◌, List, [], length};
+ghost use Rattle.std.specs.Prelude.{take, map, IfOk, OnOk};
 ghost use Rattle.dle_framing.specs.Feeding.{joined, shown};
 ghost use Rattle.dle_framing.specs.Framer.{StandsFor, GoesOver};
 ghost use Rattle.dle_framing.specs.Items.{items};

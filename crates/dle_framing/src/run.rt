@@ -1,5 +1,6 @@
 //! The longest run of pieces of a frame, a piece being a byte other than DLE or a pair of DLE.
-ghost use Rattle.std.specs.Prelude.{◌≡◌, ◌+◌, ◌<◌, ◌≤◌, [], ◌++◌, length, take, MatchOption, IfSome, IfNone, vec_len, vec_capacity};
+ghost use Rattle.std.specs.Prelude.{◌≡◌, ◌+◌, ◌<◌, ◌≤◌, [], ◌++◌, length, take, MatchOption};
+ghost use Rattle.std.specs.Prelude.{IfSome, IfNone, vec_len, vec_capacity};
 ghost use Rattle.dle_framing.specs.Items.{longest_run, with_piece};
 
 use crate::control::{DLE, MAX_BODY};

@@ -2,8 +2,10 @@
 
 ghost use Rattle.std.specs.Prelude.{◌≡◌, ◌≤◌, [], OnOk, OnErr, IfOk, IfErr};
 ghost use Rattle.history_lock.specs.History.{IsLegal};
-ghost use Rattle.history_lock.specs.Calls.{AddsOwn, FoundFull, IsNumbered, IsRefused, OnlyCalled, OnlyTried, SeesAnswers};
-ghost use Rattle.history_lock.specs.CallsInside.{FoundFullAt, IsMadeAt, IsRefusedAt, OnlyCalledAt, OnlyTriedAt};
+ghost use Rattle.history_lock.specs.Calls.{AddsOwn, FoundFull, IsNumbered, IsRefused};
+ghost use Rattle.history_lock.specs.Calls.{OnlyCalled, OnlyTried, SeesAnswers};
+ghost use Rattle.history_lock.specs.CallsInside.{FoundFullAt, IsMadeAt, IsRefusedAt};
+ghost use Rattle.history_lock.specs.CallsInside.{OnlyCalledAt, OnlyTriedAt};
 ghost use Rattle.history_lock.specs.Seats.{IsAt, IsResting, RestsAgain};
 
 use crate::fault::{CallFault, TryFault};

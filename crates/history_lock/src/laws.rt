@@ -1,6 +1,7 @@
 //! What is true of every history of every machine.
 
-ghost use Rattle.history_lock.specs.Laws.{FrontsAreLegal, RequestsFixAnswers, RunsCompose, StepsStayLegal};
+ghost use Rattle.history_lock.specs.Laws.{FrontsAreLegal, RequestsFixAnswers};
+ghost use Rattle.history_lock.specs.Laws.{RunsCompose, StepsStayLegal};
 
 use crate::machine::Machine;
 

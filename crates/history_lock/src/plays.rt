@@ -1,6 +1,8 @@
 //! What each step tells.
 
-ghost use Rattle.history_lock.specs.Plays.{ticket_read, ticket_taken, serving_read, ticket_tried, turn_awaited, turn_ended, gave, given_to, noted, spent, with_note, with_seat, looked};
+ghost use Rattle.history_lock.specs.Plays.{ticket_read, ticket_taken, serving_read, ticket_tried};
+ghost use Rattle.history_lock.specs.Plays.{turn_awaited, turn_ended, gave, given_to, noted, spent};
+ghost use Rattle.history_lock.specs.Plays.{with_note, with_seat, looked};
 
 use crate::machine::Machine;
 use crate::view::{Desk, View};

@@ -4,7 +4,9 @@ ghost use Rattle.std.specs.Prelude.{◌≡◌, ℕ, ◌+◌, ◌^◌, ◌<◌, [
 ghost use mathlib.Core.Option.{none};
 ghost use Rattle.atomic_table.specs.Table.{step};
 ghost use Rattle.history_lock.specs.declared.view.Stage.TheVariants.{Idle, Waits, Holds};
-ghost use Rattle.history_lock.specs.Plays.{IsWorked, ticket_read, ticket_taken, serving_read, ticket_tried, turn_awaited, EndsTurn, noted, with_note, with_seat, Tells};
+ghost use Rattle.history_lock.specs.Plays.{IsWorked, ticket_read, ticket_taken, serving_read};
+ghost use Rattle.history_lock.specs.Plays.{ticket_tried, turn_awaited, EndsTurn, noted};
+ghost use Rattle.history_lock.specs.Plays.{with_note, with_seat, Tells};
 ghost use Rattle.history_lock.specs.Seats.{IsAt, IsSame, IsIdleOf, IsNoteOf};
 
 use crate::machine::Machine;

@@ -1,6 +1,7 @@
 //! A turn: a seat takes a ticket, waits until its turn comes, and works its request on the machine.
 
-ghost use Rattle.std.specs.Prelude.{◌≡◌, ◌≤◌, [], length, ◌<◌, ◌^◌, Some, None, IfSome, IfNone, IfOk, IfErr};
+ghost use Rattle.std.specs.Prelude.{◌≡◌, ◌≤◌, [], length, ◌<◌, ◌^◌, Some, None};
+ghost use Rattle.std.specs.Prelude.{IfSome, IfNone, IfOk, IfErr};
 ghost use Rattle.history_lock.specs.declared.view.Stage.TheVariants.{Idle, Waits};
 ghost use Rattle.history_lock.specs.History.{run};
 ghost use Rattle.history_lock.specs.Plays.{EndsTurn, Enters, HasMachine, IsWorked};

@@ -1,6 +1,7 @@
 //! A page of a dump that is being filled.
 
-ghost use Rattle.std.specs.Prelude.{◌≡◌, ◌+◌, ◌<◌, ◌≤◌, ◌==◌, ◌++◌, true, length, vec_len, vec_capacity};
+ghost use Rattle.std.specs.Prelude.{◌≡◌, ◌+◌, ◌<◌, ◌≤◌, ◌==◌, ◌++◌, true, length};
+ghost use Rattle.std.specs.Prelude.{vec_len, vec_capacity};
 ghost use Rattle.swp08_messages.specs.Dump.{page_text, page_dests, max_dump_len};
 ghost use Rattle.swp08_messages.specs.Field.{levels, dests, IsSource};
 ghost use Rattle.panel_session.specs.Text.{no_page, page_at, goes_on, with_source};

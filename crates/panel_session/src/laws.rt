@@ -1,6 +1,7 @@
 //! What holds of every session.
 
-ghost use Rattle.panel_session.specs.Laws.{AwaitsSoFar, StandsSoFar, TurnsAreOne, TurnsAreSent, TurnsFit};
+ghost use Rattle.panel_session.specs.Laws.{AwaitsSoFar, StandsSoFar, TurnsAreOne};
+ghost use Rattle.panel_session.specs.Laws.{TurnsAreSent, TurnsFit};
 
 use history_lock::Machine;
 use plant_core::{Answer, Request};

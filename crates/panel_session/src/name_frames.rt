@@ -5,7 +5,8 @@ ghost use Rattle.dle_framing.specs.Numbers.{ack};
 ghost use Rattle.swp08_messages.specs.Text.{InRange};
 ghost use Rattle.panel_session.specs.Text.{with_frames, with_control};
 ghost use Rattle.panel_session.specs.NamePages.{name_frames};
-ghost use Rattle.panel_session.specs.NamePagesInside.{IsNamePage, HasRoomFor, GoesOnWith, AddsNames};
+ghost use Rattle.panel_session.specs.NamePagesInside.{IsNamePage, HasRoomFor, GoesOnWith};
+ghost use Rattle.panel_session.specs.NamePagesInside.{AddsNames};
 ghost use Rattle.panel_session.specs.OutgoingInside.{emptied};
 
 use crate::name_page::NamePage;

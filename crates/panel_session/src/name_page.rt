@@ -5,7 +5,8 @@ ghost use Rattle.swp08_messages.specs.Text.{InRange};
 ghost use Rattle.plant_config.specs.Plant.{PlantData};
 ghost use Rattle.plant_names.specs.Pages.{max_page_len, AreFew};
 ghost use Rattle.panel_session.specs.NamePages.{name_pages};
-ghost use Rattle.panel_session.specs.NamePagesInside.{IsNamePage, names_of, data_of, end_of, pages_left};
+ghost use Rattle.panel_session.specs.NamePagesInside.{IsNamePage, names_of, data_of, end_of};
+ghost use Rattle.panel_session.specs.NamePagesInside.{pages_left};
 
 use plant_names::{Names, Paged};
 use swp08_messages::Message;

@@ -1,6 +1,7 @@
 //! The bytes that a session sends next, and the frame that it may send again.
 
-ghost use Rattle.std.specs.Prelude.{◌≡◌, ◌≢◌, ◌<◌, ◌≤◌, true, false, IfOk, IfSome, [], ◌++◌, length, All, ◌+◌};
+ghost use Rattle.std.specs.Prelude.{◌≡◌, ◌≢◌, ◌<◌, ◌≤◌, true, false, IfOk, IfSome, []};
+ghost use Rattle.std.specs.Prelude.{◌++◌, length, All, ◌+◌};
 ghost use Rattle.dle_framing.specs.Numbers.{ack, nak};
 ghost use Rattle.plant_core.specs.Answer.{IsSayable};
 ghost use Rattle.plant_core.specs.declared.answer.Answer.TheVariants.{Say, Dumped};
@@ -8,8 +9,11 @@ ghost use Rattle.swp08_messages.specs.Text.{InRange, text};
 ghost use Rattle.dle_framing.specs.Frame.{frame};
 ghost use Rattle.swp08_messages.specs.Dump.{page_dests, page_text};
 ghost use Rattle.swp08_messages.specs.Field.{levels, dests};
-ghost use Rattle.panel_session.specs.Text.{no_page, page_at, goes_on, page_frames, frames_of, with_frame, with_frames, with_control, repeated, nothing_sent};
-ghost use Rattle.panel_session.specs.NamePagesInside.{IsNamePage, HasRoomFor, names_of, data_of, end_of};
+ghost use Rattle.panel_session.specs.Text.{no_page, page_at, goes_on, page_frames, frames_of};
+ghost use Rattle.panel_session.specs.Text.{with_frame, with_frames, with_control, repeated};
+ghost use Rattle.panel_session.specs.Text.{nothing_sent};
+ghost use Rattle.panel_session.specs.NamePagesInside.{IsNamePage, HasRoomFor, names_of};
+ghost use Rattle.panel_session.specs.NamePagesInside.{data_of, end_of};
 ghost use Rattle.plant_names.specs.Pages.{AreFew};
 ghost use Rattle.plant_names.specs.declared.paged.Paged.TheVariants.{Nothing};
 ghost use Rattle.panel_session.specs.OutgoingInside.{emptied, Adds};
@@ -25,9 +29,6 @@ use plant_names::{Names, Paged};
 use std::alloc::{AllocError, Global};
 use std::marker::Model;
 use swp08_messages::Message;
-
-/// The most answers of a step: there are no more destinations in a level.
-pub(crate) const MOST_ANSWERS: usize = 1024;
 
 // How often a frame is sent again since it was newly sent.
 const MOST_REPEATS: u32 = 5;
@@ -136,8 +137,7 @@ impl Outgoing {
         append_nak(&mut self.bytes);
     }
 
-    // The last message frame is to be sent again, if there is one that was sent again fewer than 5 times. It answers whether
-    // so.
+    // The last message frame is to be sent again, if there is one that was sent again fewer than 5 times: whether there is.
     pub(crate) fn repeat(&mut self) -> bool
         ensures output { self.new ≡ repeated (emptied self.old) }
         ensures some { result ≡ true → self.new.bytes ≢ [] }

@@ -1,6 +1,7 @@
 //! The session of one panel.
 
-ghost use Rattle.std.specs.Prelude.{◌≡◌, ◌≢◌, ℕ, ◌-◌, ◌^◌, ◌<◌, ◌≤◌, true, false, [], ◌++◌, length, take, All, IfOk, Some};
+ghost use Rattle.std.specs.Prelude.{◌≡◌, ◌≢◌, ℕ, ◌-◌, ◌^◌, ◌<◌, ◌≤◌, true, false, [], ◌++◌};
+ghost use Rattle.std.specs.Prelude.{length, take, All, IfOk, Some};
 ghost use Rattle.std.specs.Borrow.{sem};
 ghost use Rattle.plant_config.specs.Plant.{PlantData};
 ghost use Rattle.plant_core.specs.declared.request.Request.{Request};
@@ -13,8 +14,8 @@ ghost use Rattle.panel_session.specs.TakenInside.{IsSending, IsAnswer, IsNoAnswe
 use crate::act::Act;
 use crate::asked::{Asked, next_asked};
 use crate::counts::Counts;
-use crate::outgoing::{MOST_ANSWERS, Outgoing};
-use crate::stage::{Stage, stage_behind};
+use crate::outgoing::Outgoing;
+use crate::stage::{MOST_ANSWERS, Stage, stage_behind};
 use dle_framing::Framer;
 use history_lock::OutBox;
 use plant_config::{PanelNo, Plant};
@@ -51,7 +52,8 @@ impl<'p> Session<'p> {
     ghost use Rattle.panel_session.specs.declared.stage.Stage.TheVariants.{Read};
     ghost use Rattle.panel_session.specs.MovesInside.{took, took_answers, ended_turn};
     ghost use Rattle.panel_session.specs.ReadingInside.{ReadsOn, HasReadOn};
-    ghost use Rattle.panel_session.specs.Session.{outgoing_of, outbox_of, StandsFor, Awaits, TakesAnswers, BeginsAnew, BeginsAnewUnanswered};
+    ghost use Rattle.panel_session.specs.Session.{outgoing_of, outbox_of, StandsFor, Awaits};
+    ghost use Rattle.panel_session.specs.Session.{TakesAnswers, BeginsAnew, BeginsAnewUnanswered};
 
     /// A session of a panel of the plant, to which nothing was sent. The names are those of the plant.
     pub fn start(
@@ -138,8 +140,7 @@ impl<'p> Session<'p> {
         &mut self.outbox
     }
 
-    /// Goes on with the present turn, and answers how many bytes of the piece it used and what the caller does next. The
-    /// piece is what is left of the one that the turn began with.
+    /// Goes on with the turn, in what is left of its piece: how many bytes it used of that, and what the caller does next.
     pub fn act(&mut self, piece: &[u8]) -> (usize, Act)
         ensures within { result.0 ≤ length piece.now }
         ensures acts { ActsOn self.old piece.now result.0 result.1 self.new }
@@ -201,8 +202,7 @@ impl<'p> Session<'p> {
         (used, Act::Ask(self.polling()))
     }
 
-    // Takes the bytes up to the end of the next item, and does what that asks. It answers how many it used, and whether
-    // something is to be sent.
+    // Takes the bytes up to the end of the next item and does what that asks: how many, and whether something is to be sent.
     fn read_once(&mut self, piece: &[u8]) -> (usize, bool)
         ensures within { result.0 ≤ length piece.now }
         ensures progress { 0 < length piece.now → 0 < result.0 }

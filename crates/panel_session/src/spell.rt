@@ -1,6 +1,7 @@
 //! Frames, spelled and appended to what is sent.
 
-ghost use Rattle.std.specs.Prelude.{◌≡◌, ◌≢◌, ◌≤◌, ◌++◌, IfSome, length, vec_len, vec_capacity, ◌+◌};
+ghost use Rattle.std.specs.Prelude.{◌≡◌, ◌≢◌, ◌≤◌, ◌++◌, IfSome, length, vec_len};
+ghost use Rattle.std.specs.Prelude.{vec_capacity, ◌+◌};
 ghost use Rattle.dle_framing.specs.Frame.{frame};
 ghost use Rattle.swp08_messages.specs.Dump.{page_text};
 ghost use Rattle.plant_names.specs.Pages.{max_page_len, AreFew};

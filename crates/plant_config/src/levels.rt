@@ -1,10 +1,12 @@
 //! The levels of a plant, each found in one look: by its matrix and its number, and by what it has.
 
 ghost use Rattle.std.specs.Prelude.{◌≡◌, ◌+◌, ◌*◌, ◌^◌, ◌<◌, ◌≤◌, All, length, find, sum, IfOk};
-ghost use Rattle.plant_config.specs.Limits.{matrix_limit, level_limit, all_levels_limit, all_destinations_limit, all_sources_limit};
+ghost use Rattle.plant_config.specs.Limits.{matrix_limit, level_limit, all_levels_limit};
+ghost use Rattle.plant_config.specs.Limits.{all_destinations_limit, all_sources_limit};
 ghost use Rattle.plant_config.specs.Plant.{dest_numbers, source_numbers};
 ghost use Rattle.plant_config.specs.Sites.{level_among, has_number};
-ghost use Rattle.plant_config.specs.LevelsInside.{IsInGrid, AreNoted, AreNumbered, LeadToLevels, place_of, level_by, indices_from};
+ghost use Rattle.plant_config.specs.LevelsInside.{IsInGrid, AreNoted, AreNumbered, LeadToLevels};
+ghost use Rattle.plant_config.specs.LevelsInside.{place_of, level_by, indices_from};
 
 use crate::limits::{LEVELS_OF_A_MATRIX, MATRICES};
 use crate::numbers::{DestId, SourceId};

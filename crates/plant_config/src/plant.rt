@@ -2,9 +2,11 @@
 
 ghost use Rattle.std.specs.Prelude.{◌≡◌, ◌<◌, IfOk};
 ghost use Rattle.plant_config.specs.Limits.{level_source_limit};
-ghost use Rattle.plant_config.specs.Plant.{dest_numbers, source_numbers, destinations_of, sources_of};
+ghost use Rattle.plant_config.specs.Plant.{dest_numbers, source_numbers};
+ghost use Rattle.plant_config.specs.Plant.{destinations_of, sources_of};
 ghost use Rattle.plant_config.specs.IsPlant.{IsPlant};
-ghost use Rattle.plant_config.specs.Sites.{dest_at, source_at, level_at, level_of, point_of, source_number_of};
+ghost use Rattle.plant_config.specs.Sites.{dest_at, source_at, level_at, level_of};
+ghost use Rattle.plant_config.specs.Sites.{point_of, source_number_of};
 ghost use Rattle.plant_config.specs.Bench.{bench, bench_sources, bench_dest_names};
 
 use crate::levels::Levels;

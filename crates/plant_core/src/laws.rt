@@ -1,10 +1,13 @@
 //! What is true of every step from every valid state, not only of those that a program makes.
 
-ghost use Rattle.plant_core.specs.Laws.{StartsAreValid, StepsStayValid, StepsKeepThePlant, ChangesStayValid};
+ghost use Rattle.plant_core.specs.Laws.{StartsAreValid, StepsStayValid};
+ghost use Rattle.plant_core.specs.Laws.{StepsKeepThePlant, ChangesStayValid};
 ghost use Rattle.plant_core.specs.Laws.{ConnectablesAreMade, OthersAreNotMade, ConnectsStand};
-ghost use Rattle.plant_core.specs.Laws.{QuestionsChangeNothing, StartsAnswerParked, OutsidersAnswerParked};
+ghost use Rattle.plant_core.specs.Laws.{QuestionsChangeNothing, StartsAnswerParked};
+ghost use Rattle.plant_core.specs.Laws.{OutsidersAnswerParked};
 ghost use Rattle.plant_core.specs.Laws.{DumpsTellWhatStands};
-ghost use Rattle.plant_core.specs.Laws.{AnswersAreFew, AnswersAreSayable, AnswersFit, RoomsAreBounded};
+ghost use Rattle.plant_core.specs.Laws.{AnswersAreFew, AnswersAreSayable};
+ghost use Rattle.plant_core.specs.Laws.{AnswersFit, RoomsAreBounded};
 ghost use Rattle.plant_core.specs.Laws.{ItemsHaveNoEffect, PollNumbersHaveNoEffect};
 
 /// The state at the start is valid, every step leaves a valid state, and no step changes the plant. A list of changes

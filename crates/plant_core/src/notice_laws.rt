@@ -1,10 +1,12 @@
 //! What is true of the notices of every valid state: who gets them, and who is told for them.
 
-ghost use Rattle.plant_core.specs.NoticeLaws.{SourcesAreHeard, OwnersAreHeard, GoesAreHeard, OthersAreQuiet};
+ghost use Rattle.plant_core.specs.NoticeLaws.{SourcesAreHeard, OwnersAreHeard};
+ghost use Rattle.plant_core.specs.NoticeLaws.{GoesAreHeard, OthersAreQuiet};
 ghost use Rattle.plant_core.specs.NoticeLaws.{PollsTell, PollsOfNoneAreSilent};
 ghost use Rattle.plant_core.specs.NoticeLaws.{OthersLeaveNotices, NoticesStandUntilTold};
 ghost use Rattle.plant_core.specs.NoticeLaws.{PollsTellInOrder, PollsLeaveTheRest};
-ghost use Rattle.plant_core.specs.NoticeLaws.{LeavesAreHeeded, LeaversStayAway, LeaversHearNothing, LeaversAreServed};
+ghost use Rattle.plant_core.specs.NoticeLaws.{LeavesAreHeeded, LeaversStayAway};
+ghost use Rattle.plant_core.specs.NoticeLaws.{LeaversHearNothing, LeaversAreServed};
 
 /// A connect that changes a source, and a protect or a lift that changes an owner, gives notice of it to all other panels
 /// that haven't left, and to nobody else. A go gives notice of the sources that it changes to the asker too. What changes

@@ -10,7 +10,8 @@ ghost use Rattle.salvo_groups.specs.Groups.{group_of, with_store};
 ghost use Rattle.salvo_groups.specs.Answers.{store_answer};
 ghost use Rattle.plant_core.specs.State.{IsValid, IsChangeOf, device_of};
 ghost use Rattle.plant_core.specs.Connects.{are_permitted, change_of};
-ghost use Rattle.plant_core.specs.Salvos.{stored_in, emptied, all_changed, entry_answer, told_place, validity_at};
+ghost use Rattle.plant_core.specs.Salvos.{stored_in, emptied, all_changed, entry_answer};
+ghost use Rattle.plant_core.specs.Salvos.{told_place, validity_at};
 ghost use Rattle.plant_core.specs.Step.{answered};
 ghost use Rattle.plant_core.specs.AnswerInside.{SaysJust, SaysAtMost};
 

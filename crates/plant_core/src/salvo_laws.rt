@@ -1,6 +1,7 @@
 //! What is true of salvo groups in every valid state: a group is taken whole, or no crosspoint changes.
 
-ghost use Rattle.plant_core.specs.SalvoLaws.{GoesAreWhole, FreeGroupsAreTaken, KeptGroupsAreRefused};
+ghost use Rattle.plant_core.specs.SalvoLaws.{GoesAreWhole, FreeGroupsAreTaken};
+ghost use Rattle.plant_core.specs.SalvoLaws.{KeptGroupsAreRefused};
 ghost use Rattle.plant_core.specs.SalvoLaws.{GroupsAreCleared, EmptyGroupsStay};
 ghost use Rattle.plant_core.specs.SalvoLaws.{EntriesAreStored, OtherEntriesAreNot};
 ghost use Rattle.plant_core.specs.SalvoLaws.{EntriesAreTold, OthersAreNoEntries};

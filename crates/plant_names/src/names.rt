@@ -1,11 +1,14 @@
 //! The names of a plant.
 
-ghost use Rattle.std.specs.Prelude.{◌≡◌, ◌+◌, ◌<◌, ◌≤◌, ◌++◌, IfOk, IfSome, OnSome, vec_len, vec_capacity};
+ghost use Rattle.std.specs.Prelude.{◌≡◌, ◌+◌, ◌<◌, ◌≤◌, ◌++◌, IfOk, IfSome, OnSome};
+ghost use Rattle.std.specs.Prelude.{vec_len, vec_capacity};
 ghost use Rattle.std.specs.Option.{option_copied, option_map};
 ghost use Rattle.plant_config.specs.Limits.{matrix_limit, level_limit};
 ghost use Rattle.plant_config.specs.Sites.{level_at};
 ghost use Rattle.plant_names.specs.Lookup.{source_named, dest_named};
-ghost use Rattle.plant_names.specs.Pages.{AreFew, lowest_level, max_page_len, page_end, names_of_sources, names_of_dests, source_page_data, dest_page_data};
+ghost use Rattle.plant_names.specs.Pages.{AreFew, lowest_level, max_page_len, page_end};
+ghost use Rattle.plant_names.specs.Pages.{names_of_sources, names_of_dests, source_page_data};
+ghost use Rattle.plant_names.specs.Pages.{dest_page_data};
 ghost use Rattle.plant_names.specs.NamesInside.{named, IsNamed};
 
 use crate::level::{LevelNames, number_of};

@@ -1,6 +1,7 @@
 //! The command `check`.
 
-ghost use Rattle.std.specs.Prelude.{◌≡◌, ◌≤◌, ◌++◌, false, length, sum_by, codes, decimal, IfOk, OnOk, string_bytes};
+ghost use Rattle.std.specs.Prelude.{◌≡◌, ◌≤◌, ◌++◌, false, length, sum_by, codes};
+ghost use Rattle.std.specs.Prelude.{decimal, IfOk, OnOk, string_bytes};
 ghost use Rattle.ctl_io.specs.Faults.{counted};
 ghost use Rattle.plantctl.specs.Lines.{line};
 ghost use Rattle.plantctl.specs.Check.{check_text, CheckEnds};

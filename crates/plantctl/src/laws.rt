@@ -2,12 +2,15 @@
 
 ghost use Rattle.plantctl.specs.Statuses.{StatusesAreKnown, ZeroHasDone, OneRanOutOfMemory};
 ghost use Rattle.plantctl.specs.Statuses.{TwoHasNoForm, TwoTellsUsage, NoFormEndsWithTwo};
-ghost use Rattle.plantctl.specs.Statuses.{ThreeHasCause, NoPlantEndsWithThree, NoScriptEndsWithThree};
-ghost use Rattle.plantctl.specs.Statuses.{FourHasCause, RefusedPlantEndsWithFour, NotBuiltEndsWithFour};
+ghost use Rattle.plantctl.specs.Statuses.{ThreeHasCause, NoPlantEndsWithThree};
+ghost use Rattle.plantctl.specs.Statuses.{NoScriptEndsWithThree};
+ghost use Rattle.plantctl.specs.Statuses.{FourHasCause, RefusedPlantEndsWithFour};
+ghost use Rattle.plantctl.specs.Statuses.{NotBuiltEndsWithFour};
 ghost use Rattle.plantctl.specs.Statuses.{FourOpensNoScript};
 ghost use Rattle.plantctl.specs.Statuses.{FiveHasCause, RefusedEndsWithFive, AcceptedEndsWithZero};
 ghost use Rattle.plantctl.specs.Statuses.{PlantEndsWithZero, SevenHasCause, OthersWriteAll};
-ghost use Rattle.plantctl.specs.Statuses.{SourcesComeBack, NoSinkIsMade, OtherNamesStay, FileFaultsStay, FileFaultsRiseOnce};
+ghost use Rattle.plantctl.specs.Statuses.{SourcesComeBack, NoSinkIsMade, OtherNamesStay};
+ghost use Rattle.plantctl.specs.Statuses.{FileFaultsStay, FileFaultsRiseOnce};
 
 /// No other status is answered.
 pub fn statuses()

@@ -6,7 +6,8 @@ ghost use Rattle.ctl_io.specs.Faults.{counted};
 ghost use Rattle.ctl_io.specs.Sink.{appended, AppendsPart};
 ghost use Rattle.record_replay.specs.declared.replay.ReplayFault.TheVariants as faults;
 ghost use Rattle.plantctl.specs.declared.stop.Stop.TheVariants.{NoMemory};
-ghost use Rattle.plantctl.specs.StopInside.{number_of, line_of, stop_status, stop_of_file, stop_of_replay};
+ghost use Rattle.plantctl.specs.StopInside.{number_of, line_of, stop_status};
+ghost use Rattle.plantctl.specs.StopInside.{stop_of_file, stop_of_replay};
 ghost use Rattle.plantctl.specs.StopInside.{SaysFault, Reports};
 
 use ctl_io::{FileFault, Sink, write_all};

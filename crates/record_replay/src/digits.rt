@@ -1,6 +1,7 @@
 //! The bytes of a turn, in room that was taken before.
 
-ghost use Rattle.std.specs.Prelude.{◌≡◌, ◌≤◌, ◌*◌, ◌/◌, ◌==◌, ℕ, List, [], length, take, not, filter, unwrap_or, vec_len, vec_capacity, IfOk};
+ghost use Rattle.std.specs.Prelude.{◌≡◌, ◌≤◌, ◌*◌, ◌/◌, ◌==◌, ℕ, List, [], length, take, not};
+ghost use Rattle.std.specs.Prelude.{filter, unwrap_or, vec_len, vec_capacity, IfOk};
 ghost use Rattle.std.specs.Bool.{OnTrue, OnFalse};
 ghost use Rattle.hex.specs.Hex.{decode_of, hex_digit_value};
 ghost use Rattle.swp08_messages.specs.Text.{InRange};

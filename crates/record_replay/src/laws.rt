@@ -1,8 +1,11 @@
 //! What holds of every message's frame and of every script.
 
-ghost use Rattle.record_replay.specs.ScriptLaws.{MessageFramesAreItems, TextsSpellTheirMessage, TextsSpellNoOther};
-ghost use Rattle.record_replay.specs.ScriptLaws.{ScriptsReplayOrAreBad, ReplayTextsAreOne, FirstBadsAreOne, BadsDoNotReplay};
-ghost use Rattle.record_replay.specs.ScriptLaws.{ReplaysHaveHistory, HistoriesAreOne, HistoriesShowReplays, TurnsAnswerItems};
+ghost use Rattle.record_replay.specs.ScriptLaws.{MessageFramesAreItems};
+ghost use Rattle.record_replay.specs.ScriptLaws.{TextsSpellTheirMessage, TextsSpellNoOther};
+ghost use Rattle.record_replay.specs.ScriptLaws.{ScriptsReplayOrAreBad, ReplayTextsAreOne};
+ghost use Rattle.record_replay.specs.ScriptLaws.{FirstBadsAreOne, BadsDoNotReplay};
+ghost use Rattle.record_replay.specs.ScriptLaws.{ReplaysHaveHistory, HistoriesAreOne};
+ghost use Rattle.record_replay.specs.ScriptLaws.{HistoriesShowReplays, TurnsAnswerItems};
 
 /// The frame of a message is read as one good item with the message's DATA and no rest. These DATA spell the
 /// message, and no other.

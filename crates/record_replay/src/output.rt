@@ -4,7 +4,8 @@ ghost use Rattle.std.specs.Prelude.{◌≡◌, ◌+◌, ◌*◌, ◌≤◌, [], 
 ghost use Rattle.std.specs.Bool.{OnTrue, OnFalse};
 ghost use Rattle.hex.specs.Hex.{encode_upper};
 ghost use Rattle.record_replay.specs.Replay.{leave_line};
-ghost use Rattle.record_replay.specs.OutputInside.{HasNothing, Puts, Gives, IsAllGiven, IsCutShort, turn_head, turn_end};
+ghost use Rattle.record_replay.specs.OutputInside.{HasNothing, Puts, Gives, IsAllGiven};
+ghost use Rattle.record_replay.specs.OutputInside.{IsCutShort, turn_head, turn_end};
 ghost use Rattle.record_replay.specs.OutputLaws.{gives_none, gives_more};
 
 use crate::drain::Drain;

@@ -30,7 +30,8 @@ pub(crate) struct Stage<'p> {
 
 impl<'p> Stage<'p> {
     ghost use Rattle.record_replay.specs.LineInside.{IsFound};
-    ghost use Rattle.record_replay.specs.StageInside.{StandsAt, MayDo, DoesWork, DoesLine, DoesScript, need_of};
+    ghost use Rattle.record_replay.specs.StageInside.{StandsAt, MayDo, DoesWork, DoesLine};
+    ghost use Rattle.record_replay.specs.StageInside.{DoesScript, need_of};
 
     // Nothing happened yet. It takes all the memory that it ever needs.
     pub(crate) fn start(

@@ -6,7 +6,8 @@ ghost use Rattle.plant_config.specs.IsPlant.{IsPlant};
 ghost use Rattle.swp08_messages.specs.Text.{InRange, IsSource};
 ghost use Rattle.record_replay.specs.Take.{dest_number, source_number, carried, connect_named};
 ghost use Rattle.record_replay.specs.Script.{Asks};
-ghost use Rattle.record_replay.specs.LineInside.{AreParts, HasNoParts, AsksNothing, IsTake, IsNoTake};
+ghost use Rattle.record_replay.specs.LineInside.{AreParts, HasNoParts, AsksNothing};
+ghost use Rattle.record_replay.specs.LineInside.{IsTake, IsNoTake};
 
 use crate::digits::Digits;
 use crate::number::{read_number, read_panel};

@@ -1,7 +1,8 @@
 //! All salvo groups.
 
 ghost use Rattle.std.specs.Prelude.{◌≡◌, ◌<◌, ◌≤◌, ◌↔◌, length, slice_get, IsNone, IfOk};
-ghost use Rattle.salvo_groups.specs.Groups.{start, group_of, with_store, with_clear, IsGroup, AreGroups};
+ghost use Rattle.salvo_groups.specs.Groups.{start, group_of, with_store, with_clear};
+ghost use Rattle.salvo_groups.specs.Groups.{IsGroup, AreGroups};
 ghost use Rattle.salvo_groups.specs.Answers.{store_answer, HasNoRoom};
 
 use crate::entries::Entries;

@@ -4,7 +4,8 @@ ghost use Rattle.std.specs.Prelude.{◌≡◌, ℕ, ◌<◌, ◌≤◌, Bool, Li
 ghost use Rattle.plant_config.specs.declared.records.Change.{Change};
 ghost use Rattle.salvo_groups.specs.Limits as limits;
 ghost use Rattle.salvo_groups.specs.Groups.{Group, start, group_of, AreGroups};
-ghost use Rattle.salvo_groups.specs.Laws.{ClearsAreOfOneGroup, EntriesPass, GoOnPassing, StayGroups, StoresAreRead, StoresCollect, first_dests};
+ghost use Rattle.salvo_groups.specs.Laws.{ClearsAreOfOneGroup, EntriesPass, GoOnPassing};
+ghost use Rattle.salvo_groups.specs.Laws.{StayGroups, StoresAreRead, StoresCollect, first_dests};
 
 use crate::limits::{GROUPS, MAX_ENTRIES};
 

@@ -1,7 +1,8 @@
 //! What the bytes behind a command give as they come, a missing one taken as 0.
 
 ghost use Rattle.std.specs.Prelude.{◌≡◌, slice_index};
-ghost use Rattle.swp08_messages.specs.ReadingInside.{matrix_in, level_in, point_of, second_of, source_in};
+ghost use Rattle.swp08_messages.specs.ReadingInside.{matrix_in, level_in, point_of};
+ghost use Rattle.swp08_messages.specs.ReadingInside.{second_of, source_in};
 
 use crate::field::PART;
 use crate::point::{PARKED, Point};

@@ -1,6 +1,7 @@
 //! Dumps of a level, commands 21 and 23 of this project's profile: how one is asked for, and the pages that answer it.
 
-ghost use Rattle.std.specs.Prelude.{◌≡◌, ◌+◌, ◌/◌, ◌%◌, ◌<◌, ◌≤◌, [], ◌∷◌, ◌++◌, length, All, vec_len, vec_capacity};
+ghost use Rattle.std.specs.Prelude.{◌≡◌, ◌+◌, ◌/◌, ◌%◌, ◌<◌, ◌≤◌, [], ◌∷◌, ◌++◌, length};
+ghost use Rattle.std.specs.Prelude.{All, vec_len, vec_capacity};
 ghost use Rattle.std.specs.List.{flat_map};
 ghost use Rattle.swp08_messages.specs.Field.{levels, dests, number_of, IsSource};
 ghost use Rattle.swp08_messages.specs.Row.{one_level};

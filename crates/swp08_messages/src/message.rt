@@ -1,6 +1,7 @@
 //! The messages, and what is done with every one of them by its row.
 
-ghost use Rattle.std.specs.Prelude.{◌≡◌, ◌+◌, ◌≤◌, ◌++◌, ◌↔◌, IsTrue, Ok, Err, Some, MatchResult, MatchOption, vec_len, vec_capacity};
+ghost use Rattle.std.specs.Prelude.{◌≡◌, ◌+◌, ◌≤◌, ◌++◌, ◌↔◌, IsTrue, Ok, Err, Some, MatchResult};
+ghost use Rattle.std.specs.Prelude.{MatchOption, vec_len, vec_capacity};
 ghost use Rattle.swp08_messages.specs.declared.message.Message.{Message};
 ghost use Rattle.swp08_messages.specs.declared.fault.ReadFault.{ReadFault};
 ghost use Rattle.swp08_messages.specs.Row.{row};

@@ -1,6 +1,7 @@
 //! Reading a packet.
 
-ghost use Rattle.std.specs.Prelude.{◌≡◌, ◌<◌, ◌^◌, ◌∷◌, [], Ok, Err, ◌↔◌, MatchResult, IsOk, IfOk, IfSome, IfNone, length};
+ghost use Rattle.std.specs.Prelude.{◌≡◌, ◌<◌, ◌^◌, ◌∷◌, [], Ok, Err, ◌↔◌, MatchResult, IsOk};
+ghost use Rattle.std.specs.Prelude.{IfOk, IfSome, IfNone, length};
 ghost use Rattle.tsl_umd5.specs.Layout.{packet_head};
 ghost use Rattle.tsl_umd5.specs.Packet.{Contents, view, IsTextOf, OneText};
 ghost use Rattle.tsl_umd5.specs.Reading.{all_at, contents, reading};

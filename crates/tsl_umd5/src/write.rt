@@ -1,9 +1,11 @@
 //! Writing a packet at the end of a buffer, display by display.
 
-ghost use Rattle.std.specs.Prelude.{◌≡◌, ◌+◌, ◌-◌, ◌<◌, ◌≤◌, ◌^◌, [], ◌++◌, length, take, drop, vec_len, vec_capacity};
+ghost use Rattle.std.specs.Prelude.{◌≡◌, ◌+◌, ◌-◌, ◌<◌, ◌≤◌, ◌^◌, [], ◌++◌, length, take};
+ghost use Rattle.std.specs.Prelude.{drop, vec_len, vec_capacity};
 ghost use Rattle.std.specs.List.{AllByRecursion};
 ghost use Rattle.tsl_umd5.specs.Layout.{max_brightness, max_packet, packet_head};
-ghost use Rattle.tsl_umd5.specs.Packet.{view, word, display_text, message_length, packet_text, IsPrintable, IsPacketText, AddsDisplay};
+ghost use Rattle.tsl_umd5.specs.Packet.{view, word, display_text, message_length, packet_text};
+ghost use Rattle.tsl_umd5.specs.Packet.{IsPrintable, IsPacketText, AddsDisplay};
 
 use crate::layout::{COUNT_BYTES, FLAGS, PACKET_HEAD, VERSION};
 use crate::shown::Shown;

@@ -3,7 +3,10 @@
 ghost use Rattle.std.specs.Prelude.{◌≡◌, ◌<◌, IfOk};
 ghost use Rattle.ctl_io.specs.Files.{IfFound, IfMade};
 ghost use Rattle.ctl_io.specs.Memory.{IsNewSource, IsNewSink};
-ghost use Rattle.ctl_io.specs.MemFiles.{unasked, AreNewSources, AreNewSinks, held_of, custody_of, source_answer, without_source, after_source, sink_answer, without_sink, after_sink, after_close_source, after_close_sink};
+ghost use Rattle.ctl_io.specs.MemFiles.{unasked, AreNewSources, AreNewSinks, held_of, custody_of};
+ghost use Rattle.ctl_io.specs.MemFiles.{source_answer, without_source, after_source, sink_answer};
+ghost use Rattle.ctl_io.specs.MemFiles.{without_sink, after_sink, after_close_source};
+ghost use Rattle.ctl_io.specs.MemFiles.{after_close_sink};
 
 use crate::memory::calls::CallCount;
 use crate::memory::named::{is_listed, names_of, take_first};

@@ -2,7 +2,8 @@
 
 ghost use Rattle.std.specs.Prelude.{◌≡◌, ◌≤◌, ◌++◌, bytes_eq, length, IfOk, is_ok, OnOk};
 ghost use Rattle.std.specs.Option.{option_map};
-ghost use Rattle.plant_config.specs.OfFileInside.{AreLow, named, switch_among, buses_among, numbered_devices, numbered_buses};
+ghost use Rattle.plant_config.specs.OfFileInside.{AreLow, named, switch_among, buses_among};
+ghost use Rattle.plant_config.specs.OfFileInside.{numbered_devices, numbered_buses};
 
 use super::lookups::{dest_among, source_among};
 use crate::numbers::{DestId, DeviceId};

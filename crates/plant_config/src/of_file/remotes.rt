@@ -1,7 +1,8 @@
 //! The remote sources and the pools of a plant file, by what tells them apart.
 
 ghost use Rattle.std.specs.Prelude.{◌≡◌, IfOk, OnOk, length, ◌≤◌};
-ghost use Rattle.plant_config.specs.OfFileInside.{Maps, AddsTo, place_of, way_of, remote_among, pool_among};
+ghost use Rattle.plant_config.specs.OfFileInside.{Maps, AddsTo, place_of, way_of};
+ghost use Rattle.plant_config.specs.OfFileInside.{remote_among, pool_among};
 
 use crate::numbers::PoolId;
 use plant_file::{PoolEntry, RemoteEntry};

@@ -2,7 +2,8 @@
 
 ghost use Rattle.std.specs.Prelude.{◌≡◌, ◌≤◌, ◌++◌, All, flat_map, length, IfOk, is_ok, OnOk};
 ghost use Rattle.plant_config.specs.PlantOfFile.{levels_of, pool_number, sources_at};
-ghost use Rattle.plant_config.specs.OfFileInside.{AreLow, Knows, HasFewSources, shown, behind, origin_in};
+ghost use Rattle.plant_config.specs.OfFileInside.{AreLow, Knows, HasFewSources, shown};
+ghost use Rattle.plant_config.specs.OfFileInside.{behind, origin_in};
 
 use super::lookups::source_among;
 use super::remotes::{Pools, Remotes, pools_of, remotes_of};

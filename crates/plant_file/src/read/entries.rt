@@ -2,9 +2,12 @@
 
 ghost use Rattle.std.specs.Prelude.{◌≡◌};
 ghost use Rattle.toml.specs.View.{table_view};
-ghost use Rattle.plant_file.specs.Format.{remote_keys, pool_keys, device_keys, bus_keys, root_keys, display_keys, panel_keys};
-ghost use Rattle.plant_file.specs.Reading.{remote_of, pool_of, device_of, switch_of, bus_of, root_of, display_of, panel_of};
-ghost use Rattle.plant_file.specs.ReadingInside.{keys_at, keys_answer, entry_answer, switch_keys, present_switch_keys, switch_in};
+ghost use Rattle.plant_file.specs.Format.{remote_keys, pool_keys, device_keys, bus_keys};
+ghost use Rattle.plant_file.specs.Format.{root_keys, display_keys, panel_keys};
+ghost use Rattle.plant_file.specs.Reading.{remote_of, pool_of, device_of, switch_of, bus_of};
+ghost use Rattle.plant_file.specs.Reading.{root_of, display_of, panel_of};
+ghost use Rattle.plant_file.specs.ReadingInside.{keys_at, keys_answer, entry_answer, switch_keys};
+ghost use Rattle.plant_file.specs.ReadingInside.{present_switch_keys, switch_in};
 
 use crate::entries::{
     BusEntry, DeviceEntry, DisplayEntry, PanelEntry, PoolEntry, RemoteEntry, RootEntry, SwitchEntry,

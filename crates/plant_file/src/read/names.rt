@@ -7,7 +7,8 @@ ghost use Rattle.plant_file.specs.Rows.{key, Names, no_names};
 ghost use Rattle.plant_file.specs.Document.{found_at, number_in};
 ghost use Rattle.plant_file.specs.Reading.{default_name, names_of};
 ghost use Rattle.plant_file.specs.FirstFault.{Answers};
-ghost use Rattle.plant_file.specs.ReadingInside.{read_as, key_answer, texts_answer, names_answer, names_in};
+ghost use Rattle.plant_file.specs.ReadingInside.{read_as, key_answer, texts_answer};
+ghost use Rattle.plant_file.specs.ReadingInside.{names_answer, names_in};
 
 use crate::fault::{Field, Place, PlantFault};
 use crate::name::{MAX_NAME, Name};

@@ -6,7 +6,8 @@ ghost use Rattle.toml.specs.View.{table_view};
 ghost use Rattle.plant_file.specs.declared.fault.Section.{Section};
 ghost use Rattle.plant_file.specs.Rows.{SectionKeys, Entries};
 ghost use Rattle.plant_file.specs.FirstFault.{Answers};
-ghost use Rattle.plant_file.specs.ReadingInside.{read_as, tables, entry_answer, entries_answer, section_answer};
+ghost use Rattle.plant_file.specs.ReadingInside.{read_as, tables, entry_answer};
+ghost use Rattle.plant_file.specs.ReadingInside.{entries_answer, section_answer};
 
 use crate::fault::{PlantFault, Section};
 use crate::read::entry::Entry;

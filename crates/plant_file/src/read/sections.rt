@@ -1,8 +1,10 @@
 //! The section of each type of entry.
 
 ghost use Rattle.std.specs.Prelude.{refl};
-ghost use Rattle.plant_file.specs.Format.{remote_keys, pool_keys, device_keys, bus_keys, root_keys, display_keys, panel_keys};
-ghost use Rattle.plant_file.specs.Reading.{remote_of, pool_of, device_of, bus_of, root_of, display_of, panel_of};
+ghost use Rattle.plant_file.specs.Format.{remote_keys, pool_keys, device_keys, bus_keys};
+ghost use Rattle.plant_file.specs.Format.{root_keys, display_keys, panel_keys};
+ghost use Rattle.plant_file.specs.Reading.{remote_of, pool_of, device_of, bus_of, root_of};
+ghost use Rattle.plant_file.specs.Reading.{display_of, panel_of};
 ghost use Rattle.plant_file.specs.ReadingInside.{keys_at};
 
 use crate::entries::{

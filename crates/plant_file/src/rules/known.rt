@@ -2,8 +2,10 @@
 
 ghost use Rattle.std.specs.Prelude.{◌≡◌, map, IfOk};
 ghost use Rattle.std.specs.BTreeSet.{IsFromIterResult};
-ghost use Rattle.plant_file.specs.Links.{has_level, has_source, has_destination, has_device, is_remote, has_pool};
-ghost use Rattle.plant_file.specs.KnownInside.{widened, triple_cmp, name_cmp, remote_place, pool_place, KnowsLevels};
+ghost use Rattle.plant_file.specs.Links.{has_level, has_source, has_destination};
+ghost use Rattle.plant_file.specs.Links.{has_device, is_remote, has_pool};
+ghost use Rattle.plant_file.specs.KnownInside.{widened, triple_cmp, name_cmp, remote_place};
+ghost use Rattle.plant_file.specs.KnownInside.{pool_place, KnowsLevels};
 
 use crate::entries::{DeviceEntry, PoolEntry, RemoteEntry};
 use crate::file::PlantFile;
