@@ -1,3 +1,10 @@
 pub mod ChangeLists
+pub mod FeedLists
+pub mod TieLemmas
+pub mod RoomLemmas
+pub mod ValidLemmas
 pub mod AppliedLemmas
 pub mod LawLemmas
+pub mod MadeLemmas
+pub mod Worked
+pub mod FreedLemmas

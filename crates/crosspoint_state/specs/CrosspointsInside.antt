@@ -1,17 +1,24 @@
--- One change by itself.
-use Rattle.std.specs.Prelude.{ℕ, if◌then◌else◌, Option, None}
+-- Changes made one by one, with ties that are chosen elsewhere.
+use Rattle.std.specs.Prelude.{ℕ, if◌then◌else◌, List, [], ◌∷◌, Option}
 use Rattle.std.specs.Option.{option_map}
 use Rattle.number_map.specs.Table.{put}
 use Rattle.plant_config.specs.declared.records.Change.{Change}
 use Rattle.crosspoint_state.specs.declared.spot.Spot.{Spot}
 use Rattle.crosspoint_state.specs.Crosspoints.{Crosspoints, is_idle}
 
--- what a destination carries that is given a source, by no tie
-abbrev pub local_spot : Option ℕ → Option Spot
-local_spot source = option_map (λ source. record { source = source; tie = None }) source
+-- a source with a tie, or nothing
+abbrev pub spot_with : Option ℕ → Option ℕ → Option Spot
+spot_with source tie = option_map (λ source. record { source = source; tie = tie }) source
 
--- the crosspoints after one change
-abbrev pub made : Crosspoints → Change → Crosspoints
-made crosspoints change =
+-- the crosspoints after one change, with this tie unless it is idle
+abbrev pub made_with : Crosspoints → Change → Option ℕ → Crosspoints
+made_with crosspoints change tie =
     if is_idle crosspoints change then crosspoints
-    else put crosspoints change.dest (local_spot change.source)
+    else put crosspoints change.dest (spot_with change.source tie)
+
+-- the crosspoints after each change of a list is made with the tie beside it
+abbrev pub set_with : Crosspoints → List Change → List (Option ℕ) → Crosspoints
+set_with crosspoints [] ties = crosspoints
+set_with crosspoints (change ∷ changes) [] = crosspoints
+set_with crosspoints (change ∷ changes) (tie ∷ ties) =
+    set_with (made_with crosspoints change tie) changes ties

@@ -1,5 +1,7 @@
 pub use Rattle.plant_config.specs.Limits
 pub use Rattle.number_map.specs.Table
 pub mod Crosspoints
+pub mod Ties
+pub mod Applied
 pub mod CrosspointsInside
 pub mod Laws

@@ -1,14 +1,14 @@
 //! The crosspoints of a plant.
 
-ghost use Rattle.std.specs.Prelude.{◌≡◌, ◌<◌, All, IfOk};
+ghost use Rattle.std.specs.Prelude.{◌≡◌, ◌<◌, All, IfOk, length};
 ghost use Rattle.std.specs.FinMap.{empty, get};
 ghost use Rattle.number_map.specs.Table.{put};
-ghost use Rattle.crosspoint_state.specs.Crosspoints.{source_of, is_idle, applied, NamesOnce};
-ghost use Rattle.crosspoint_state.specs.CrosspointsInside.{local_spot, made};
+ghost use Rattle.crosspoint_state.specs.Crosspoints.{source_of, is_idle, NamesOnce};
+ghost use Rattle.crosspoint_state.specs.CrosspointsInside.{spot_with, made_with, set_with};
 
 use crate::spot::Spot;
 use number_map::NumberMap;
-use plant_config::{Change, DestId, MAX_DESTINATIONS, SourceId};
+use plant_config::{Change, DestId, MAX_DESTINATIONS, SourceId, TieNo};
 use std::alloc::{AllocError, Global};
 use std::marker::Model;
 
@@ -77,34 +77,35 @@ impl Crosspoints {
         self.source_at(change.dest) == change.source
     }
 
-    /// Makes a list of changes as one. A destination of an idle change keeps what it carries, and the tie of it, and each
-    /// other one is given its source, by no tie. No other destination changes.
-    pub fn set_all(&mut self, changes: &[Change])
+    /// Makes a list of changes, each with the tie beside it. A destination of an idle change keeps what it carries, its
+    /// tie too, and each other one is given its source by its tie. No other destination changes.
+    pub fn set_all(&mut self, changes: &[Change], ties: &[Option<TieNo>])
         requires dests { All (λ change. change.dest < MAX_DESTINATIONS) changes.now }
         requires once { NamesOnce changes.now }
-        ensures { self.new ≡ applied self.old changes.now }
+        requires beside { length changes.now ≡ length ties.now }
+        ensures { self.new ≡ set_with self.old changes.now ties.now }
     {
-        for change in changes {
-            self.set_one(change);
+        for index in 0..changes.len() {
+            self.set_one(&changes[index], ties[index]);
         }
     }
 
     // Makes one change.
-    fn set_one(&mut self, change: &Change)
+    fn set_one(&mut self, change: &Change, tie: Option<TieNo>)
         requires { change.now.dest < MAX_DESTINATIONS }
-        ensures { self.new ≡ made self.old change.now }
+        ensures { self.new ≡ made_with self.old change.now tie }
     {
         if self.is_idle(change) {
             return;
         }
-        self.set(change.dest, local_spot(change.source));
+        self.set(change.dest, spot_with(change.source, tie));
     }
 }
 
-// What a destination carries that is given a source, by no tie.
-fn local_spot(source: Option<SourceId>) -> Option<Spot>
-    ensures { result ≡ local_spot source }
+// What a destination carries that is given a source by a tie.
+fn spot_with(source: Option<SourceId>, tie: Option<TieNo>) -> Option<Spot>
+    ensures { result ≡ spot_with source tie }
 {
     let source = source?;
-    Some(Spot { source, tie: None })
+    Some(Spot { source, tie })
 }

@@ -11,7 +11,7 @@ fn changes_are_made_as_one(rt: HostRuntime) -> Result<(), Fail> {
     let third = SourceId::of(3);
     assert_eq!(rt; crosspoints.source_at(fourth), None);
 
-    crosspoints.set_all(&[
+    let takes = [
         Change {
             dest: fourth,
             source: Some(third),
@@ -20,11 +20,13 @@ fn changes_are_made_as_one(rt: HostRuntime) -> Result<(), Fail> {
             dest: fifth,
             source: Some(SourceId::of(7)),
         },
-    ]);
-    crosspoints.set_all(&[Change {
+    ];
+    crosspoints.set_all(&takes, &[None, None]);
+    let parking = Change {
         dest: fifth,
         source: None,
-    }]);
+    };
+    crosspoints.set_all(&[parking], &[None]);
 
     assert_eq!(rt; crosspoints.source_at(fourth), Some(third));
     assert_eq!(rt; crosspoints.source_at(fifth), None);

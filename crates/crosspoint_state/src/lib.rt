@@ -12,6 +12,7 @@ mod tests;
 
 pub use crosspoints::Crosspoints;
 pub use laws::{
-    changes_are_made, idle_changes_do_nothing, other_destinations_stay, the_order_does_not_matter,
+    a_pool_is_exhausted_where_ties_are_not_enough, changes_are_made, idle_changes_do_nothing,
+    other_destinations_stay, ties_are_freed_last, ties_stay_valid,
 };
 pub use spot::Spot;

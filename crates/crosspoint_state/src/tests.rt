@@ -16,20 +16,35 @@ fn spot(stands: Stands) -> Option<Spot> {
     })
 }
 
-/// A list of one change: what stands before it, the source that it asks for, whether it is idle, what stands after it.
-const ROWS: [(Stands, Option<u32>, bool, Stands); 9] = [
-    (None, None, true, None),
-    (None, Some(3), false, Some((3, None))),
-    (Some((3, None)), Some(3), true, Some((3, None))),
-    (Some((3, None)), Some(0), false, Some((0, None))),
-    (Some((0, None)), None, false, None),
-    // An idle change keeps the tie, and every other one gives it back.
-    (Some((40, Some(2))), Some(40), true, Some((40, Some(2)))),
-    (Some((40, Some(0))), Some(41), false, Some((41, None))),
-    (Some((40, Some(2))), None, false, None),
+/// A list of one change: what stands before it, the source that it asks for, the tie beside it, whether it is idle, what
+/// stands after it.
+const ROWS: [(Stands, Option<u32>, Option<u32>, bool, Stands); 10] = [
+    (None, None, None, true, None),
+    (None, Some(3), None, false, Some((3, None))),
+    (Some((3, None)), Some(3), None, true, Some((3, None))),
+    (Some((3, None)), Some(0), None, false, Some((0, None))),
+    (Some((0, None)), None, None, false, None),
+    // An idle change keeps the tie, and every other one takes the tie beside it.
+    (
+        Some((40, Some(2))),
+        Some(40),
+        Some(7),
+        true,
+        Some((40, Some(2))),
+    ),
+    (Some((40, Some(0))), Some(41), None, false, Some((41, None))),
+    (
+        Some((40, Some(0))),
+        Some(41),
+        Some(1023),
+        false,
+        Some((41, Some(1023))),
+    ),
+    (Some((40, Some(2))), None, Some(2), false, None),
     (
         Some((65_535, Some(1023))),
         Some(65_535),
+        None,
         true,
         Some((65_535, Some(1023))),
     ),
@@ -38,14 +53,14 @@ const ROWS: [(Stands, Option<u32>, bool, Stands); 9] = [
 fn change_one(rt: &impl Abort, crosspoints: &mut Crosspoints, dest: u32) {
     assert!(rt; dest < MAX_DESTINATIONS);
     let dest = DestId::of(dest);
-    for (before, source, idle, after) in ROWS {
+    for (before, source, tie, idle, after) in ROWS {
         let change = Change {
             dest,
             source: source.map(|source| SourceId::of(source)),
         };
         crosspoints.set(dest, spot(before));
         assert_eq!(rt; crosspoints.is_idle(&change), idle);
-        crosspoints.set_all(&[change]);
+        crosspoints.set_all(&[change], &[tie.map(|tie| TieNo::of(tie))]);
         assert_eq!(rt; crosspoints.at(dest), spot(after));
         assert_eq!(rt; crosspoints.source_at(dest), change.source);
     }
@@ -79,8 +94,8 @@ fn two_destinations_change_places(rt: HostRuntime) -> Result<(), Fail> {
     let (camera, replay) = (SourceId::of(3), SourceId::of(8));
     crosspoints.set(first, spot(Some((3, None))));
     crosspoints.set(second, spot(Some((8, None))));
-    crosspoints.set_all(&[]);
-    crosspoints.set_all(&[
+    crosspoints.set_all(&[], &[]);
+    let changes = [
         Change {
             dest: first,
             source: Some(replay),
@@ -89,8 +104,9 @@ fn two_destinations_change_places(rt: HostRuntime) -> Result<(), Fail> {
             dest: second,
             source: Some(camera),
         },
-    ]);
-    assert_eq!(rt; crosspoints.source_at(first), Some(replay));
-    assert_eq!(rt; crosspoints.source_at(second), Some(camera));
+    ];
+    crosspoints.set_all(&changes, &[None, Some(TieNo::of(1))]);
+    assert_eq!(rt; crosspoints.at(first), spot(Some((8, None))));
+    assert_eq!(rt; crosspoints.at(second), spot(Some((3, Some(1)))));
     Ok(())
 }

@@ -28,6 +28,7 @@ use Rattle.change_boards.specs.declared.sort.Sort.{Sort}
 use Rattle.change_boards.specs.declared.sort.Sort.TheVariants.{Source, Protect}
 use Rattle.change_boards.specs.Board.{next}
 use Rattle.change_boards.specs.Notices.{board_of}
+use Rattle.history_lock.specs.Step.{Stepped}
 use Rattle.plant_core.specs.declared.request.Request.{Request}
 use Rattle.plant_core.specs.declared.request.Request.TheVariants.{Told, Poll, Leave}
 use Rattle.plant_core.specs.declared.answer.Answer.{Answer}
@@ -40,6 +41,7 @@ use Rattle.plant_core.specs.Step.{step, dest_of, dest_count, dumped_at, told_at,
 use Rattle.plant_core.proofs.Validity.{device-within}
 use Rattle.plant_core.proofs.CountLemmas.{room_within, dest_count_within}
 use Rattle.plant_core.specs.Answer.{IsSayable, IsAnswerCount, room_of}
+use Rattle.plant_core.proofs.Outcomes.{by_made, by_taken}
 
 -- a source has a number in its level that can be spelled, and so has each destination's place
 number-IsSource : (plant : PlantData) (source : Option ℕ) → IsPlant plant → IsSource (option_and_then (source_number_of plant) source)
@@ -125,10 +127,7 @@ sayable-connected state panel at source change valid fits = of_change change
     of_change : (change : Option Change) → All IsSayable (connected state panel at source change).answers
     of_change None = tally
     of_change (Some change) =
-        elim (are_permitted state.owners (device_of state.plant panel) (change ∷ [])) as (λ b. All IsSayable (cond b (says (changed state panel change) (Connected at source)) (says state (Tally at (standing state at)))).answers) [
-          | true ↦ All-one (Say (Connected at source)) fits
-          | false ↦ tally
-        ]
+        by_made (λ (stepped : Stepped State Answer). All IsSayable stepped.answers) state panel at source change (λ may. All-one (Say (Connected at source)) fits) tally
 
 sayable-protected : (state : State) (panel : ℕ) (at : Point) (dest : Option ℕ) → IsValid state → IsPoint at → All IsSayable (protected state panel at dest).answers
 sayable-protected state panel at None valid is = All-one (Say (owner_told ProtectTally at None)) (InRange-owner at None is tt)
@@ -162,12 +161,9 @@ sayable-cleared state salvo [] few = All-one (Say (GoDone Empty salvo)) (tt, (fe
 sayable-cleared state salvo (entry ∷ entries) few = All-one (Say (GoDone Cleared salvo)) (tt, (few, tt))
 
 sayable-whole : (state : State) (panel salvo : ℕ) (group : Group) → salvo < salvos → All IsSayable (taken_whole state panel salvo group).answers
-sayable-whole state panel salvo [] few = All-one (Say (GoDone Empty salvo)) (tt, (few, tt))
-sayable-whole state panel salvo (entry ∷ entries) few =
-    elim (are_permitted state.owners (device_of state.plant panel) (entry ∷ entries)) as (λ b. All IsSayable (cond b (says (emptied (all_changed state (entry ∷ entries)) salvo) (GoDone Made salvo)) (says state (GoDone Protected salvo))).answers) [
-      | true ↦ All-one (Say (GoDone Made salvo)) (tt, (few, tt))
-      | false ↦ All-one (Say (GoDone Protected salvo)) (tt, (few, tt))
-    ]
+sayable-whole state panel salvo group few =
+    by_taken (λ (stepped : Stepped State Answer). All IsSayable stepped.answers) state panel salvo group
+    (λ may. All-one (Say (GoDone Made salvo)) (tt, (few, tt))) (λ status. All-one (Say (GoDone status salvo)) (tt, (few, tt)))
 
 sayable-entry : (plant : PlantData) (group : Group) (salvo index : ℕ) (entry : Option Change) → IsPlant plant → salvo < salvos → index < indexes → InRange (entry_told plant group salvo index entry)
 sayable-entry plant group salvo index None is few within =

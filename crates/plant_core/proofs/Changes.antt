@@ -1,64 +1,42 @@
 -- Which changes are permitted, and what they change.
-use Rattle.std.proofs.Common.{◌≡◌, ◌≢◌, ◌⊎◌, ℕ, ◌<◌, nat_eq, true, false, not, Bool, cond, List, [], ◌∷◌, ◌&&◌, ◌||◌, map, filter, length, get_or, All, Option, Some, None, IfSome, suc, inl, inr, refl, sym, ap, subst, ◌∙◌, arith}
+use Rattle.std.proofs.Common.{◌≡◌, ◌≢◌, ◌⊎◌, ℕ, ◌<◌, nat_eq, true, false, not, Bool, cond, List, [], ◌∷◌, ◌&&◌, ◌||◌, map, filter, find, length, get_or, All, Option, Some, None, IfSome, suc, inl, inr, refl, sym, ap, subst, ◌∙◌, arith}
 use Rattle.std.specs.Prelude.{◌==◌}
 use Rattle.std.specs.List.{list_any, list_all, Any}
 use Rattle.std.specs.Option.{option_map, option_map_or, option_eq}
-use Rattle.std.specs.Ordering.{nat_cmp, eq_by_cmp}
-use Rattle.std.specs.Cmp.{nat_cmp_total, unsigned_tied}
 use Rattle.std.specs.FinMap as finite
 use Rattle.std.proofs.lemmas.Bool.{cases_eq, eqb-true, eq-eqb, ne_eqb, both_ways, and_parts, or_parts}
 use Rattle.std.proofs.lemmas.List.{get_or_default}
 use Rattle.std.proofs.lemmas.List.Elements.{All-nil, All-cons, All-map, All-filter}
 use Rattle.std.proofs.lemmas.List.Folds.{list_all_at, list_any_at, Any-from_list_any}
 use Rattle.plant_config.specs.declared.records.Change.{Change}
-use Rattle.crosspoint_state.specs.Crosspoints.{Crosspoints, source_of, is_idle, released, given, all_given, applied, NamesOnce}
+use Rattle.plant_config.specs.Plant.{PlantData, destinations_of}
+use Rattle.crosspoint_state.specs.Crosspoints.{Crosspoints, source_of, is_idle, NamesOnce}
+use Rattle.crosspoint_state.specs.Applied.{released, all_given, applied}
+use Rattle.crosspoint_state.specs.Laws.{NoneNames, AreInside}
 use Rattle.crosspoint_state.specs.declared.spot.Spot.{Spot}
 use Rattle.std.proofs.lemmas.Map.Keys.{IsDistinct-cons}
-use Rattle.crosspoint_state.proofs.ChangeLists.{NamesOnce-nil}
+use Rattle.crosspoint_state.proofs.ChangeLists.{names, find-unnamed, NamesOnce-nil}
+use Rattle.crosspoint_state.proofs.AppliedLemmas.{gone, get-released, get-all_given, is_busy}
 use Rattle.crosspoint_state.proofs.LawLemmas.{ChangesAreMade-applied}
 use Rattle.protects.specs.Owners.{Owners, allows, IsForeign}
 use Rattle.plant_core.specs.Connects.{are_permitted}
 use Rattle.plant_core.specs.Salvos.{moved}
 use Rattle.plant_core.proofs.Noticed.{is_among}
 
-tied_other : (q dest : ℕ) → q ≢ dest → eq_by_cmp nat_cmp q dest ≡ false
-tied_other q dest other = unsigned_tied q dest ∙ ne_eqb q dest other
-
--- a destination that no change names carries what it carried
-module _ (q : ℕ) where
-  abbrev Apart : Change → Type 0
-  Apart change = change.dest ≢ q
-
-  released-other : (changes : List Change) (crosspoints : Crosspoints) → All Apart changes → finite.get (released crosspoints changes) q ≡ finite.get crosspoints q
-  released-other [] crosspoints apart = refl
-  released-other (change ∷ changes) crosspoints apart =
-      released-other changes (finite.remove crosspoints change.dest) (λ k d below. apart (suc k) d (omega arith))
-      ∙ finite.get-remove nat_cmp_total crosspoints change.dest q
-      ∙ ap (λ b. cond b None (finite.get crosspoints q)) (tied_other q change.dest (λ same. apart 0 change (omega arith) (sym same)))
-
-  given-other : (crosspoints : Crosspoints) (dest : ℕ) (source : Option ℕ) → dest ≢ q → finite.get (given crosspoints dest source) q ≡ finite.get crosspoints q
-  given-other crosspoints dest None apart = refl
-  given-other crosspoints dest (Some source) apart =
-      let spot : Spot = record { source = source; tie = None } in
-      finite.get-insert nat_cmp_total crosspoints dest spot q ∙ ap (λ b. cond b (Some spot) (finite.get crosspoints q)) (tied_other q dest (λ same. apart (sym same)))
-
-  all_given-other : (changes : List Change) (crosspoints : Crosspoints) → All Apart changes → finite.get (all_given crosspoints changes) q ≡ finite.get crosspoints q
-  all_given-other [] crosspoints apart = refl
-  all_given-other (change ∷ changes) crosspoints apart =
-      all_given-other changes (given crosspoints change.dest change.source) (λ k d below. apart (suc k) d (omega arith))
-      ∙ given-other crosspoints change.dest change.source (apart 0 change (omega arith))
-
-  pub get-applied_other : (crosspoints : Crosspoints) (changes : List Change) → All Apart changes → finite.get (applied crosspoints changes) q ≡ finite.get crosspoints q
-  get-applied_other crosspoints changes apart =
-      let busy : List Change = filter (λ (change : Change). not (is_idle crosspoints change)) changes in
-      let apart_then : All Apart busy = All-filter _ Apart changes apart in
-      all_given-other busy (released crosspoints busy) apart_then ∙ released-other busy crosspoints apart_then
+-- a destination that no change names carries what it carried, however often others are named
+pub get-applied_other : (plant : PlantData) (crosspoints : Crosspoints) (changes : List Change) (dest : ℕ) → NoneNames changes dest → finite.get (applied plant crosspoints changes) dest ≡ finite.get crosspoints dest
+get-applied_other plant crosspoints changes dest apart =
+    let busy : List Change = filter (is_busy crosspoints) changes in
+    let none : find (names dest) busy ≡ None = find-unnamed dest busy (All-filter (is_busy crosspoints) (λ (change : Change). change.dest ≢ dest) changes apart) in
+    get-all_given plant (released crosspoints busy) busy dest none
+    ∙ get-released crosspoints busy dest
+    ∙ ap (gone (finite.get crosspoints dest)) none
 
 -- each destination that a change names carries its source
-pub source_of-applied : (crosspoints : Crosspoints) (changes : List Change) → NamesOnce changes → All (λ change. source_of (applied crosspoints changes) change.dest ≡ change.source) changes
-source_of-applied crosspoints changes once k d below =
+pub source_of-applied : (plant : PlantData) (crosspoints : Crosspoints) (changes : List Change) → NamesOnce changes → All (λ change. source_of (applied plant crosspoints changes) change.dest ≡ change.source) changes
+source_of-applied plant crosspoints changes once k d below =
     let change : Change = get_or changes k d in
-    ChangesAreMade-applied crosspoints changes once change (k, below, get_or_default changes k change d below)
+    ChangesAreMade-applied plant crosspoints changes once change (k, below, get_or_default changes k change d below)
 
 pub same_source : (a b : Option ℕ) → option_eq nat_eq a b ≡ true → a ≡ b
 same_source None None h = refl
@@ -135,20 +113,24 @@ kept-permitted changes owners device kept =
     (ap (λ (c : Change). allows owners device c.dest) kept.3 ∙ kept-allows owners device change.dest foreign.owner foreign.owns foreign.other)
 
 -- an idle change does nothing
-pub applied-idle : (crosspoints : Crosspoints) (change : Change) → is_idle crosspoints change ≡ true → applied crosspoints (change ∷ []) ≡ crosspoints
-applied-idle crosspoints change idle =
-    ap (λ b. all_given (released crosspoints (cond (not b) (change ∷ []) [])) (cond (not b) (change ∷ []) [])) idle
+pub applied-idle : (plant : PlantData) (crosspoints : Crosspoints) (change : Change) → is_idle crosspoints change ≡ true → applied plant crosspoints (change ∷ []) ≡ crosspoints
+applied-idle plant crosspoints change idle =
+    ap (λ b. all_given plant (released crosspoints (cond (not b) (change ∷ []) [])) (cond (not b) (change ∷ []) [])) idle
 
 -- a list of one names its destination once
 pub once-one : (change : Change) → NamesOnce (change ∷ [])
 once-one change = IsDistinct-cons nat_eq change.dest [] tt NamesOnce-nil
 
-pub source_of-one : (crosspoints : Crosspoints) (change : Change) → source_of (applied crosspoints (change ∷ [])) change.dest ≡ change.source
-source_of-one crosspoints change = source_of-applied crosspoints (change ∷ []) (once-one change) 0 change (omega arith)
+-- and is inside the plant where its destination is
+pub inside-one : (plant : PlantData) (change : Change) → change.dest < destinations_of plant → AreInside plant (change ∷ [])
+inside-one plant change within = All-cons (λ (c : Change). c.dest < destinations_of plant) change [] within (All-nil (λ (c : Change). c.dest < destinations_of plant))
 
-pub get-one_other : (crosspoints : Crosspoints) (change : Change) (dest : ℕ) → dest ≢ change.dest → finite.get (applied crosspoints (change ∷ [])) dest ≡ finite.get crosspoints dest
-get-one_other crosspoints change dest other =
-    get-applied_other dest crosspoints (change ∷ []) (All-cons (λ (c : Change). c.dest ≢ dest) change [] (λ same. other (sym same)) (All-nil (λ (c : Change). c.dest ≢ dest)))
+pub source_of-one : (plant : PlantData) (crosspoints : Crosspoints) (change : Change) → source_of (applied plant crosspoints (change ∷ [])) change.dest ≡ change.source
+source_of-one plant crosspoints change = source_of-applied plant crosspoints (change ∷ []) (once-one change) 0 change (omega arith)
+
+pub get-one_other : (plant : PlantData) (crosspoints : Crosspoints) (change : Change) (dest : ℕ) → dest ≢ change.dest → finite.get (applied plant crosspoints (change ∷ [])) dest ≡ finite.get crosspoints dest
+get-one_other plant crosspoints change dest other =
+    get-applied_other plant crosspoints (change ∷ []) dest (All-cons (λ (c : Change). c.dest ≢ dest) change [] (λ same. other (sym same)) (All-nil (λ (c : Change). c.dest ≢ dest)))
 
 -- what stands is what a change gives, where the change is idle, and only there
 pub idle-source : (crosspoints : Crosspoints) (change : Change) → is_idle crosspoints change ≡ true → source_of crosspoints change.dest ≡ change.source
@@ -197,33 +179,30 @@ some_busy (first ∷ rest) crosspoints d h = go (some_busy rest crosspoints d) (
     ]
 
 -- a destination that changes don't move carries the source of before, and each other one carries another
-pub not_moved : (crosspoints : Crosspoints) (changes : List Change) (d : ℕ) → NamesOnce changes → is_among (moved crosspoints changes) d ≡ false → source_of (applied crosspoints changes) d ≡ source_of crosspoints d
-not_moved crosspoints changes d once h = go (list_any (λ (change : Change). change.dest == d) changes) refl
+pub not_moved : (plant : PlantData) (crosspoints : Crosspoints) (changes : List Change) (d : ℕ) → NamesOnce changes → is_among (moved crosspoints changes) d ≡ false → source_of (applied plant crosspoints changes) d ≡ source_of crosspoints d
+not_moved plant crosspoints changes d once h = go (list_any (names d) changes) refl
   where
-    names : Change → Bool
-    names change = change.dest == d
-
-    go : (b : Bool) → list_any names changes ≡ b → source_of (applied crosspoints changes) d ≡ source_of crosspoints d
+    go : (b : Bool) → list_any (names d) changes ≡ b → source_of (applied plant crosspoints changes) d ≡ source_of crosspoints d
     go false none =
-        ap (option_map (λ (spot : Spot). spot.source)) (get-applied_other d crosspoints changes (λ k c below same. both_ways (list_any names changes) none (list_any_at names changes k c below (eq-eqb _ _ same))))
+        ap (option_map (λ (spot : Spot). spot.source)) (get-applied_other plant crosspoints changes d (λ k c below same. both_ways (list_any (names d) changes) none (list_any_at (names d) changes k c below (eq-eqb _ _ same))))
     go true some =
-        let found = Any-from_list_any names changes some in
+        let found = Any-from_list_any (names d) changes some in
         let change : Change = found.1 in
         let here : change.dest ≡ d = eqb-true change.dest d found.4 in
         let idle : is_idle crosspoints change ≡ true =
         subst (λ (c : Change). c.dest ≡ d → is_idle crosspoints c ≡ true) found.3 (all_idle changes crosspoints d h found.0 change found.2) here in
-        let carries : source_of (applied crosspoints changes) change.dest ≡ change.source =
-        subst (λ (c : Change). source_of (applied crosspoints changes) c.dest ≡ c.source) found.3 (source_of-applied crosspoints changes once found.0 change found.2) in
-        subst (λ dest. source_of (applied crosspoints changes) dest ≡ source_of crosspoints dest) here (carries ∙ sym (idle-source crosspoints change idle))
+        let carries : source_of (applied plant crosspoints changes) change.dest ≡ change.source =
+        subst (λ (c : Change). source_of (applied plant crosspoints changes) c.dest ≡ c.source) found.3 (source_of-applied plant crosspoints changes once found.0 change found.2) in
+        subst (λ dest. source_of (applied plant crosspoints changes) dest ≡ source_of crosspoints dest) here (carries ∙ sym (idle-source crosspoints change idle))
 
-pub is_moved : (crosspoints : Crosspoints) (changes : List Change) (d : ℕ) → NamesOnce changes → is_among (moved crosspoints changes) d ≡ true → source_of (applied crosspoints changes) d ≢ source_of crosspoints d
-is_moved crosspoints changes d once h same =
+pub is_moved : (plant : PlantData) (crosspoints : Crosspoints) (changes : List Change) (d : ℕ) → NamesOnce changes → is_among (moved crosspoints changes) d ≡ true → source_of (applied plant crosspoints changes) d ≢ source_of crosspoints d
+is_moved plant crosspoints changes d once h same =
     let found = some_busy changes crosspoints d h in
     let change : Change = found.1 in
-    let carries : source_of (applied crosspoints changes) change.dest ≡ change.source =
-    subst (λ (c : Change). source_of (applied crosspoints changes) c.dest ≡ c.source) found.3 (source_of-applied crosspoints changes once found.0 change found.2) in
-    let alike : source_of (applied crosspoints changes) change.dest ≡ source_of crosspoints change.dest =
-    subst (λ dest. source_of (applied crosspoints changes) dest ≡ source_of crosspoints dest) (sym found.4.0) same in
+    let carries : source_of (applied plant crosspoints changes) change.dest ≡ change.source =
+    subst (λ (c : Change). source_of (applied plant crosspoints changes) c.dest ≡ c.source) found.3 (source_of-applied plant crosspoints changes once found.0 change found.2) in
+    let alike : source_of (applied plant crosspoints changes) change.dest ≡ source_of crosspoints change.dest =
+    subst (λ dest. source_of (applied plant crosspoints changes) dest ≡ source_of crosspoints dest) (sym found.4.0) same in
     both_ways (is_idle crosspoints change) found.4.1 (source-idle crosspoints change (sym alike ∙ carries))
 
 -- moved destinations are those of changes

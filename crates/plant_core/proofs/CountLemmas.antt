@@ -28,6 +28,7 @@ use Rattle.change_boards.specs.declared.sort.Sort.{Sort}
 use Rattle.change_boards.specs.declared.sort.Sort.TheVariants.{Source, Protect}
 use Rattle.change_boards.specs.Board.{next}
 use Rattle.change_boards.specs.Notices.{board_of}
+use Rattle.history_lock.specs.Step.{Stepped}
 use Rattle.plant_core.specs.declared.request.Request.{Request}
 use Rattle.plant_core.specs.declared.request.Request.TheVariants.{Told, Poll, Leave}
 use Rattle.plant_core.specs.declared.answer.Answer.{Answer}
@@ -39,6 +40,7 @@ use Rattle.plant_core.specs.Salvos.{stored_in, emptied, all_changed, taken_whole
 use Rattle.plant_core.specs.Step.{step, dest_of, dest_count, dumped_at, told_at, told_owner, notice_of}
 use Rattle.plant_core.proofs.Validity.{device-within}
 use Rattle.plant_core.specs.Answer.{IsSayable, IsAnswerCount, room_of}
+use Rattle.plant_core.proofs.Outcomes.{by_made, by_taken}
 
 -- no level has more destinations
 pub room_within : (plant : PlantData) → IsPlant plant → room_of plant ≤ 1024
@@ -75,7 +77,7 @@ dest_count_within plant matrix level = go plant.levels 64
 connected-one : (state : State) (panel : ℕ) (at : Point) (source : Option ℕ) (change : Option Change) → length (connected state panel at source change).answers ≡ 1
 connected-one state panel at source None = refl
 connected-one state panel at source (Some change) =
-    elim (are_permitted state.owners (device_of state.plant panel) (change ∷ [])) as (λ b. length (cond b (says (changed state panel change) (Connected at source)) (says state (Tally at (standing state at)))).answers ≡ 1) [ true ↦ refl | false ↦ refl ]
+    by_made (λ (stepped : Stepped State Answer). length stepped.answers ≡ 1) state panel at source change (λ may. refl) refl
 
 protected-one : (state : State) (panel : ℕ) (at : Point) (dest : Option ℕ) → length (protected state panel at dest).answers ≡ 1
 protected-one state panel at None = refl
@@ -100,9 +102,8 @@ cleared-one state salvo [] = refl
 cleared-one state salvo (entry ∷ entries) = refl
 
 whole-one : (state : State) (panel salvo : ℕ) (group : Group) → length (taken_whole state panel salvo group).answers ≡ 1
-whole-one state panel salvo [] = refl
-whole-one state panel salvo (entry ∷ entries) =
-    elim (are_permitted state.owners (device_of state.plant panel) (entry ∷ entries)) as (λ b. length (cond b (says (emptied (all_changed state (entry ∷ entries)) salvo) (GoDone Made salvo)) (says state (GoDone Protected salvo))).answers ≡ 1) [ true ↦ refl | false ↦ refl ]
+whole-one state panel salvo group =
+    by_taken (λ (stepped : Stepped State Answer). length stepped.answers ≡ 1) state panel salvo group (λ may. refl) (λ status. refl)
 
 few-notices : (state : State) (notice : Option (ℕ × Sort)) → length (notice_of state notice) ≤ 1
 few-notices state None = omega arith

@@ -1,6 +1,7 @@
 pub mod Noticed
 pub mod Validity
 pub mod Changes
+pub mod Outcomes
 pub mod StepValidity
 pub mod Steps
 pub mod StepLeaves

@@ -8,7 +8,8 @@ use Rattle.swp08_messages.specs.declared.message.Message.{Message}
 use Rattle.swp08_messages.specs.declared.message.Message.TheVariants.{Interrogate, Connect, Tally, Connected, ProtectAsk, ProtectConnect, ProtectDisconnect, ProtectTally, ProtectConnected, ProtectDisconnected, DumpAsk, Store, Stored, Go, GoDone, EntryAsk}
 use Rattle.swp08_messages.specs.declared.go_status.GoStatus.TheVariants.{Made, Protected}
 use Rattle.plant_config.specs.declared.records.Change.{Change}
-use Rattle.crosspoint_state.specs.Crosspoints.{Crosspoints, source_of, is_idle, applied}
+use Rattle.crosspoint_state.specs.Crosspoints.{Crosspoints, source_of, is_idle}
+use Rattle.crosspoint_state.specs.Applied.{applied}
 use Rattle.crosspoint_state.specs.declared.spot.Spot.{Spot}
 use Rattle.protects.specs.Owners.{Owners, allows, may_lift, taken, lifted}
 use Rattle.salvo_groups.specs.Groups.{Group, group_of, may_store, with_store}
@@ -26,6 +27,7 @@ use Rattle.plant_core.specs.Protecting.{owner_told, has_same_owner, with_owners,
 use Rattle.plant_core.specs.Salvos.{stored_in, emptied, moved, all_changed, taken_whole, cleared, gone}
 use Rattle.plant_core.specs.Step.{step, dest_of}
 use Rattle.plant_core.specs.NoticeLaws.{IsHeard, IsOfOne, SourceChanged, OwnerChanged, AreHeardByAll}
+use Rattle.plant_core.proofs.Outcomes.{by_made, by_taken}
 use Rattle.plant_core.proofs.Changes.{same_source, source_same, applied-idle, source_of-one, get-one_other, source-idle, not_moved, is_moved}
 use Rattle.plant_core.proofs.Noticed.{is_among, others-IsHeard, marked_heard, marked_gone, marked_others, marked_stays_left}
 use Rattle.plant_core.proofs.OwnerLemmas.{taken_other, lifted_other}
@@ -43,20 +45,17 @@ no_owner old new dest same changed = changed (ap (λ (o : Owners). finite.get o 
 connect-heard : (state : State) (panel dest : ℕ) (at : Point) (source : Option ℕ) (change : Option Change) → SourceChanged state (connected state panel at source change).state dest →
     IsHeard state.boards (connected state panel at source change).state.boards panel dest Source
 connect-heard state panel dest at source None moves = absurd (moves refl)
-connect-heard state panel dest at source (Some change) moves = by_permitted (are_permitted state.owners (device_of state.plant panel) (change ∷ [])) moves
+connect-heard state panel dest at source (Some change) moves =
+    by_made (λ (stepped : Stepped State Answer). SourceChanged state stepped.state dest → IsHeard state.boards stepped.state.boards panel dest Source) state panel at source change
+    (λ may. by_idle (is_idle state.crosspoints change) refl) (λ moves. absurd (moves refl)) moves
   where
-    by_idle : (b : Bool) → is_idle state.crosspoints change ≡ b → source_of (applied state.crosspoints (change ∷ [])) dest ≢ source_of state.crosspoints dest →
+    by_idle : (b : Bool) → is_idle state.crosspoints change ≡ b → source_of (applied state.plant state.crosspoints (change ∷ [])) dest ≢ source_of state.crosspoints dest →
         IsHeard state.boards (cond b state.boards (marked_for_others state.boards panel change.dest Source)) panel dest Source
-    by_idle true idle moves = absurd (moves (ap (λ (x : Crosspoints). source_of x dest) (applied-idle state.crosspoints change idle)))
+    by_idle true idle moves = absurd (moves (ap (λ (x : Crosspoints). source_of x dest) (applied-idle state.plant state.crosspoints change idle)))
     by_idle false busy moves = elim (cases_eq dest change.dest) [
       | inl same ↦ subst (λ d. IsHeard state.boards (marked_for_others state.boards panel change.dest Source) panel d Source) (sym same) (others-IsHeard state.boards panel change.dest Source)
-      | inr other ↦ absurd (moves (ap (option_map (λ (spot : Spot). spot.source)) (get-one_other state.crosspoints change dest other)))
+      | inr other ↦ absurd (moves (ap (option_map (λ (spot : Spot). spot.source)) (get-one_other state.plant state.crosspoints change dest other)))
     ]
-
-    by_permitted : (b : Bool) → SourceChanged state (cond b (says (changed state panel change) (Connected at source)) (says state (Tally at (standing state at)))).state dest →
-        IsHeard state.boards (cond b (says (changed state panel change) (Connected at source)) (says state (Tally at (standing state at)))).state.boards panel dest Source
-    by_permitted true moves = by_idle (is_idle state.crosspoints change) refl moves
-    by_permitted false moves = absurd (moves refl)
 
 pub source-heard : (state : State) (panel item dest : ℕ) (message : Message) → IsValid state → IsOfOne message → SourceChanged state (step state (Told panel item message)).state dest →
     IsHeard state.boards (step state (Told panel item message)).state.boards panel dest Source
@@ -124,22 +123,19 @@ heard-whole state salvo valid =
       heard = λ panel dest within left moves. marked_heard dests state.boards panel dest (among dest moves (is_among dests dest) refl) within left;
       gone = λ panel left. marked_gone dests state.boards panel left;
       others = λ panel dest sort none.
-          marked_others dests state.boards panel dest sort (λ of. false_from_ne_true (is_among dests dest) (λ yes. none of (is_moved state.crosspoints group dest once yes)));
+          marked_others dests state.boards panel dest sort (λ of. false_from_ne_true (is_among dests dest) (λ yes. none of (is_moved state.plant state.crosspoints group dest once yes)));
       left = λ panel. marked_stays_left dests state.boards panel;
     }
   where
-    among : (dest : ℕ) → source_of (applied state.crosspoints (group_of state.groups salvo)) dest ≢ source_of state.crosspoints dest → (b : Bool) → is_among (moved state.crosspoints (group_of state.groups salvo)) dest ≡ b →
+    among : (dest : ℕ) → source_of (applied state.plant state.crosspoints (group_of state.groups salvo)) dest ≢ source_of state.crosspoints dest → (b : Bool) → is_among (moved state.crosspoints (group_of state.groups salvo)) dest ≡ b →
         is_among (moved state.crosspoints (group_of state.groups salvo)) dest ≡ true
     among dest moves true is = is
-    among dest moves false is = absurd (moves (not_moved state.crosspoints (group_of state.groups salvo) dest (valid.groups.each salvo).distinct is))
+    among dest moves false is = absurd (moves (not_moved state.plant state.crosspoints (group_of state.groups salvo) dest (valid.groups.each salvo).distinct is))
 
 whole-heard : (state : State) (panel salvo : ℕ) (group : Group) → group_of state.groups salvo ≡ group → IsValid state → AreHeardByAll state (taken_whole state panel salvo group).state
-whole-heard state panel salvo [] h valid = unheard state state refl refl
-whole-heard state panel salvo (entry ∷ entries) h valid =
-    elim (are_permitted state.owners (device_of state.plant panel) (entry ∷ entries)) as (λ b. AreHeardByAll state (cond b (says (emptied (all_changed state (entry ∷ entries)) salvo) (GoDone Made salvo)) (says state (GoDone Protected salvo))).state) [
-      | true ↦ subst (λ (g : Group). AreHeardByAll state (emptied (all_changed state g) salvo)) h (heard-whole state salvo valid)
-      | false ↦ unheard state state refl refl
-    ]
+whole-heard state panel salvo group h valid =
+    by_taken (λ (stepped : Stepped State Answer). AreHeardByAll state stepped.state) state panel salvo group
+    (λ may. subst (λ (g : Group). AreHeardByAll state (emptied (all_changed state g) salvo)) h (heard-whole state salvo valid)) (λ status. unheard state state refl refl)
 
 pub go-heard : (state : State) (panel item salvo : ℕ) (clear : Bool) → IsValid state → AreHeardByAll state (step state (Told panel item (Go clear salvo))).state
 go-heard state panel item salvo true valid = of_group (group_of state.groups salvo)

@@ -19,6 +19,7 @@ use Rattle.change_boards.specs.Notices.{board_of, has_left, with_leave}
 use Rattle.change_boards.specs.Laws.{Leaves, TakesInOrder, notices_below}
 use Rattle.change_boards.proofs.OneNotice.{board_same, board_other, same_left}
 use Rattle.change_boards.proofs.InOrder.{takes_in_order}
+use Rattle.history_lock.specs.Step.{Stepped}
 use Rattle.plant_core.specs.declared.request.Request.{Request}
 use Rattle.plant_core.specs.declared.request.Request.TheVariants.{Told, Poll, Leave}
 use Rattle.plant_core.specs.declared.answer.Answer.{Answer}
@@ -30,6 +31,7 @@ use Rattle.plant_core.specs.Salvos.{stored_in, emptied, moved, all_changed, take
 use Rattle.plant_core.specs.Step.{step, dest_of, notice_of}
 use Rattle.plant_core.specs.Laws.{after}
 use Rattle.plant_core.specs.NoticeLaws.{answers_of, notices_of, polls_of}
+use Rattle.plant_core.proofs.Outcomes.{by_made, by_taken}
 use Rattle.plant_core.proofs.Noticed.{others-IsHeard, marked_stays_left}
 use Rattle.plant_core.proofs.QuietLemmas.{store-quiet, clear-quiet}
 use Rattle.plant_core.proofs.StepValidity.{IsValid-step}
@@ -107,14 +109,12 @@ module _ (state : State) (panel : ℕ) (left : has_left state.boards panel ≡ t
   connect_left : (p : ℕ) (at : Point) (source : Option ℕ) (change : Option Change) → has_left (connected state p at source change).state.boards panel ≡ true
   connect_left p at source None = left
   connect_left p at source (Some change) =
-      elim (are_permitted state.owners (device_of state.plant p) (change ∷ [])) as (λ b. has_left (cond b (says (changed state p change) (Connected at source)) (says state (Tally at (standing state at)))).state.boards panel ≡ true) [
-        | true ↦
-            elim (is_idle state.crosspoints change) as (λ b. has_left (cond b state.boards (marked_for_others state.boards p change.dest Source)) panel ≡ true) [
-              | true ↦ left
-              | false ↦ (others-IsHeard state.boards p change.dest Source).left panel ∙ left
-            ]
-        | false ↦ left
-      ]
+      by_made (λ (stepped : Stepped State Answer). has_left stepped.state.boards panel ≡ true) state p at source change
+      (λ may.
+      elim (is_idle state.crosspoints change) as (λ b. has_left (cond b state.boards (marked_for_others state.boards p change.dest Source)) panel ≡ true) [
+        | true ↦ left
+        | false ↦ (others-IsHeard state.boards p change.dest Source).left panel ∙ left
+      ]) left
 
   owners_left : (p d : ℕ) (b : Bool) → has_left (cond b state.boards (marked_for_others state.boards p d Protect)) panel ≡ true
   owners_left p d true = left
@@ -140,12 +140,9 @@ module _ (state : State) (panel : ℕ) (left : has_left state.boards panel ≡ t
       ]
 
   whole_left : (p salvo : ℕ) (group : Group) → has_left (taken_whole state p salvo group).state.boards panel ≡ true
-  whole_left p salvo [] = left
-  whole_left p salvo (entry ∷ entries) =
-      elim (are_permitted state.owners (device_of state.plant p) (entry ∷ entries)) as (λ b. has_left (cond b (says (emptied (all_changed state (entry ∷ entries)) salvo) (GoDone Made salvo)) (says state (GoDone Protected salvo))).state.boards panel ≡ true) [
-        | true ↦ marked_stays_left (moved state.crosspoints (entry ∷ entries)) state.boards panel ∙ left
-        | false ↦ left
-      ]
+  whole_left p salvo group =
+      by_taken (λ (stepped : Stepped State Answer). has_left stepped.state.boards panel ≡ true) state p salvo group
+      (λ may. marked_stays_left (moved state.crosspoints group) state.boards panel ∙ left) (λ status. left)
 
   told_left : (p item : ℕ) (message : Message) → has_left (step state (Told p item message)).state.boards panel ≡ true
   told_left p item (Interrogate at) = left

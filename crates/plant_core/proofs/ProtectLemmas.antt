@@ -13,14 +13,17 @@ use Rattle.plant_config.specs.Sites.{dest_at}
 use Rattle.plant_config.specs.declared.records.Change.{Change}
 use Rattle.protects.specs.Owners.{Owners, allows, may_lift, taken, lifted}
 use Rattle.salvo_groups.specs.Groups.{Group, group_of, may_store, with_store}
+use Rattle.history_lock.specs.Step.{Stepped}
 use Rattle.plant_core.specs.declared.request.Request.{Request}
 use Rattle.plant_core.specs.declared.request.Request.TheVariants.{Told, Poll, Leave}
+use Rattle.plant_core.specs.declared.answer.Answer.{Answer}
 use Rattle.plant_core.specs.State.{State, standing, owner_at, device_of, is_master, start}
 use Rattle.plant_core.specs.Connects.{says, says_nothing, change_of, are_permitted, changed, connected}
 use Rattle.plant_core.specs.Protecting.{owner_told, with_owners, protected, unprotected}
 use Rattle.plant_core.specs.Salvos.{stored_in, emptied, all_changed, taken_whole, cleared, gone}
 use Rattle.plant_core.specs.Step.{step, dest_of}
 use Rattle.plant_core.specs.ProtectLaws.{HasOwner, panel_of}
+use Rattle.plant_core.proofs.Outcomes.{by_made, by_taken, made-permitted}
 use Rattle.plant_core.proofs.Changes.{kept-allows, permitted-apart, get-one_other, get-applied_other}
 use Rattle.plant_core.proofs.OwnerLemmas.{has-owner, taken_other, lifted_other}
 use Rattle.plant_core.proofs.StepLeaves.{protected-leaves, unprotected-leaves, stored-leaves, cleared-leaves}
@@ -29,22 +32,15 @@ use Rattle.plant_core.proofs.StepLeaves.{protected-leaves, unprotected-leaves, s
 module _ (state : State) (panel dest device : ℕ) (owned : finite.get state.owners dest ≡ Some device) (other : device ≢ device_of state.plant panel) where
   source-connect : (at : Point) (source : Option ℕ) (change : Option Change) → finite.get (connected state panel at source change).state.crosspoints dest ≡ finite.get state.crosspoints dest
   source-connect at source None = refl
-  source-connect at source (Some change) = go (are_permitted state.owners (device_of state.plant panel) (change ∷ [])) refl
-    where
-      go : (b : Bool) → are_permitted state.owners (device_of state.plant panel) (change ∷ []) ≡ b →
-          finite.get (cond b (says (changed state panel change) (Connected at source)) (says state (Tally at (standing state at)))).state.crosspoints dest ≡ finite.get state.crosspoints dest
-      go true permitted =
-          get-one_other state.crosspoints change dest (λ same. permitted-apart (change ∷ []) state.owners (device_of state.plant panel) dest device owned other permitted 0 change (omega arith) (sym same))
-      go false kept = refl
+  source-connect at source (Some change) =
+      by_made (λ (stepped : Stepped State Answer). finite.get stepped.state.crosspoints dest ≡ finite.get state.crosspoints dest) state panel at source change
+      (λ may.
+      get-one_other state.plant state.crosspoints change dest (λ same. permitted-apart (change ∷ []) state.owners (device_of state.plant panel) dest device owned other (made-permitted state panel change may) 0 change (omega arith) (sym same))) refl
 
   source-whole : (salvo : ℕ) (group : Group) → finite.get (taken_whole state panel salvo group).state.crosspoints dest ≡ finite.get state.crosspoints dest
-  source-whole salvo [] = refl
-  source-whole salvo (entry ∷ entries) = go (are_permitted state.owners (device_of state.plant panel) (entry ∷ entries)) refl
-    where
-      go : (b : Bool) → are_permitted state.owners (device_of state.plant panel) (entry ∷ entries) ≡ b →
-          finite.get (cond b (says (emptied (all_changed state (entry ∷ entries)) salvo) (GoDone Made salvo)) (says state (GoDone Protected salvo))).state.crosspoints dest ≡ finite.get state.crosspoints dest
-      go true permitted = get-applied_other dest state.crosspoints (entry ∷ entries) (permitted-apart (entry ∷ entries) state.owners (device_of state.plant panel) dest device owned other permitted)
-      go false kept = refl
+  source-whole salvo group =
+      by_taken (λ (stepped : Stepped State Answer). finite.get stepped.state.crosspoints dest ≡ finite.get state.crosspoints dest) state panel salvo group
+      (λ may. get-applied_other state.plant state.crosspoints group dest (permitted-apart group state.owners (device_of state.plant panel) dest device owned other may.permitted)) (λ status. refl)
 
   source-told : (item : ℕ) (message : Message) → finite.get (step state (Told panel item message)).state.crosspoints dest ≡ finite.get state.crosspoints dest
   source-told item (Interrogate at) = refl
@@ -91,10 +87,7 @@ module _ (state : State) (panel dest device : ℕ) (owned : finite.get state.own
 pub connected-owners : (state : State) (panel : ℕ) (at : Point) (source : Option ℕ) (change : Option Change) → (connected state panel at source change).state.owners ≡ state.owners
 connected-owners state panel at source None = refl
 connected-owners state panel at source (Some change) =
-    elim (are_permitted state.owners (device_of state.plant panel) (change ∷ [])) as (λ b. (cond b (says (changed state panel change) (Connected at source)) (says state (Tally at (standing state at)))).state.owners ≡ state.owners) [
-      | true ↦ refl
-      | false ↦ refl
-    ]
+    by_made (λ (stepped : Stepped State Answer). stepped.state.owners ≡ state.owners) state panel at source change (λ may. refl) refl
 
 stored-owners : (state : State) (at : Point) (source : Option ℕ) (salvo : ℕ) (change : Option Change) → (stored_in state at source salvo change).state.owners ≡ state.owners
 stored-owners state at source salvo None = refl
@@ -110,15 +103,9 @@ gone-owners state panel true salvo group h = ap (λ (g : Group). (cleared state 
     of_group : (group : Group) → (cleared state salvo group).state.owners ≡ state.owners
     of_group [] = refl
     of_group (entry ∷ entries) = refl
-gone-owners state panel false salvo group h = ap (λ (g : Group). (taken_whole state panel salvo g).state.owners) h ∙ of_group group
-  where
-    of_group : (group : Group) → (taken_whole state panel salvo group).state.owners ≡ state.owners
-    of_group [] = refl
-    of_group (entry ∷ entries) =
-        elim (are_permitted state.owners (device_of state.plant panel) (entry ∷ entries)) as (λ b. (cond b (says (emptied (all_changed state (entry ∷ entries)) salvo) (GoDone Made salvo)) (says state (GoDone Protected salvo))).state.owners ≡ state.owners) [
-          | true ↦ refl
-          | false ↦ refl
-        ]
+gone-owners state panel false salvo group h =
+    ap (λ (g : Group). (taken_whole state panel salvo g).state.owners) h
+    ∙ by_taken (λ (stepped : Stepped State Answer). stepped.state.owners ≡ state.owners) state panel salvo group (λ may. refl) (λ status. refl)
 
 pub sources-stay : (state : State) (request : Request) (dest device : ℕ) → finite.get state.owners dest ≡ Some device → device ≢ device_of state.plant (panel_of request) →
     finite.get (step state request).state.crosspoints dest ≡ finite.get state.crosspoints dest

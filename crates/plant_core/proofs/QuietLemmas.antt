@@ -8,35 +8,36 @@ use Rattle.swp08_messages.specs.declared.message.Message.{Message}
 use Rattle.swp08_messages.specs.declared.message.Message.TheVariants.{Interrogate, Connect, Tally, Connected, ProtectAsk, ProtectConnect, ProtectDisconnect, ProtectTally, ProtectConnected, ProtectDisconnected, DumpAsk, Store, Stored, Go, GoDone, EntryAsk}
 use Rattle.swp08_messages.specs.declared.go_status.GoStatus.TheVariants.{Made, Protected}
 use Rattle.plant_config.specs.declared.records.Change.{Change}
-use Rattle.crosspoint_state.specs.Crosspoints.{Crosspoints, source_of, is_idle, applied, NamesOnce}
+use Rattle.crosspoint_state.specs.Crosspoints.{Crosspoints, source_of, is_idle, NamesOnce}
+use Rattle.crosspoint_state.specs.Applied.{applied}
 use Rattle.protects.specs.Owners.{Owners, allows, may_lift, taken, lifted}
 use Rattle.salvo_groups.specs.Groups.{Group, group_of, may_store, with_store}
 use Rattle.change_boards.specs.Board.{Board}
 use Rattle.change_boards.specs.declared.sort.Sort.TheVariants.{Source, Protect}
+use Rattle.history_lock.specs.Step.{Stepped}
 use Rattle.plant_core.specs.declared.request.Request.TheVariants.{Told}
+use Rattle.plant_core.specs.declared.answer.Answer.{Answer}
 use Rattle.plant_core.specs.State.{State, IsValid, standing, device_of, is_master}
 use Rattle.plant_core.specs.Noticed.{marked_for_others, all_marked}
 use Rattle.plant_core.specs.Connects.{says, says_nothing, change_of, are_permitted, changed, connected}
 use Rattle.plant_core.specs.Protecting.{owner_told, has_same_owner, with_owners, protected, unprotected}
 use Rattle.plant_core.specs.Salvos.{stored_in, emptied, moved, all_changed, taken_whole, cleared, gone}
 use Rattle.plant_core.specs.Step.{step, dest_of}
+use Rattle.plant_core.proofs.Outcomes.{by_made, by_taken}
 use Rattle.plant_core.proofs.Changes.{source_same, source_of-one, source-idle, is_moved}
 use Rattle.plant_core.proofs.Noticed.{is_among}
 
 connect-quiet : (state : State) (panel : ℕ) (at : Point) (source : Option ℕ) (change : Option Change) → (connected state panel at source change).state.crosspoints ≡ state.crosspoints →
     (connected state panel at source change).state.boards ≡ state.boards
 connect-quiet state panel at source None same = refl
-connect-quiet state panel at source (Some change) same = by_permitted (are_permitted state.owners (device_of state.plant panel) (change ∷ [])) same
+connect-quiet state panel at source (Some change) same =
+    by_made (λ (stepped : Stepped State Answer). stepped.state.crosspoints ≡ state.crosspoints → stepped.state.boards ≡ state.boards) state panel at source change
+    (λ may. by_idle (is_idle state.crosspoints change) refl) (λ same. refl) same
   where
-    by_idle : (b : Bool) → is_idle state.crosspoints change ≡ b → applied state.crosspoints (change ∷ []) ≡ state.crosspoints → cond b state.boards (marked_for_others state.boards panel change.dest Source) ≡ state.boards
+    by_idle : (b : Bool) → is_idle state.crosspoints change ≡ b → applied state.plant state.crosspoints (change ∷ []) ≡ state.crosspoints → cond b state.boards (marked_for_others state.boards panel change.dest Source) ≡ state.boards
     by_idle true idle same = refl
     by_idle false busy same =
-        absurd (both_ways (is_idle state.crosspoints change) busy (source-idle state.crosspoints change (sym (ap (λ (x : Crosspoints). source_of x change.dest) same) ∙ source_of-one state.crosspoints change)))
-
-    by_permitted : (b : Bool) → (cond b (says (changed state panel change) (Connected at source)) (says state (Tally at (standing state at)))).state.crosspoints ≡ state.crosspoints →
-        (cond b (says (changed state panel change) (Connected at source)) (says state (Tally at (standing state at)))).state.boards ≡ state.boards
-    by_permitted true same = by_idle (is_idle state.crosspoints change) refl same
-    by_permitted false same = refl
+        absurd (both_ways (is_idle state.crosspoints change) busy (source-idle state.crosspoints change (sym (ap (λ (x : Crosspoints). source_of x change.dest) same) ∙ source_of-one state.plant state.crosspoints change)))
 
 owners-quiet : (state : State) (panel dest : ℕ) (owners : Owners) → owners ≡ state.owners → (with_owners state panel dest owners).boards ≡ state.boards
 owners-quiet state panel dest owners same =
@@ -81,18 +82,13 @@ none_among (dest ∷ dests) none = absurd (none dest (ap (λ b. b || is_among de
 
 whole-quiet : (state : State) (panel salvo : ℕ) (group : Group) → group_of state.groups salvo ≡ group → IsValid state → (taken_whole state panel salvo group).state.crosspoints ≡ state.crosspoints →
     (taken_whole state panel salvo group).state.boards ≡ state.boards
-whole-quiet state panel salvo [] h valid same = refl
-whole-quiet state panel salvo (entry ∷ entries) h valid same = go (are_permitted state.owners (device_of state.plant panel) (entry ∷ entries)) same
+whole-quiet state panel salvo group h valid same =
+    by_taken (λ (stepped : Stepped State Answer). stepped.state.crosspoints ≡ state.crosspoints → stepped.state.boards ≡ state.boards) state panel salvo group (λ may. still) (λ status same. refl) same
   where
-    still : (group : Group) → group_of state.groups salvo ≡ group → applied state.crosspoints group ≡ state.crosspoints → all_marked state.boards (moved state.crosspoints group) ≡ state.boards
-    still group is same =
-        let once = subst (λ (g : Group). NamesOnce g) is (valid.groups.each salvo).distinct in
-        ap (all_marked state.boards) (none_among (moved state.crosspoints group) (λ d among. is_moved state.crosspoints group d once among (ap (λ (x : Crosspoints). source_of x d) same)))
-
-    go : (b : Bool) → (cond b (says (emptied (all_changed state (entry ∷ entries)) salvo) (GoDone Made salvo)) (says state (GoDone Protected salvo))).state.crosspoints ≡ state.crosspoints →
-        (cond b (says (emptied (all_changed state (entry ∷ entries)) salvo) (GoDone Made salvo)) (says state (GoDone Protected salvo))).state.boards ≡ state.boards
-    go true same = still (entry ∷ entries) h same
-    go false same = refl
+    still : applied state.plant state.crosspoints group ≡ state.crosspoints → all_marked state.boards (moved state.crosspoints group) ≡ state.boards
+    still same =
+        let once = subst (λ (g : Group). NamesOnce g) h (valid.groups.each salvo).distinct in
+        ap (all_marked state.boards) (none_among (moved state.crosspoints group) (λ d among. is_moved state.plant state.crosspoints group d once among (ap (λ (x : Crosspoints). source_of x d) same)))
 
 pub told-quiet : (state : State) (panel item : ℕ) (message : Message) → IsValid state → (step state (Told panel item message)).state.crosspoints ≡ state.crosspoints → (step state (Told panel item message)).state.owners ≡ state.owners →
     (step state (Told panel item message)).state.boards ≡ state.boards

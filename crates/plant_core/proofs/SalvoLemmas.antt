@@ -3,11 +3,11 @@ use Rattle.std.proofs.Common.{◌≡◌, ◌≢◌, ◌⊎◌, ℕ, ◌<◌, Boo
 use Rattle.std.specs.Prelude.{slice_get}
 use Rattle.std.specs.List.{Any}
 use Rattle.std.specs.Option.{option_map, option_and_then, unwrap_or}
-use Rattle.std.proofs.lemmas.Bool.{both_ways}
+use Rattle.std.proofs.lemmas.Bool.{false_from_ne_true}
 use Rattle.std.proofs.lemmas.List.{get_or-set_same, get_or-set_other}
 use Rattle.swp08_messages.specs.declared.point.Point.{Point}
 use Rattle.swp08_messages.specs.declared.message.Message.TheVariants.{Store, Stored, Go, GoDone, EntryAsk, Entry}
-use Rattle.swp08_messages.specs.declared.go_status.GoStatus.TheVariants.{Made, Cleared, Empty, Protected}
+use Rattle.swp08_messages.specs.declared.go_status.GoStatus.TheVariants.{Made, Cleared, Empty, Protected, NoTie}
 use Rattle.swp08_messages.specs.declared.validity.Validity.TheVariants.{NoEntry}
 use Rattle.plant_config.specs.Plant.{PlantData}
 use Rattle.plant_config.specs.IsPlant.{IsPlant}
@@ -15,6 +15,7 @@ use Rattle.plant_config.specs.Sites.{dest_at, point_of, source_number_of}
 use Rattle.plant_config.specs.declared.records.Point as places
 use Rattle.plant_config.specs.declared.records.Change.{Change}
 use Rattle.plant_config.proofs.SiteLemmas.{dest_at-point_of}
+use Rattle.crosspoint_state.specs.Applied.{are_enough}
 use Rattle.salvo_groups.specs.Limits.{salvo_limit}
 use Rattle.salvo_groups.specs.Groups.{Group, group_of, may_store, stored, with_store, with_clear}
 use Rattle.history_lock.specs.Step.{Stepped}
@@ -23,19 +24,27 @@ use Rattle.plant_core.specs.declared.answer.Answer.{Answer}
 use Rattle.plant_core.specs.declared.answer.Answer.TheVariants.{Say}
 use Rattle.plant_core.specs.State.{State, IsValid, device_of}
 use Rattle.plant_core.specs.Connects.{says, says_nothing, change_of, are_permitted}
-use Rattle.plant_core.specs.Salvos.{stored_in, emptied, all_changed, taken_whole, cleared, gone, message_place, no_place, told_place, validity_at, entry_told}
+use Rattle.plant_core.specs.Salvos.{stored_in, emptied, all_changed, taken_by_ties, taken_whole, cleared, gone, message_place, no_place, told_place, validity_at, entry_told}
 use Rattle.plant_core.specs.Step.{step}
-use Rattle.plant_core.specs.SalvoLaws.{IsTakenWhole, HasForeign, OtherGroupsStay, IsGone, IsCleared, IsStoredNow}
+use Rattle.plant_core.specs.SalvoLaws.{IsTakenWhole, HasForeign, HasTies, OtherGroupsStay, IsGone, IsCleared, IsStoredNow}
 use Rattle.plant_core.proofs.Validity.{change_of-is}
 use Rattle.plant_core.proofs.Changes.{source_of-applied, get-applied_other, not_permitted, kept-permitted}
+use Rattle.plant_core.proofs.Outcomes.{by_taken}
 use Rattle.plant_core.proofs.Steps.{wanted-number}
 
--- a group is taken where it has entries and is permitted
+-- a group that has entries is taken by its ties where it is permitted, and else not at all
 whole-by : (state : State) (panel salvo : ℕ) (group : Group) (b : Bool) → group ≢ [] → are_permitted state.owners (device_of state.plant panel) group ≡ b →
-    taken_whole state panel salvo group ≡ cond b (says (emptied (all_changed state group) salvo) (GoDone Made salvo)) (says state (GoDone Protected salvo))
+    taken_whole state panel salvo group ≡ cond b (taken_by_ties state salvo group) (says state (GoDone Protected salvo))
 whole-by state panel salvo [] b some permitted = absurd (some refl)
-whole-by state panel salvo (entry ∷ entries) b some permitted =
-    ap (λ b. cond b (says (emptied (all_changed state (entry ∷ entries)) salvo) (GoDone Made salvo)) (says state (GoDone Protected salvo))) permitted
+whole-by state panel salvo (entry ∷ entries) b some permitted = ap (λ b. cond b (taken_by_ties state salvo (entry ∷ entries)) (says state (GoDone Protected salvo))) permitted
+
+-- no entry of a group is kept from the device
+not_foreign : (state : State) (panel : ℕ) (group : Group) → ¬ HasForeign state (device_of state.plant panel) group → are_permitted state.owners (device_of state.plant panel) group ≡ true
+not_foreign state panel group free = go (are_permitted state.owners (device_of state.plant panel) group) refl
+  where
+    go : (b : Bool) → are_permitted state.owners (device_of state.plant panel) group ≡ b → are_permitted state.owners (device_of state.plant panel) group ≡ true
+    go true permitted = permitted
+    go false kept = absurd (free (not_permitted group state.owners (device_of state.plant panel) kept))
 
 cleared-by : (state : State) (salvo : ℕ) (group : Group) → group ≢ [] → cleared state salvo group ≡ says (emptied state salvo) (GoDone Cleared salvo)
 cleared-by state salvo [] some = absurd (some refl)
@@ -50,8 +59,8 @@ emptied-others state new salvo h other apart = ap (λ (groups : List Group). gro
 
 changed-whole : (state : State) (salvo : ℕ) → IsValid state → IsTakenWhole state (group_of state.groups salvo) (emptied (all_changed state (group_of state.groups salvo)) salvo)
 changed-whole state salvo valid = record {
-  carries = source_of-applied state.crosspoints (group_of state.groups salvo) (valid.groups.each salvo).distinct;
-  others = λ dest none. get-applied_other dest state.crosspoints (group_of state.groups salvo) none;
+  carries = source_of-applied state.plant state.crosspoints (group_of state.groups salvo) (valid.groups.each salvo).distinct;
+  others = get-applied_other state.plant state.crosspoints (group_of state.groups salvo);
 }
 
 pub go-whole : (state : State) (panel item salvo : ℕ) (clear : Bool) → IsValid state →
@@ -61,39 +70,30 @@ go-whole state panel item salvo true valid = inr (of_group (group_of state.group
     of_group : (group : Group) → (cleared state salvo group).state.crosspoints ≡ state.crosspoints
     of_group [] = refl
     of_group (entry ∷ entries) = refl
-go-whole state panel item salvo false valid = of_group (group_of state.groups salvo) refl
-  where
-    Whole : Stepped State Answer → Type 0
-    Whole stepped = IsTakenWhole state (group_of state.groups salvo) stepped.state ⊎ (stepped.state.crosspoints ≡ state.crosspoints)
-
-    by_permitted : (group : Group) → group_of state.groups salvo ≡ group → group ≢ [] → (b : Bool) → are_permitted state.owners (device_of state.plant panel) group ≡ b → Whole (taken_whole state panel salvo group)
-    by_permitted group h some true permitted =
-        subst Whole (sym (whole-by state panel salvo group true some permitted))
-        (inl (subst (λ (g : Group). IsTakenWhole state (group_of state.groups salvo) (emptied (all_changed state g) salvo)) h (changed-whole state salvo valid)))
-    by_permitted group h some false kept = subst Whole (sym (whole-by state panel salvo group false some kept)) (inr refl)
-
-    of_group : (group : Group) → group_of state.groups salvo ≡ group → Whole (taken_whole state panel salvo (group_of state.groups salvo))
-    of_group [] h = subst (λ (g : Group). Whole (taken_whole state panel salvo g)) (sym h) (inr refl)
-    of_group (entry ∷ entries) h =
-        subst (λ (g : Group). Whole (taken_whole state panel salvo g)) (sym h)
-        (by_permitted (entry ∷ entries) h (λ e. cc) (are_permitted state.owners (device_of state.plant panel) (entry ∷ entries)) refl)
+go-whole state panel item salvo false valid =
+    by_taken (λ (stepped : Stepped State Answer). IsTakenWhole state (group_of state.groups salvo) stepped.state ⊎ (stepped.state.crosspoints ≡ state.crosspoints))
+    state panel salvo (group_of state.groups salvo) (λ may. inl (changed-whole state salvo valid)) (λ status. inr refl)
 
 pub go-IsGone : (state : State) (panel item salvo : ℕ) → IsValid state → salvo < salvo_limit → group_of state.groups salvo ≢ [] → ¬ HasForeign state (device_of state.plant panel) (group_of state.groups salvo) →
-    IsGone state salvo (step state (Told panel item (Go false salvo)))
-go-IsGone state panel item salvo valid within some free = by_permitted (are_permitted state.owners (device_of state.plant panel) group) refl
-  where
-    group : Group
-    group = group_of state.groups salvo
-
-    by_permitted : (b : Bool) → are_permitted state.owners (device_of state.plant panel) group ≡ b → IsGone state salvo (taken_whole state panel salvo group)
-    by_permitted true permitted = subst (IsGone state salvo) (sym (whole-by state panel salvo group true some permitted)) (record {
+    HasTies state (group_of state.groups salvo) → IsGone state salvo (step state (Told panel item (Go false salvo)))
+go-IsGone state panel item salvo valid within some free enough =
+    let group : Group = group_of state.groups salvo in
+    let taken = whole-by state panel salvo group true some (not_foreign state panel group free)
+    ∙ ap (λ b. cond b (says (emptied (all_changed state group) salvo) (GoDone Made salvo)) (says state (GoDone NoTie salvo))) enough in
+    subst (IsGone state salvo) (sym taken) (record {
       answer = refl;
       whole = changed-whole state salvo valid;
       empty = emptied-empty state salvo valid within;
       groups = emptied-others state (emptied (all_changed state group) salvo) salvo refl;
       owners = refl;
     })
-    by_permitted false kept = absurd (free (not_permitted group state.owners (device_of state.plant panel) kept))
+
+pub go-tieless : (state : State) (panel item salvo : ℕ) → group_of state.groups salvo ≢ [] → ¬ HasForeign state (device_of state.plant panel) (group_of state.groups salvo) →
+    ¬ HasTies state (group_of state.groups salvo) → step state (Told panel item (Go false salvo)) ≡ record { state = state; answers = Say (GoDone NoTie salvo) ∷ [] }
+go-tieless state panel item salvo some free short =
+    let group : Group = group_of state.groups salvo in
+    whole-by state panel salvo group true some (not_foreign state panel group free)
+    ∙ ap (λ b. cond b (says (emptied (all_changed state group) salvo) (GoDone Made salvo)) (says state (GoDone NoTie salvo))) (false_from_ne_true (are_enough state.plant state.crosspoints group) short)
 
 pub go-kept : (state : State) (panel item salvo : ℕ) → HasForeign state (device_of state.plant panel) (group_of state.groups salvo) →
     step state (Told panel item (Go false salvo)) ≡ record { state = state; answers = Say (GoDone Protected salvo) ∷ [] }

@@ -4,8 +4,9 @@ use Rattle.std.specs.FinMap as finite
 use Rattle.swp08_messages.specs.declared.point.Point.{Point}
 use Rattle.swp08_messages.specs.declared.message.Message.{Message}
 use Rattle.swp08_messages.specs.declared.message.Message.TheVariants.{Interrogate, Connect, Tally, Connected, ProtectAsk, ProtectConnect, ProtectDisconnect, ProtectTally, ProtectConnected, ProtectDisconnected, DumpAsk, Store, Stored, Go, GoDone, EntryAsk}
-use Rattle.swp08_messages.specs.declared.go_status.GoStatus.TheVariants.{Made, Protected}
+use Rattle.swp08_messages.specs.declared.go_status.GoStatus.TheVariants.{Made, Protected, NoTie}
 use Rattle.plant_config.specs.declared.records.Change.{Change}
+use Rattle.crosspoint_state.specs.Applied.{are_enough}
 use Rattle.protects.specs.Owners.{allows, may_lift, taken, lifted}
 use Rattle.salvo_groups.specs.Groups.{Group, group_of, may_store, with_store}
 use Rattle.change_boards.specs.Board.{Board}
@@ -13,9 +14,9 @@ use Rattle.history_lock.specs.Step.{Stepped}
 use Rattle.plant_core.specs.declared.request.Request.TheVariants.{Told}
 use Rattle.plant_core.specs.declared.answer.Answer.{Answer}
 use Rattle.plant_core.specs.State.{State, standing, device_of, is_master}
-use Rattle.plant_core.specs.Connects.{says, says_nothing, change_of, are_permitted, changed, connected}
+use Rattle.plant_core.specs.Connects.{says, says_nothing, change_of, are_permitted, changed, may_make, connected}
 use Rattle.plant_core.specs.Protecting.{owner_told, with_owners, protected, unprotected}
-use Rattle.plant_core.specs.Salvos.{stored_in, emptied, all_changed, taken_whole, cleared, gone}
+use Rattle.plant_core.specs.Salvos.{stored_in, emptied, all_changed, taken_by_ties, taken_whole, cleared, gone}
 use Rattle.plant_core.specs.Step.{step, dest_of}
 
 -- two steps are answered, and change all but the notices, alike
@@ -32,7 +33,7 @@ module _ (state : State) (boards : List Board) where
   connect_alike : (panel : ℕ) (at : Point) (source : Option ℕ) (change : Option Change) → AreAlike (connected there panel at source change) (connected state panel at source change)
   connect_alike panel at source None = record { answers = refl; crosspoints = refl; owners = refl; groups = refl }
   connect_alike panel at source (Some change) =
-      elim (are_permitted state.owners (device_of state.plant panel) (change ∷ [])) as (λ b. AreAlike (cond b (says (changed there panel change) (Connected at source)) (says there (Tally at (standing there at)))) (cond b (says (changed state panel change) (Connected at source)) (says state (Tally at (standing state at))))) [
+      elim (may_make state panel change) as (λ b. AreAlike (cond b (says (changed there panel change) (Connected at source)) (says there (Tally at (standing there at)))) (cond b (says (changed state panel change) (Connected at source)) (says state (Tally at (standing state at))))) [
         | true ↦ record { answers = refl; crosspoints = refl; owners = refl; groups = refl }
         | false ↦ record { answers = refl; crosspoints = refl; owners = refl; groups = refl }
       ]
@@ -68,11 +69,18 @@ module _ (state : State) (boards : List Board) where
   clear_alike salvo [] = record { answers = refl; crosspoints = refl; owners = refl; groups = refl }
   clear_alike salvo (entry ∷ entries) = record { answers = refl; crosspoints = refl; owners = refl; groups = refl }
 
+  ties_alike : (salvo : ℕ) (group : Group) → AreAlike (taken_by_ties there salvo group) (taken_by_ties state salvo group)
+  ties_alike salvo group =
+      elim (are_enough state.plant state.crosspoints group) as (λ b. AreAlike (cond b (says (emptied (all_changed there group) salvo) (GoDone Made salvo)) (says there (GoDone NoTie salvo))) (cond b (says (emptied (all_changed state group) salvo) (GoDone Made salvo)) (says state (GoDone NoTie salvo)))) [
+        | true ↦ record { answers = refl; crosspoints = refl; owners = refl; groups = refl }
+        | false ↦ record { answers = refl; crosspoints = refl; owners = refl; groups = refl }
+      ]
+
   whole_alike : (panel salvo : ℕ) (group : Group) → AreAlike (taken_whole there panel salvo group) (taken_whole state panel salvo group)
   whole_alike panel salvo [] = record { answers = refl; crosspoints = refl; owners = refl; groups = refl }
   whole_alike panel salvo (entry ∷ entries) =
-      elim (are_permitted state.owners (device_of state.plant panel) (entry ∷ entries)) as (λ b. AreAlike (cond b (says (emptied (all_changed there (entry ∷ entries)) salvo) (GoDone Made salvo)) (says there (GoDone Protected salvo))) (cond b (says (emptied (all_changed state (entry ∷ entries)) salvo) (GoDone Made salvo)) (says state (GoDone Protected salvo)))) [
-        | true ↦ record { answers = refl; crosspoints = refl; owners = refl; groups = refl }
+      elim (are_permitted state.owners (device_of state.plant panel) (entry ∷ entries)) as (λ b. AreAlike (cond b (taken_by_ties there salvo (entry ∷ entries)) (says there (GoDone Protected salvo))) (cond b (taken_by_ties state salvo (entry ∷ entries)) (says state (GoDone Protected salvo)))) [
+        | true ↦ ties_alike salvo (entry ∷ entries)
         | false ↦ record { answers = refl; crosspoints = refl; owners = refl; groups = refl }
       ]
 

@@ -16,7 +16,7 @@ use Rattle.plant_config.specs.Plant.{PlantData, dest_numbers, destinations_of}
 use Rattle.plant_config.specs.IsPlant.{IsPlant}
 use Rattle.plant_config.specs.Sites.{Site, site_of, dest_at, point_of}
 use Rattle.plant_config.proofs.SiteLemmas.{dests_are, site_of-number_at, IsSome-site_of}
-use Rattle.crosspoint_state.specs.Crosspoints.{is_idle, applied}
+use Rattle.crosspoint_state.specs.Crosspoints.{is_idle}
 use Rattle.protects.specs.Owners.{allows, may_lift, taken, lifted}
 use Rattle.salvo_groups.specs.Groups.{Group, group_of, may_store, with_store}
 use Rattle.change_boards.specs.declared.sort.Sort.{Sort}
@@ -25,6 +25,7 @@ use Rattle.change_boards.specs.Board.{Board, IsEmpty, blank, abandoned, has_noti
 use Rattle.change_boards.specs.Notices.{board_of, has, with_take}
 use Rattle.change_boards.proofs.OneNotice.{board_other, next-IsNext, with_take-Takes}
 use Rattle.change_boards.proofs.NextLemmas.{next-None}
+use Rattle.history_lock.specs.Step.{Stepped}
 use Rattle.plant_core.specs.declared.request.Request.{Request}
 use Rattle.plant_core.specs.declared.request.Request.TheVariants.{Told, Poll, Leave}
 use Rattle.plant_core.specs.declared.answer.Answer.{Answer}
@@ -38,6 +39,7 @@ use Rattle.plant_core.specs.Laws.{after}
 use Rattle.plant_core.specs.NoticeLaws.{Tells, IsTold, PollTells, IsToldAmong, IsNoPollOrLeave}
 use Rattle.plant_core.proofs.Noticed.{past_none, others_keep, marked_keeps, same_notice}
 use Rattle.plant_core.proofs.TellLemmas.{poll-IsTold}
+use Rattle.plant_core.proofs.Outcomes.{by_made, by_taken}
 use Rattle.plant_core.proofs.StepValidity.{IsValid-step}
 use Rattle.plant_core.proofs.QuietLemmas.{store-quiet, clear-quiet}
 
@@ -46,14 +48,12 @@ module _ (state : State) (panel dest : ℕ) (sort : Sort) (stands : has state.bo
   connect_keeps : (p : ℕ) (at : Point) (source : Option ℕ) (change : Option Change) → has (connected state p at source change).state.boards panel dest sort ≡ true
   connect_keeps p at source None = stands
   connect_keeps p at source (Some change) =
-      elim (are_permitted state.owners (device_of state.plant p) (change ∷ [])) as (λ b. has (cond b (says (changed state p change) (Connected at source)) (says state (Tally at (standing state at)))).state.boards panel dest sort ≡ true) [
-        | true ↦
-            elim (is_idle state.crosspoints change) as (λ b. has (cond b state.boards (marked_for_others state.boards p change.dest Source)) panel dest sort ≡ true) [
-              | true ↦ stands
-              | false ↦ others_keep state.boards p change.dest Source panel dest sort stands
-            ]
-        | false ↦ stands
-      ]
+      by_made (λ (stepped : Stepped State Answer). has stepped.state.boards panel dest sort ≡ true) state p at source change
+      (λ may.
+      elim (is_idle state.crosspoints change) as (λ b. has (cond b state.boards (marked_for_others state.boards p change.dest Source)) panel dest sort ≡ true) [
+        | true ↦ stands
+        | false ↦ others_keep state.boards p change.dest Source panel dest sort stands
+      ]) stands
 
   owners_keep : (p d : ℕ) (b : Bool) → has (cond b state.boards (marked_for_others state.boards p d Protect)) panel dest sort ≡ true
   owners_keep p d true = stands
@@ -79,12 +79,9 @@ module _ (state : State) (panel dest : ℕ) (sort : Sort) (stands : has state.bo
       ]
 
   whole_keeps : (p salvo : ℕ) (group : Group) → has (taken_whole state p salvo group).state.boards panel dest sort ≡ true
-  whole_keeps p salvo [] = stands
-  whole_keeps p salvo (entry ∷ entries) =
-      elim (are_permitted state.owners (device_of state.plant p) (entry ∷ entries)) as (λ b. has (cond b (says (emptied (all_changed state (entry ∷ entries)) salvo) (GoDone Made salvo)) (says state (GoDone Protected salvo))).state.boards panel dest sort ≡ true) [
-        | true ↦ marked_keeps (moved state.crosspoints (entry ∷ entries)) state.boards panel dest sort stands
-        | false ↦ stands
-      ]
+  whole_keeps p salvo group =
+      by_taken (λ (stepped : Stepped State Answer). has stepped.state.boards panel dest sort ≡ true) state p salvo group
+      (λ may. marked_keeps (moved state.crosspoints group) state.boards panel dest sort stands) (λ status. stands)
 
   told_keeps : (p item : ℕ) (message : Message) → has (step state (Told p item message)).state.boards panel dest sort ≡ true
   told_keeps p item (Interrogate at) = stands

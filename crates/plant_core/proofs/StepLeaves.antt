@@ -14,7 +14,7 @@ use Rattle.plant_config.specs.Plant.{PlantData, destinations_of}
 use Rattle.plant_config.specs.IsPlant.{IsPlant}
 use Rattle.plant_config.specs.Sites.{dest_at, source_at, source_number_of}
 use Rattle.plant_config.proofs.SiteLemmas.{dest_at-point_of, source_at-source_number_of}
-use Rattle.crosspoint_state.specs.Crosspoints.{Crosspoints, source_of, is_idle, applied}
+use Rattle.crosspoint_state.specs.Crosspoints.{Crosspoints, source_of}
 use Rattle.crosspoint_state.specs.declared.spot.Spot.{Spot}
 use Rattle.protects.specs.Owners.{Owners, allows, may_lift, taken, lifted}
 use Rattle.salvo_groups.specs.Groups.{Group, group_of, may_store, with_store}
@@ -26,24 +26,21 @@ use Rattle.plant_core.specs.declared.answer.Answer.{Answer}
 use Rattle.plant_core.specs.declared.answer.Answer.TheVariants.{Say}
 use Rattle.plant_core.specs.State.{State, IsValid, IsChangeOf, AreOwners, standing, owner_at, device_of, is_master, start}
 use Rattle.plant_core.specs.Noticed.{marked_for_others}
-use Rattle.plant_core.specs.Connects.{says, says_nothing, wanted, change_of, are_permitted, changed, connected}
+use Rattle.plant_core.specs.Connects.{says, says_nothing, wanted, change_of, are_permitted, changed, may_make, connected}
 use Rattle.plant_core.specs.Protecting.{owner_told, has_same_owner, with_owners, protected, unprotected}
 use Rattle.plant_core.specs.Salvos.{stored_in, emptied, moved, all_changed, taken_whole, cleared, gone}
 use Rattle.plant_core.specs.Step.{step, dest_of}
 use Rattle.plant_core.specs.Laws.{AnswersWith, IsConnectable, IsFree, MayConnect, IsMade, IsNotMade, LeavesAlone, OnlyAsks, after}
 use Rattle.plant_core.proofs.StepValidity.{IsValid-step}
-use Rattle.plant_core.proofs.Steps.{connected-made, connected-kept, made, stands-answers, answers-stands}
+use Rattle.plant_core.proofs.Outcomes.{by_made, by_taken}
+use Rattle.plant_core.proofs.Steps.{made, stands-answers, answers-stands}
 use Rattle.plant_core.proofs.Validity.{IsValid-applied, IsValid-owners, IsValid-others, IsValid-marked, IsValid-take, IsValid-leave, IsValid-store, IsValid-clear, AreOwners-taken, AreOwners-lifted, device-within, change_of-is, change_of-IsChangeOf, found-below}
-use Rattle.plant_core.proofs.Changes.{allows-free, free-allows, permitted-one, source_of-one, get-one_other, moved-within}
 
 -- no step changes the plant
 connected-plant : (state : State) (panel : ℕ) (at : Point) (source : Option ℕ) (change : Option Change) → (connected state panel at source change).state.plant ≡ state.plant
 connected-plant state panel at source None = refl
 connected-plant state panel at source (Some change) =
-    elim (are_permitted state.owners (device_of state.plant panel) (change ∷ [])) as (λ b. (cond b (says (changed state panel change) (Connected at source)) (says state (Tally at (standing state at)))).state.plant ≡ state.plant) [
-      | true ↦ refl
-      | false ↦ refl
-    ]
+    by_made (λ (stepped : Stepped State Answer). stepped.state.plant ≡ state.plant) state panel at source change (λ may. refl) refl
 
 -- what protects, lifts, stores and clears leave of the plant and its crosspoints
 pub record LeavesSources (old new : State) : Type 0 where
@@ -85,12 +82,8 @@ cleared-leaves state salvo [] = leaves_all state
 cleared-leaves state salvo (entry ∷ entries) = record { plant = refl; crosspoints = refl }
 
 whole-plant : (state : State) (panel salvo : ℕ) (group : Group) → (taken_whole state panel salvo group).state.plant ≡ state.plant
-whole-plant state panel salvo [] = refl
-whole-plant state panel salvo (entry ∷ entries) =
-    elim (are_permitted state.owners (device_of state.plant panel) (entry ∷ entries)) as (λ b. (cond b (says (emptied (all_changed state (entry ∷ entries)) salvo) (GoDone Made salvo)) (says state (GoDone Protected salvo))).state.plant ≡ state.plant) [
-      | true ↦ refl
-      | false ↦ refl
-    ]
+whole-plant state panel salvo group =
+    by_taken (λ (stepped : Stepped State Answer). stepped.state.plant ≡ state.plant) state panel salvo group (λ may. refl) (λ status. refl)
 
 -- whatever is no connect and no go that takes a group leaves the sources
 pub message-leaves : (state : State) (panel item : ℕ) (message : Message) → ((at : Point) (source : Option ℕ) → message ≢ Connect at source) → ((salvo : ℕ) → message ≢ Go false salvo) →
@@ -130,17 +123,12 @@ left_alone old new place stands leaves answers = stands-answers new place stands
 -- what doesn't connect a place, and takes no group, leaves the source that stands there
 keeps-connect : (state : State) (panel item : ℕ) (place at : Point) (source stands : Option ℕ) → IsValid state → place ≢ at → AnswersWith state place stands → AnswersWith (step state (Told panel item (Connect at source))).state place stands
 keeps-connect state panel item place at source stands valid other answers =
-    elim (change_of state.plant at source) as (λ o. change_of state.plant at source ≡ o → AnswersWith (step state (Told panel item (Connect at source))).state place stands) [
-      | None ↦ λ h. subst (λ (stepped : Stepped State Answer). AnswersWith stepped.state place stands) (sym (ap (connected state panel at source) h)) answers
-      | Some change ↦ λ h. of_permitted change h (are_permitted state.owners (device_of state.plant panel) (change ∷ [])) refl
+    elim (change_of state.plant at source) as (λ o. change_of state.plant at source ≡ o → AnswersWith (connected state panel at source o).state place stands) [
+      | None ↦ λ h. answers
+      | Some change ↦ λ h.
+          by_made (λ (stepped : Stepped State Answer). AnswersWith stepped.state place stands) state panel at source change
+          (λ may. (made state panel item at source change valid h).others place stands other answers) answers
     ] refl
-  where
-    of_permitted : (change : Change) → change_of state.plant at source ≡ Some change → (b : Bool) → are_permitted state.owners (device_of state.plant panel) (change ∷ []) ≡ b → AnswersWith (step state (Told panel item (Connect at source))).state place stands
-    of_permitted change h true permitted =
-        subst (λ (stepped : Stepped State Answer). AnswersWith stepped.state place stands) (sym (connected-made state panel item at source change h permitted))
-        ((made state panel item at source change valid h).others place stands other answers)
-    of_permitted change h false kept =
-        subst (λ (stepped : Stepped State Answer). AnswersWith stepped.state place stands) (sym (connected-kept state panel item at source change h kept)) answers
 
 keeps-told : (state : State) (place : Point) (panel item : ℕ) (message : Message) (stands : Option ℕ) → IsValid state → LeavesAlone place (Told panel item message) → AnswersWith state place stands →
     AnswersWith (step state (Told panel item message)).state place stands

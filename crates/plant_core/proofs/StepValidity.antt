@@ -17,7 +17,9 @@ use Rattle.plant_config.specs.Plant.{PlantData, destinations_of}
 use Rattle.plant_config.specs.IsPlant.{IsPlant}
 use Rattle.plant_config.specs.Sites.{dest_at, source_at, source_number_of}
 use Rattle.plant_config.proofs.SiteLemmas.{dest_at-point_of, source_at-source_number_of}
-use Rattle.crosspoint_state.specs.Crosspoints.{Crosspoints, source_of, is_idle, applied}
+use Rattle.crosspoint_state.specs.Crosspoints.{Crosspoints, source_of, is_idle, NamesOnce}
+use Rattle.crosspoint_state.specs.Applied.{applied, are_enough}
+use Rattle.crosspoint_state.specs.Laws.{AreInside}
 use Rattle.crosspoint_state.specs.declared.spot.Spot.{Spot}
 use Rattle.protects.specs.Owners.{Owners, allows, may_lift, taken, lifted}
 use Rattle.salvo_groups.specs.Groups.{Group, group_of, may_store, with_store}
@@ -29,19 +31,25 @@ use Rattle.plant_core.specs.declared.answer.Answer.{Answer}
 use Rattle.plant_core.specs.declared.answer.Answer.TheVariants.{Say}
 use Rattle.plant_core.specs.State.{State, IsValid, IsChangeOf, AreOwners, standing, owner_at, device_of, is_master, start}
 use Rattle.plant_core.specs.Noticed.{marked_for_others}
-use Rattle.plant_core.specs.Connects.{says, says_nothing, wanted, change_of, are_permitted, changed, connected}
+use Rattle.plant_core.specs.Connects.{says, says_nothing, wanted, change_of, are_permitted, changed, may_make, connected}
 use Rattle.plant_core.specs.Protecting.{owner_told, has_same_owner, with_owners, protected, unprotected}
 use Rattle.plant_core.specs.Salvos.{stored_in, emptied, moved, all_changed, taken_whole, cleared, gone}
 use Rattle.plant_core.specs.Step.{step, dest_of}
 use Rattle.plant_core.specs.Laws.{AnswersWith, IsConnectable, IsFree, MayConnect, IsMade, IsNotMade, LeavesAlone, after}
 use Rattle.plant_core.proofs.Validity.{IsValid-applied, IsValid-owners, IsValid-others, IsValid-marked, IsValid-take, IsValid-leave, IsValid-store, IsValid-clear, AreOwners-taken, AreOwners-lifted, device-within, change_of-is, change_of-IsChangeOf, found-below}
-use Rattle.plant_core.proofs.Changes.{applied-idle, allows-free, free-allows, permitted-one, source_of-one, get-one_other, moved-within}
+use Rattle.plant_core.proofs.Changes.{applied-idle, once-one, moved-within}
+use Rattle.plant_core.proofs.Outcomes.{MayTake, by_made, by_taken, made-enough}
 
 -- a panel's connect leaves a valid state
-pub IsValid-changed : (state : State) (asker : ℕ) (change : Change) → IsValid state → IsChangeOf state.plant change → IsValid (changed state asker change)
-IsValid-changed state asker change valid is =
-    let made : State = record state { crosspoints = applied state.crosspoints (change ∷ []) } in
-    let made_is : IsValid made = IsValid-applied state (change ∷ []) valid (All-push (IsChangeOf state.plant) [] change (All-nil (IsChangeOf state.plant)) is) in
+pub IsValid-one : (state : State) (change : Change) → IsValid state → IsChangeOf state.plant change → are_enough state.plant state.crosspoints (change ∷ []) ≡ true →
+    IsValid (record state { crosspoints = applied state.plant state.crosspoints (change ∷ []) })
+IsValid-one state change valid is enough =
+    IsValid-applied state (change ∷ []) valid (All-push (IsChangeOf state.plant) [] change (All-nil (IsChangeOf state.plant)) is) (once-one change) enough
+
+pub IsValid-changed : (state : State) (asker : ℕ) (change : Change) → IsValid state → IsChangeOf state.plant change → are_enough state.plant state.crosspoints (change ∷ []) ≡ true → IsValid (changed state asker change)
+IsValid-changed state asker change valid is enough =
+    let made : State = record state { crosspoints = applied state.plant state.crosspoints (change ∷ []) } in
+    let made_is : IsValid made = IsValid-one state change valid is enough in
     elim (is_idle state.crosspoints change) as (λ b. IsValid (record made { boards = cond b state.boards (marked_for_others state.boards asker change.dest Source) })) [
       | true ↦ made_is
       | false ↦ IsValid-others made asker change.dest Source is.dest made_is
@@ -52,10 +60,8 @@ IsValid-connected state panel at source valid =
     elim (change_of state.plant at source) as (λ o. change_of state.plant at source ≡ o → IsValid (connected state panel at source o).state) [
       | None ↦ λ h. valid
       | Some change ↦ λ h.
-          elim (are_permitted state.owners (device_of state.plant panel) (change ∷ [])) as (λ b. IsValid (cond b (says (changed state panel change) (Connected at source)) (says state (Tally at (standing state at)))).state) [
-            | true ↦ IsValid-changed state panel change valid (change_of-IsChangeOf state.plant at source change valid.is_plant h)
-            | false ↦ valid
-          ]
+          by_made (λ (stepped : Stepped State Answer). IsValid stepped.state) state panel at source change
+          (λ may. IsValid-changed state panel change valid (change_of-IsChangeOf state.plant at source change valid.is_plant h) (made-enough state panel change may)) valid
     ] refl
 
 -- so does a protect, and a lift
@@ -112,21 +118,15 @@ IsValid-stored state at source salvo valid =
           ]
     ] refl
 
-pub IsValid-all_changed : (state : State) (group : Group) → IsValid state → All (IsChangeOf state.plant) group → IsValid (all_changed state group)
-IsValid-all_changed state group valid all =
-    let made : State = record state { crosspoints = applied state.crosspoints group } in
-    IsValid-marked made (moved state.crosspoints group) (moved-within group state.crosspoints (λ dest. dest < destinations_of state.plant) (λ k d below. (all k d below).dest)) (IsValid-applied state group valid all)
+pub IsValid-all_changed : (state : State) (group : Group) → IsValid state → All (IsChangeOf state.plant) group → NamesOnce group → are_enough state.plant state.crosspoints group ≡ true → IsValid (all_changed state group)
+IsValid-all_changed state group valid all once enough =
+    let made : State = record state { crosspoints = applied state.plant state.crosspoints group } in
+    IsValid-marked made (moved state.crosspoints group) (moved-within group state.crosspoints (λ dest. dest < destinations_of state.plant) (λ k d below. (all k d below).dest)) (IsValid-applied state group valid all once enough)
 
-pub IsValid-taken_whole : (state : State) (salvo : ℕ) (group : Group) → IsValid state → All (IsChangeOf state.plant) group → IsValid (emptied (all_changed state group) salvo)
-IsValid-taken_whole state salvo group valid all = IsValid-clear (all_changed state group) salvo (IsValid-all_changed state group valid all)
-
-IsValid-whole : (state : State) (panel salvo : ℕ) (group : Group) → IsValid state → All (IsChangeOf state.plant) group → IsValid (taken_whole state panel salvo group).state
-IsValid-whole state panel salvo [] valid all = valid
-IsValid-whole state panel salvo (entry ∷ entries) valid all =
-    elim (are_permitted state.owners (device_of state.plant panel) (entry ∷ entries)) as (λ b. IsValid (cond b (says (emptied (all_changed state (entry ∷ entries)) salvo) (GoDone Made salvo)) (says state (GoDone Protected salvo))).state) [
-      | true ↦ IsValid-taken_whole state salvo (entry ∷ entries) valid all
-      | false ↦ valid
-    ]
+pub IsValid-taken_whole : (state : State) (salvo : ℕ) → IsValid state → are_enough state.plant state.crosspoints (group_of state.groups salvo) ≡ true → IsValid (emptied (all_changed state (group_of state.groups salvo)) salvo)
+IsValid-taken_whole state salvo valid enough =
+    let group : Group = group_of state.groups salvo in
+    IsValid-clear (all_changed state group) salvo (IsValid-all_changed state group valid (valid.changes salvo) (valid.groups.each salvo).distinct enough)
 
 IsValid-cleared : (state : State) (salvo : ℕ) (group : Group) → IsValid state → IsValid (cleared state salvo group).state
 IsValid-cleared state salvo [] valid = valid
@@ -134,7 +134,9 @@ IsValid-cleared state salvo (entry ∷ entries) valid = IsValid-clear state salv
 
 IsValid-gone : (state : State) (panel : ℕ) (clear : Bool) (salvo : ℕ) → IsValid state → IsValid (gone state panel clear salvo).state
 IsValid-gone state panel true salvo valid = IsValid-cleared state salvo (group_of state.groups salvo) valid
-IsValid-gone state panel false salvo valid = IsValid-whole state panel salvo (group_of state.groups salvo) valid (valid.changes salvo)
+IsValid-gone state panel false salvo valid =
+    by_taken (λ (stepped : Stepped State Answer). IsValid stepped.state) state panel salvo (group_of state.groups salvo)
+    (λ may. IsValid-taken_whole state salvo valid may.enough) (λ status. valid)
 
 -- every step leaves a valid state
 pub IsValid-step : (state : State) (request : Request) → IsValid state → IsValid (step state request).state
@@ -152,13 +154,13 @@ IsValid-step state (Leave panel) valid = IsValid-leave state panel valid
 
 -- a change that isn't idle is made, and the others hear of it; an idle one leaves all as it was
 pub changed-busy : (state : State) (asker : ℕ) (change : Change) → is_idle state.crosspoints change ≡ false →
-    record state { crosspoints = applied state.crosspoints (change ∷ []); boards = marked_for_others state.boards asker change.dest Source } ≡ changed state asker change
+    record state { crosspoints = applied state.plant state.crosspoints (change ∷ []); boards = marked_for_others state.boards asker change.dest Source } ≡ changed state asker change
 changed-busy state asker change busy =
-    λ i. record state { crosspoints = applied state.crosspoints (change ∷ []); boards = cond (sym busy i) state.boards (marked_for_others state.boards asker change.dest Source) }
+    λ i. record state { crosspoints = applied state.plant state.crosspoints (change ∷ []); boards = cond (sym busy i) state.boards (marked_for_others state.boards asker change.dest Source) }
 
 pub changed-idle : (state : State) (asker : ℕ) (change : Change) → is_idle state.crosspoints change ≡ true → state ≡ changed state asker change
 changed-idle state asker change idle =
-    λ i. record state { crosspoints = sym (applied-idle state.crosspoints change idle) i; boards = cond (sym idle i) state.boards (marked_for_others state.boards asker change.dest Source) }
+    λ i. record state { crosspoints = sym (applied-idle state.plant state.crosspoints change idle) i; boards = cond (sym idle i) state.boards (marked_for_others state.boards asker change.dest Source) }
 
 -- an entry of a group is a change of the plant
 pub entry-IsChangeOf : (state : State) (salvo index : ℕ) (entry : Change) → IsValid state → slice_get (group_of state.groups salvo) index ≡ Some entry → IsChangeOf state.plant entry
@@ -169,3 +171,7 @@ entry-IsChangeOf state salvo index entry valid here = elim (cases_lt index (leng
       subst (IsChangeOf state.plant) same (valid.changes salvo index entry within)
   | inr past ↦ let none = slice_get_past (group_of state.groups salvo) index past in absurd cc
 ]
+
+-- and the entries of a group are all inside the plant
+pub entries-inside : (state : State) (salvo : ℕ) → IsValid state → AreInside state.plant (group_of state.groups salvo)
+entries-inside state salvo valid k d below = (valid.changes salvo k d below).dest

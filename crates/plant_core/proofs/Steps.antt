@@ -14,7 +14,8 @@ use Rattle.plant_config.specs.Plant.{PlantData, destinations_of}
 use Rattle.plant_config.specs.IsPlant.{IsPlant}
 use Rattle.plant_config.specs.Sites.{dest_at, source_at, source_number_of}
 use Rattle.plant_config.proofs.SiteLemmas.{dest_at-point_of, source_at-source_number_of}
-use Rattle.crosspoint_state.specs.Crosspoints.{Crosspoints, source_of, is_idle, applied}
+use Rattle.crosspoint_state.specs.Crosspoints.{Crosspoints, source_of, is_idle}
+use Rattle.crosspoint_state.specs.Applied.{applied, are_enough}
 use Rattle.crosspoint_state.specs.declared.spot.Spot.{Spot}
 use Rattle.protects.specs.Owners.{Owners, allows, may_lift, taken, lifted}
 use Rattle.salvo_groups.specs.Groups.{Group, group_of, may_store, with_store}
@@ -26,13 +27,14 @@ use Rattle.plant_core.specs.declared.answer.Answer.{Answer}
 use Rattle.plant_core.specs.declared.answer.Answer.TheVariants.{Say}
 use Rattle.plant_core.specs.State.{State, IsValid, IsChangeOf, AreOwners, standing, owner_at, device_of, is_master, start}
 use Rattle.plant_core.specs.Noticed.{marked_for_others}
-use Rattle.plant_core.specs.Connects.{says, says_nothing, wanted, change_of, are_permitted, changed, connected}
+use Rattle.plant_core.specs.Connects.{says, says_nothing, wanted, change_of, are_permitted, changed, may_make, connected}
 use Rattle.plant_core.specs.Protecting.{owner_told, has_same_owner, with_owners, protected, unprotected}
 use Rattle.plant_core.specs.Salvos.{stored_in, emptied, moved, all_changed, taken_whole, cleared, gone}
 use Rattle.plant_core.specs.Step.{step, dest_of}
 use Rattle.plant_core.specs.Laws.{AnswersWith, IsConnectable, IsFree, MayConnect, IsMade, IsNotMade, LeavesAlone, after}
 use Rattle.plant_core.proofs.Validity.{IsValid-applied, IsValid-owners, IsValid-others, IsValid-marked, IsValid-take, IsValid-leave, IsValid-store, IsValid-clear, AreOwners-taken, AreOwners-lifted, device-within, change_of-is, change_of-IsChangeOf, found-below}
 use Rattle.plant_core.proofs.Changes.{allows-free, free-allows, permitted-one, source_of-one, get-one_other, moved-within}
+use Rattle.plant_core.proofs.Outcomes.{by_made, may-both, made-permitted, made-enough}
 
 -- what a destination was to carry, read as a number of its level, is what was asked for
 pub wanted-number : (plant : PlantData) (at : Point) (source carried : Option ℕ) → IsPlant plant → wanted plant at source ≡ Some carried → option_and_then (source_number_of plant) carried ≡ source
@@ -88,24 +90,24 @@ change_of-connectable plant at source change h =
           | Some source ↦ λ e. refl
         ] h
 
-standing-applied : (state : State) (at : Point) (source : Option ℕ) (change : Change) → IsValid state → change_of state.plant at source ≡ Some change → standing (record state { crosspoints = applied state.crosspoints (change ∷ []) }) at ≡ source
+standing-applied : (state : State) (at : Point) (source : Option ℕ) (change : Change) → IsValid state → change_of state.plant at source ≡ Some change → standing (record state { crosspoints = applied state.plant state.crosspoints (change ∷ []) }) at ≡ source
 standing-applied state at source change valid h =
     let parts = change_of-is state.plant at source change h in
-    ap (option_and_then (λ (dest : ℕ). option_and_then (source_number_of state.plant) (source_of (applied state.crosspoints (change ∷ [])) dest))) parts.0
-    ∙ ap (option_and_then (source_number_of state.plant)) (source_of-one state.crosspoints change)
+    ap (option_and_then (λ (dest : ℕ). option_and_then (source_number_of state.plant) (source_of (applied state.plant state.crosspoints (change ∷ [])) dest))) parts.0
+    ∙ ap (option_and_then (source_number_of state.plant)) (source_of-one state.plant state.crosspoints change)
     ∙ wanted-number state.plant at source change.source valid.is_plant parts.1
 
 standing-others : (state : State) (at : Point) (source : Option ℕ) (change : Change) (place : Point) → IsValid state → change_of state.plant at source ≡ Some change → place ≢ at →
-    standing (record state { crosspoints = applied state.crosspoints (change ∷ []) }) place ≡ standing state place
+    standing (record state { crosspoints = applied state.plant state.crosspoints (change ∷ []) }) place ≡ standing state place
 standing-others state at source change place valid h other =
     let parts = change_of-is state.plant at source change h in
     elim (dest_at state.plant place.matrix place.level place.dest) as (λ o. dest_at state.plant place.matrix place.level place.dest ≡ o →
-    option_and_then (λ (dest : ℕ). option_and_then (source_number_of state.plant) (source_of (applied state.crosspoints (change ∷ [])) dest)) o
+    option_and_then (λ (dest : ℕ). option_and_then (source_number_of state.plant) (source_of (applied state.plant state.crosspoints (change ∷ [])) dest)) o
     ≡ option_and_then (λ (dest : ℕ). option_and_then (source_number_of state.plant) (source_of state.crosspoints dest)) o) [
       | None ↦ λ none. refl
       | Some dest ↦ λ found.
           let apart : dest ≢ change.dest = λ same. other (one_place state.plant at place change.dest valid.is_plant parts.0 (found ∙ ap Some same)) in
-          ap (λ (o : Option Spot). option_and_then (source_number_of state.plant) (option_map (λ (spot : Spot). spot.source) o)) (get-one_other state.crosspoints change dest apart)
+          ap (λ (o : Option Spot). option_and_then (source_number_of state.plant) (option_map (λ (spot : Spot). spot.source) o)) (get-one_other state.plant state.crosspoints change dest apart)
     ] refl
 
 -- an interrogate is answered with the source that stands, and with nothing else
@@ -137,43 +139,40 @@ dest-free state panel at dest found allowed = record {
   owner = subst (λ o. IfSome o (λ owner. owner ≡ device_of state.plant panel)) (sym (owner_at-dest state at dest found)) (allows-free state.owners (device_of state.plant panel) dest allowed);
 }
 
--- a panel may connect where it asks for a change that is permitted, and only there
+-- a panel may connect where it asks for a change that it may make, and only there
 pub may-change : (state : State) (panel : ℕ) (at : Point) (source : Option ℕ) → MayConnect state panel at source →
-    (change : Change) × (change_of state.plant at source ≡ Some change) × (are_permitted state.owners (device_of state.plant panel) (change ∷ []) ≡ true)
+    (change : Change) × (change_of state.plant at source ≡ Some change) × (may_make state panel change ≡ true)
 may-change state panel at source may =
     let asks = connectable-change_of state.plant at source may.connectable in
     let change : Change = asks.0 in
     let free = free-dest state panel at may.free in
     let some : Some change.dest ≡ Some free.0 = sym (change_of-is state.plant at source change asks.1).0 ∙ free.1 in
     let same : change.dest ≡ free.0 = cc in
-    (change, asks.1, permitted-one state.owners (device_of state.plant panel) change ∙ ap (allows state.owners (device_of state.plant panel)) same ∙ free.2)
+    let permitted = permitted-one state.owners (device_of state.plant panel) change ∙ ap (allows state.owners (device_of state.plant panel)) same ∙ free.2 in
+    let enough = subst (λ o. IfSome o (λ change. are_enough state.plant state.crosspoints (change ∷ []) ≡ true)) asks.1 may.tied in
+    (change, asks.1, may-both state panel change permitted enough)
 
 pub change-may : (state : State) (panel : ℕ) (at : Point) (source : Option ℕ) (change : Change) → change_of state.plant at source ≡ Some change →
-    are_permitted state.owners (device_of state.plant panel) (change ∷ []) ≡ true → MayConnect state panel at source
-change-may state panel at source change h permitted = record {
+    may_make state panel change ≡ true → MayConnect state panel at source
+change-may state panel at source change h may = record {
   connectable = change_of-connectable state.plant at source change h;
-  free = dest-free state panel at change.dest (change_of-is state.plant at source change h).0 (sym (permitted-one state.owners (device_of state.plant panel) change) ∙ permitted);
+  free = dest-free state panel at change.dest (change_of-is state.plant at source change h).0 (sym (permitted-one state.owners (device_of state.plant panel) change) ∙ made-permitted state panel change may);
+  tied = subst (λ o. IfSome o (λ change. are_enough state.plant state.crosspoints (change ∷ []) ≡ true)) (sym h) (made-enough state panel change may);
 }
 
--- a connect that asks for a change which is permitted is made, and any other isn't
-pub connected-made : (state : State) (panel item : ℕ) (at : Point) (source : Option ℕ) (change : Change) → change_of state.plant at source ≡ Some change → are_permitted state.owners (device_of state.plant panel) (change ∷ []) ≡ true →
+-- a connect that asks for a change which its panel may make is made
+pub connected-made : (state : State) (panel item : ℕ) (at : Point) (source : Option ℕ) (change : Change) → change_of state.plant at source ≡ Some change → may_make state panel change ≡ true →
     step state (Told panel item (Connect at source)) ≡ says (changed state panel change) (Connected at source)
-connected-made state panel item at source change h permitted =
+connected-made state panel item at source change h may =
     ap (connected state panel at source) h
-    ∙ ap (λ b. cond b (says (changed state panel change) (Connected at source)) (says state (Tally at (standing state at)))) permitted
-
-pub connected-kept : (state : State) (panel item : ℕ) (at : Point) (source : Option ℕ) (change : Change) → change_of state.plant at source ≡ Some change → are_permitted state.owners (device_of state.plant panel) (change ∷ []) ≡ false →
-    step state (Told panel item (Connect at source)) ≡ says state (Tally at (standing state at))
-connected-kept state panel item at source change h kept =
-    ap (connected state panel at source) h
-    ∙ ap (λ b. cond b (says (changed state panel change) (Connected at source)) (says state (Tally at (standing state at)))) kept
+    ∙ ap (λ b. cond b (says (changed state panel change) (Connected at source)) (says state (Tally at (standing state at)))) may
 
 pub made : (state : State) (panel item : ℕ) (at : Point) (source : Option ℕ) (change : Change) → IsValid state → change_of state.plant at source ≡ Some change →
     IsMade state at source (says (changed state panel change) (Connected at source))
 made state panel item at source change valid h = record {
   answer = refl;
   stands = stands-answers (changed state panel change) at source (standing-applied state at source change valid h);
-  unmoved = λ dest elsewhere. get-one_other state.crosspoints change dest (λ same. elsewhere ((change_of-is state.plant at source change h).0 ∙ ap Some (sym same)));
+  unmoved = λ dest elsewhere. get-one_other state.plant state.crosspoints change dest (λ same. elsewhere ((change_of-is state.plant at source change h).0 ∙ ap Some (sym same)));
   others = λ place stands other answers.
       stands-answers (changed state panel change) place stands (standing-others state at source change place valid h other ∙ answers-stands state place stands answers);
 }
@@ -193,11 +192,8 @@ connect-IsMade state panel item at source valid may =
 
 pub connect-IsNotMade : (state : State) (panel item : ℕ) (at : Point) (source : Option ℕ) → ¬ MayConnect state panel at source → IsNotMade state at (step state (Told panel item (Connect at source)))
 connect-IsNotMade state panel item at source not =
-    elim (change_of state.plant at source) as (λ o. change_of state.plant at source ≡ o → IsNotMade state at (step state (Told panel item (Connect at source)))) [
-      | None ↦ λ h. subst (IsNotMade state at) (sym (ap (connected state panel at source) h)) (tallied state at)
-      | Some change ↦ λ h. of_permitted change h (are_permitted state.owners (device_of state.plant panel) (change ∷ [])) refl
+    elim (change_of state.plant at source) as (λ o. change_of state.plant at source ≡ o → IsNotMade state at (connected state panel at source o)) [
+      | None ↦ λ h. tallied state at
+      | Some change ↦ λ h.
+          by_made (IsNotMade state at) state panel at source change (λ may. absurd (not (change-may state panel at source change h may))) (tallied state at)
     ] refl
-  where
-    of_permitted : (change : Change) → change_of state.plant at source ≡ Some change → (b : Bool) → are_permitted state.owners (device_of state.plant panel) (change ∷ []) ≡ b → IsNotMade state at (step state (Told panel item (Connect at source)))
-    of_permitted change h true permitted = absurd (not (change-may state panel at source change h permitted))
-    of_permitted change h false kept = subst (IsNotMade state at) (sym (connected-kept state panel item at source change h kept)) (tallied state at)

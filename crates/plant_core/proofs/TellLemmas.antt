@@ -16,7 +16,6 @@ use Rattle.plant_config.specs.Plant.{PlantData, dest_numbers, destinations_of}
 use Rattle.plant_config.specs.IsPlant.{IsPlant}
 use Rattle.plant_config.specs.Sites.{Site, site_of, dest_at, point_of}
 use Rattle.plant_config.proofs.SiteLemmas.{dests_are, site_of-number_at, IsSome-site_of}
-use Rattle.crosspoint_state.specs.Crosspoints.{is_idle, applied}
 use Rattle.protects.specs.Owners.{allows, may_lift, taken, lifted}
 use Rattle.salvo_groups.specs.Groups.{Group, group_of, may_store, with_store}
 use Rattle.change_boards.specs.declared.sort.Sort.{Sort}

@@ -18,8 +18,12 @@ use Rattle.plant_config.specs.Sites.{dest_at, source_at}
 use Rattle.plant_config.specs.declared.records.Change.{Change}
 use Rattle.plant_config.specs.declared.records.Panel.{Panel}
 use Rattle.plant_config.proofs.SiteLemmas.{dest_at-below, source_at-below}
-use Rattle.crosspoint_state.specs.Crosspoints.{Crosspoints, source_of, is_idle, released, given, all_given, applied}
+use Rattle.crosspoint_state.specs.Crosspoints.{Crosspoints, source_of, is_idle, NamesOnce}
+use Rattle.crosspoint_state.specs.Ties.{chosen_tie}
+use Rattle.crosspoint_state.specs.Applied.{released, given, all_given, applied, are_enough}
 use Rattle.crosspoint_state.specs.declared.spot.Spot.{Spot}
+use Rattle.crosspoint_state.proofs.ValidLemmas.{valid_empty}
+use Rattle.crosspoint_state.proofs.LawLemmas.{TiesStayValid-applied}
 use Rattle.protects.specs.Owners.{Owners, allows, may_lift, taken, lifted}
 use Rattle.salvo_groups.specs.Limits.{salvo_limit}
 use Rattle.salvo_groups.specs.Groups as salvos
@@ -30,7 +34,7 @@ use Rattle.change_boards.specs.Notices.{with_take, with_leave}
 use Rattle.change_boards.specs.Laws.{AreBoards}
 use Rattle.change_boards.specs.declared.sort.Sort.{Sort}
 use Rattle.change_boards.proofs.StayBoards.{AreBoards-start, AreBoards-take, AreBoards-leave}
-use Rattle.plant_core.specs.State.{State, IsCrosspoint, AreCrosspoints, HaveNoTies, AreOwners, IsChangeOf, IsValid, start, device_of}
+use Rattle.plant_core.specs.State.{State, IsCrosspoint, AreCrosspoints, AreOwners, IsChangeOf, IsValid, start, device_of}
 use Rattle.plant_core.specs.Noticed.{marked_for_others, all_marked}
 use Rattle.plant_core.specs.Connects.{wanted, change_of}
 use Rattle.plant_core.proofs.Noticed.{AreBoards-others, AreBoards-marked}
@@ -39,7 +43,7 @@ pub IsValid-start : (plant : PlantData) → IsPlant plant → IsValid (start pla
 IsValid-start plant is = record {
   is_plant = is;
   is_crosspoint = λ dest spot h. let parked = finite.get-empty {X = Spot} nat_cmp dest in cc;
-  ties = λ dest spot h. let parked = finite.get-empty {X = Spot} nat_cmp dest in cc;
+  ties = valid_empty plant;
   owners = λ dest device h. let parked = finite.get-empty {X = ℕ} nat_cmp dest in cc;
   groups = AreGroups-start;
   changes = λ number. none_stored number;
@@ -88,51 +92,46 @@ values-remove {V} P values dest all q v h =
       | false ↦ λ e. all q v e
     ] (sym (finite.get-remove nat_cmp_total values dest q) ∙ h)
 
--- what holds of each spot, and of each that a change gives, holds of each behind the changes
-module _ (P : ℕ → Spot → Type 0) where
+-- what holds of each source that is carried, and of each that a change gives, holds of each behind the changes
+module _ (plant : PlantData) (P : ℕ → ℕ → Type 0) where
   abbrev Holds : Crosspoints → Type 0
-  Holds crosspoints = (dest : ℕ) (spot : Spot) → finite.get crosspoints dest ≡ Some spot → P dest spot
+  Holds crosspoints = (dest : ℕ) (spot : Spot) → finite.get crosspoints dest ≡ Some spot → P dest spot.source
 
   abbrev Gives : Change → Type 0
-  Gives change = IfSome change.source (λ source. P change.dest (record { source = source; tie = None }))
+  Gives change = IfSome change.source (P change.dest)
 
   holds-released : (crosspoints : Crosspoints) (changes : List Change) → Holds crosspoints → Holds (released crosspoints changes)
   holds-released crosspoints [] holds = holds
   holds-released crosspoints (change ∷ changes) holds =
-      holds-released (finite.remove crosspoints change.dest) changes (values-remove P crosspoints change.dest holds)
+      holds-released (finite.remove crosspoints change.dest) changes (values-remove (λ dest (spot : Spot). P dest spot.source) crosspoints change.dest holds)
 
-  holds-given : (crosspoints : Crosspoints) (dest : ℕ) (source : Option ℕ) → Holds crosspoints → IfSome source (λ source. P dest (record { source = source; tie = None })) → Holds (given crosspoints dest source)
+  holds-given : (crosspoints : Crosspoints) (dest : ℕ) (source : Option ℕ) → Holds crosspoints → IfSome source (P dest) → Holds (given plant crosspoints dest source)
   holds-given crosspoints dest None holds gives = holds
-  holds-given crosspoints dest (Some source) holds gives = values-insert P crosspoints dest (record { source = source; tie = None }) holds gives
+  holds-given crosspoints dest (Some source) holds gives =
+      values-insert (λ dest (spot : Spot). P dest spot.source) crosspoints dest (record { source = source; tie = chosen_tie plant crosspoints source }) holds gives
 
-  holds-all_given : (crosspoints : Crosspoints) (changes : List Change) → Holds crosspoints → All Gives changes → Holds (all_given crosspoints changes)
+  holds-all_given : (crosspoints : Crosspoints) (changes : List Change) → Holds crosspoints → All Gives changes → Holds (all_given plant crosspoints changes)
   holds-all_given crosspoints [] holds all = holds
   holds-all_given crosspoints (change ∷ changes) holds all =
-      holds-all_given (given crosspoints change.dest change.source) changes (holds-given crosspoints change.dest change.source holds (all 0 change (omega arith))) (λ k d below. all (suc k) d (omega arith))
+      holds-all_given (given plant crosspoints change.dest change.source) changes (holds-given crosspoints change.dest change.source holds (all 0 change (omega arith))) (λ k d below. all (suc k) d (omega arith))
 
-  holds-applied : (crosspoints : Crosspoints) (changes : List Change) → Holds crosspoints → All Gives changes → Holds (applied crosspoints changes)
+  holds-applied : (crosspoints : Crosspoints) (changes : List Change) → Holds crosspoints → All Gives changes → Holds (applied plant crosspoints changes)
   holds-applied crosspoints changes holds all =
       let busy : List Change = filter (λ (change : Change). not (is_idle crosspoints change)) changes in
       holds-all_given (released crosspoints busy) busy (holds-released crosspoints busy holds) (All-filter _ Gives changes all)
 
 -- one part of a valid state is replaced
-pub IsValid-applied : (state : State) (changes : List Change) → IsValid state → All (IsChangeOf state.plant) changes → IsValid (record state { crosspoints = applied state.crosspoints changes })
-IsValid-applied state changes valid all = record {
+pub IsValid-applied : (state : State) (changes : List Change) → IsValid state → All (IsChangeOf state.plant) changes → NamesOnce changes → are_enough state.plant state.crosspoints changes ≡ true →
+    IsValid (record state { crosspoints = applied state.plant state.crosspoints changes })
+IsValid-applied state changes valid all once enough = record {
   is_plant = valid.is_plant;
-  is_crosspoint = holds-applied (λ dest spot. IsCrosspoint state.plant dest spot.source) state.crosspoints changes valid.is_crosspoint (λ k d below. gives_source (get_or changes k d) (all k d below));
-  ties = holds-applied (λ dest spot. spot.tie ≡ None) state.crosspoints changes valid.ties (λ k d below. gives_no_tie (get_or changes k d).source);
+  is_crosspoint = holds-applied state.plant (IsCrosspoint state.plant) state.crosspoints changes valid.is_crosspoint (λ k d below. (all k d below).source);
+  ties = TiesStayValid-applied state.plant state.crosspoints changes once (λ k d below. (all k d below).dest) valid.is_plant valid.ties enough;
   owners = valid.owners;
   groups = valid.groups;
   changes = valid.changes;
   boards = valid.boards;
 }
-  where
-    gives_source : (change : Change) → IsChangeOf state.plant change → IfSome change.source (λ source. IsCrosspoint state.plant change.dest source)
-    gives_source change is = is.source
-
-    gives_no_tie : (source : Option ℕ) → IfSome source (λ source. (let spot : Spot = record { source = source; tie = None } in spot.tie) ≡ None)
-    gives_no_tie None = tt
-    gives_no_tie (Some source) = refl
 
 pub IsValid-boards : (state : State) (boards : List Board) → IsValid state → AreBoards boards (length state.plant.panels) (destinations_of state.plant) → IsValid (record state { boards = boards })
 IsValid-boards state boards valid are = record {

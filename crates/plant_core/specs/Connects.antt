@@ -1,5 +1,5 @@
 -- What a connect asks for, whether it is permitted, and what is answered.
-use Rattle.std.specs.Prelude.{ℕ, Bool, if◌then◌else◌, List, [], ◌∷◌, Option, Some, None}
+use Rattle.std.specs.Prelude.{ℕ, Bool, ◌&&◌, if◌then◌else◌, List, [], ◌∷◌, Option, Some, None}
 use Rattle.std.specs.List.{list_all}
 use Rattle.std.specs.Option.{option_map, option_and_then}
 use Rattle.swp08_messages.specs.declared.point.Point.{Point}
@@ -8,7 +8,8 @@ use Rattle.swp08_messages.specs.declared.message.Message.TheVariants.{Tally, Con
 use Rattle.plant_config.specs.Plant.{PlantData}
 use Rattle.plant_config.specs.Sites.{dest_at, source_at}
 use Rattle.plant_config.specs.declared.records.Change.{Change}
-use Rattle.crosspoint_state.specs.Crosspoints.{is_idle, applied}
+use Rattle.crosspoint_state.specs.Crosspoints.{is_idle}
+use Rattle.crosspoint_state.specs.Applied.{applied, are_enough}
 use Rattle.protects.specs.Owners.{Owners, allows}
 use Rattle.change_boards.specs.declared.sort.Sort.TheVariants.{Source}
 use Rattle.history_lock.specs.Step.{Stepped}
@@ -46,15 +47,21 @@ are_permitted owners device changes = list_all (λ change. allows owners device 
 -- nobody is.
 abbrev pub changed : State → ℕ → Change → State
 changed state asker change = record state {
-  crosspoints = applied state.crosspoints (change ∷ []);
+  crosspoints = applied state.plant state.crosspoints (change ∷ []);
   boards = if is_idle state.crosspoints change then state.boards
       else marked_for_others state.boards asker change.dest Source;
 }
 
--- A connect that is in range and permitted is made and answered so; else the answer is the source that stands.
+-- A panel may make a change where no other device protects its destination and the ties are enough for it.
+abbrev pub may_make : State → ℕ → Change → Bool
+may_make state panel change =
+    are_permitted state.owners (device_of state.plant panel) (change ∷ [])
+    && are_enough state.plant state.crosspoints (change ∷ [])
+
+-- A connect that is in range and that its panel may make is made and answered so; else the answer is the source that stands.
 abbrev pub connected : State → ℕ → Point → Option ℕ → Option Change → Stepped State Answer
 connected state panel at source None = says state (Tally at (standing state at))
 connected state panel at source (Some change) =
-    if are_permitted state.owners (device_of state.plant panel) (change ∷ [])
+    if may_make state panel change
     then says (changed state panel change) (Connected at source)
     else says state (Tally at (standing state at))

@@ -1,5 +1,5 @@
 -- What is true of every state and every step, said by places and answers, without the step's cases.
-use Rattle.std.specs.Prelude.{◌≡◌, ◌≢◌, ℕ, ◌≤◌, false, List, [], ◌∷◌, length, All, slice_get, Option, Some, None, IfSome, IsSome, IsNone}
+use Rattle.std.specs.Prelude.{◌≡◌, ◌≢◌, ℕ, ◌≤◌, true, false, List, [], ◌∷◌, length, All, slice_get, Option, Some, None, IfSome, IsSome, IsNone}
 use Rattle.std.specs.FinMap.{get}
 use Rattle.swp08_messages.specs.declared.point.Point.{Point}
 use Rattle.swp08_messages.specs.declared.message.Message.{Message}
@@ -13,8 +13,10 @@ use Rattle.plant_core.specs.declared.request.Request.TheVariants.{Told, Poll}
 use Rattle.history_lock.specs.Step.{Stepped}
 use Rattle.plant_core.specs.declared.answer.Answer.{Answer}
 use Rattle.plant_core.specs.declared.answer.Answer.TheVariants.{Say, Dumped}
-use Rattle.crosspoint_state.specs.Crosspoints.{applied}
+use Rattle.crosspoint_state.specs.Crosspoints.{NamesOnce}
+use Rattle.crosspoint_state.specs.Applied.{applied, are_enough}
 use Rattle.plant_core.specs.State.{State, IsValid, IsChangeOf, Fits, start, device_of, owner_at}
+use Rattle.plant_core.specs.Connects.{change_of}
 use Rattle.plant_core.specs.Step.{step}
 use Rattle.plant_core.specs.Answer.{IsSayable, IsAnswerCount, room_of}
 
@@ -33,10 +35,17 @@ pub record IsFree (state : State) (panel : ℕ) (at : Point) : Type 0 where
   pub has_place : IsSome (dest_at state.plant at.matrix at.level at.dest)
   pub owner : IfSome (owner_at state at) (λ device. device ≡ device_of state.plant panel)
 
--- A panel may give a place a source where that may be given, and the panel may change the place.
+-- The ties are enough for a place to be given a source.
+abbrev pub HasTieFor : State → Point → Option ℕ → Type 0
+HasTieFor state at source =
+    IfSome (change_of state.plant at source)
+    (λ change. are_enough state.plant state.crosspoints (change ∷ []) ≡ true)
+
+-- A panel may give a place a source where that may be given, the panel may change the place, and the ties are enough.
 pub record MayConnect (state : State) (panel : ℕ) (at : Point) (source : Option ℕ) : Type 0 where
   pub connectable : IsConnectable state.plant at source
   pub free : IsFree state panel at
+  pub tied : HasTieFor state at source
 
 -- Every destination but that of this place carries what it carried.
 abbrev pub OthersCarryAsBefore : State → Point → State → Type 0
@@ -110,11 +119,12 @@ abbrev pub StepsKeepThePlant : Type 0
 StepsKeepThePlant =
     (state : State) (request : Request) → (step state request).state.plant ≡ state.plant
 
--- changes of a valid state's plant, made as one, leave a valid state
+-- changes of a valid state's plant for which the ties are enough, made as one, leave a valid state
 abbrev pub ChangesStayValid : Type 0
 ChangesStayValid = (state : State) (changes : List Change)
-    → IsValid state → All (IsChangeOf state.plant) changes
-    → IsValid (record state { crosspoints = applied state.crosspoints changes })
+    → IsValid state → All (IsChangeOf state.plant) changes → NamesOnce changes
+    → are_enough state.plant state.crosspoints changes ≡ true
+    → IsValid (record state { crosspoints = applied state.plant state.crosspoints changes })
 
 -- a connect that its panel may make is made
 abbrev pub ConnectablesAreMade : Type 0

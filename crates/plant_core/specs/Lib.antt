@@ -4,6 +4,8 @@ pub use Rattle.plant_config.specs.Sites
 pub use Rattle.plant_config.specs.Bench
 pub use Rattle.swp08_messages.specs.Text
 pub use Rattle.crosspoint_state.specs.Crosspoints
+pub use Rattle.crosspoint_state.specs.Ties
+pub use Rattle.crosspoint_state.specs.Applied
 pub use Rattle.protects.specs.Owners
 pub use Rattle.salvo_groups.specs.Groups
 pub use Rattle.change_boards.specs.Board

@@ -5,10 +5,11 @@ use Rattle.std.specs.FinMap.{get}
 use Rattle.swp08_messages.specs.declared.point.Point.{Point}
 use Rattle.swp08_messages.specs.declared.message.Message.{Message}
 use Rattle.swp08_messages.specs.declared.message.Message.TheVariants.{Store, Stored, Go, GoDone, EntryAsk, Entry}
-use Rattle.swp08_messages.specs.declared.go_status.GoStatus.TheVariants.{Made, Cleared, Empty, Protected}
+use Rattle.swp08_messages.specs.declared.go_status.GoStatus.TheVariants.{Made, Cleared, Empty, Protected, NoTie}
 use Rattle.swp08_messages.specs.declared.validity.Validity.TheVariants.{NoEntry}
 use Rattle.plant_config.specs.declared.records.Change.{Change}
 use Rattle.crosspoint_state.specs.Crosspoints.{source_of}
+use Rattle.crosspoint_state.specs.Applied.{are_enough}
 use Rattle.protects.specs.Owners.{IsForeign}
 use Rattle.salvo_groups.specs.Limits.{salvo_limit}
 use Rattle.salvo_groups.specs.Groups.{Group, group_of, may_store, stored}
@@ -68,11 +69,16 @@ GoesAreWhole = (state : State) (panel item salvo : ℕ) (clear : Bool) → IsVal
     → (let new : State = (step state (Told panel item (Go clear salvo))).state
     in IsTakenWhole state (group_of state.groups salvo) new ⊎ (new.crosspoints ≡ state.crosspoints))
 
--- a group that has entries, of whose destinations no other device protects any, is taken
+-- The ties are enough for all of a group at once.
+abbrev pub HasTies : State → Group → Type 0
+HasTies state group = are_enough state.plant state.crosspoints group ≡ true
+
+-- a group that has entries, of whose destinations no other device protects any, and for which the ties are enough, is taken
 abbrev pub FreeGroupsAreTaken : Type 0
 FreeGroupsAreTaken = (state : State) (panel item salvo : ℕ)
     → IsValid state → salvo < salvo_limit → group_of state.groups salvo ≢ []
     → ¬ HasForeign state (device_of state.plant panel) (group_of state.groups salvo)
+    → HasTies state (group_of state.groups salvo)
     → IsGone state salvo (step state (Told panel item (Go false salvo)))
 
 -- a group of which another device protects a destination isn't taken, and nothing changes
@@ -81,6 +87,16 @@ KeptGroupsAreRefused = (state : State) (panel item salvo : ℕ)
     → HasForeign state (device_of state.plant panel) (group_of state.groups salvo)
     → step state (Told panel item (Go false salvo))
     ≡ record { state = state; answers = Say (GoDone Protected salvo) ∷ [] }
+
+-- a group that has entries, of whose destinations no other device protects any, isn't taken where the ties aren't enough for
+-- it, and nothing changes
+abbrev pub TielessGroupsAreRefused : Type 0
+TielessGroupsAreRefused = (state : State) (panel item salvo : ℕ)
+    → group_of state.groups salvo ≢ []
+    → ¬ HasForeign state (device_of state.plant panel) (group_of state.groups salvo)
+    → ¬ HasTies state (group_of state.groups salvo)
+    → step state (Told panel item (Go false salvo))
+    ≡ record { state = state; answers = Say (GoDone NoTie salvo) ∷ [] }
 
 -- a group that has entries is cleared
 abbrev pub GroupsAreCleared : Type 0

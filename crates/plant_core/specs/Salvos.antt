@@ -4,14 +4,15 @@ use Rattle.std.specs.Option.{option_map, option_and_then}
 use Rattle.swp08_messages.specs.declared.point.Point.{Point}
 use Rattle.swp08_messages.specs.declared.message.Message.{Message}
 use Rattle.swp08_messages.specs.declared.message.Message.TheVariants.{Stored, GoDone, Entry}
-use Rattle.swp08_messages.specs.declared.go_status.GoStatus.TheVariants.{Made, Cleared, Empty, Protected}
+use Rattle.swp08_messages.specs.declared.go_status.GoStatus.TheVariants.{Made, Cleared, Empty, Protected, NoTie}
 use Rattle.swp08_messages.specs.declared.validity.Validity.{Validity}
 use Rattle.swp08_messages.specs.declared.validity.Validity.TheVariants.{More, Last, NoEntry}
 use Rattle.plant_config.specs.Plant.{PlantData}
 use Rattle.plant_config.specs.Sites.{point_of, source_number_of}
 use Rattle.plant_config.specs.declared.records.Change.{Change}
 use Rattle.plant_config.specs.declared.records.Point as places
-use Rattle.crosspoint_state.specs.Crosspoints.{Crosspoints, is_idle, applied}
+use Rattle.crosspoint_state.specs.Crosspoints.{Crosspoints, is_idle}
+use Rattle.crosspoint_state.specs.Applied.{applied, are_enough}
 use Rattle.salvo_groups.specs.Groups.{Group, group_of, may_store, with_store, with_clear}
 use Rattle.history_lock.specs.Step.{Stepped}
 use Rattle.plant_core.specs.declared.answer.Answer.{Answer}
@@ -40,16 +41,24 @@ moved crosspoints changes =
 -- all changes of a group are made as one, and all panels are given notice of the destinations whose sources changed
 abbrev pub all_changed : State → Group → State
 all_changed state group = record state {
-  crosspoints = applied state.crosspoints group;
+  crosspoints = applied state.plant state.crosspoints group;
   boards = all_marked state.boards (moved state.crosspoints group);
 }
 
--- A group that isn't empty is taken whole where it is permitted, and is empty then.
+-- A group whose destinations no other device protects is taken whole where the ties are enough for all of it at once, and
+-- is empty then.
+abbrev pub taken_by_ties : State → ℕ → Group → Stepped State Answer
+taken_by_ties state salvo group =
+    if are_enough state.plant state.crosspoints group
+    then says (emptied (all_changed state group) salvo) (GoDone Made salvo)
+    else says state (GoDone NoTie salvo)
+
+-- A group that isn't empty is taken whole where it is permitted: protects are looked at before ties.
 abbrev pub taken_whole : State → ℕ → ℕ → Group → Stepped State Answer
 taken_whole state panel salvo [] = says state (GoDone Empty salvo)
 taken_whole state panel salvo (entry ∷ entries) =
     if are_permitted state.owners (device_of state.plant panel) (entry ∷ entries)
-    then says (emptied (all_changed state (entry ∷ entries)) salvo) (GoDone Made salvo)
+    then taken_by_ties state salvo (entry ∷ entries)
     else says state (GoDone Protected salvo)
 
 -- a group that isn't empty is cleared

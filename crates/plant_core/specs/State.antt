@@ -13,6 +13,7 @@ use Rattle.plant_config.specs.Sites.{dest_at, source_at, source_number_of}
 use Rattle.plant_config.specs.declared.records.Change.{Change}
 use Rattle.plant_config.specs.declared.records.Panel.{Panel}
 use Rattle.crosspoint_state.specs.Crosspoints.{Crosspoints, source_of}
+use Rattle.crosspoint_state.specs.Ties.{HaveValidTies}
 use Rattle.crosspoint_state.specs.declared.spot.Spot.{Spot}
 use Rattle.protects.specs.Owners.{Owners}
 use Rattle.salvo_groups.specs.Groups as salvos
@@ -42,6 +43,10 @@ start plant = record {
   groups = salvos.start;
   boards = notices.start (length plant.panels);
 }
+
+-- the tie that brings a destination its source, none where it is parked or its source is local
+abbrev pub tie_of : Crosspoints → ℕ → Option ℕ
+tie_of crosspoints dest = option_and_then (λ spot. spot.tie) (get crosspoints dest)
 
 -- the device that a panel acts for, and whether the panel may lift any protect
 abbrev pub device_of : PlantData → ℕ → ℕ
@@ -79,11 +84,6 @@ AreCrosspoints plant crosspoints =
     (dest : ℕ) (spot : Spot) → get crosspoints dest ≡ Some spot
     → IsCrosspoint plant dest spot.source
 
--- No destination has a tie.
-abbrev pub HaveNoTies : Crosspoints → Type 0
-HaveNoTies crosspoints =
-    (dest : ℕ) (spot : Spot) → get crosspoints dest ≡ Some spot → spot.tie ≡ None
-
 -- Only destinations of the plant are protected, each by a device of a number that panels may have.
 abbrev pub AreOwners : PlantData → Owners → Type 0
 AreOwners plant owners = (dest device : ℕ) → get owners dest ≡ Some device
@@ -94,13 +94,13 @@ pub record IsChangeOf (plant : PlantData) (change : Change) : Type 0 where
   pub dest : change.dest < destinations_of plant
   pub source : IfSome change.source (IsCrosspoint plant change.dest)
 
--- A state is valid where its plant is, each destination carries a source of its own level, and none has a tie. Only
--- destinations of the plant are protected. There are 128 groups, each of changes of the plant. Each panel of the plant has
--- a board, with notices of the plant's destinations, none where the panel has left.
+-- A state is valid where its plant is, each destination carries a source of its own level, and the ties are valid, so that no
+-- tie carries two sources. Only destinations of the plant are protected. There are 128 groups, each of changes of the plant.
+-- Each panel of the plant has a board, with notices of the plant's destinations, none where the panel has left.
 pub record IsValid (state : State) : Type 0 where
   pub is_plant : IsPlant state.plant
   pub is_crosspoint : AreCrosspoints state.plant state.crosspoints
-  pub ties : HaveNoTies state.crosspoints
+  pub ties : HaveValidTies state.plant state.crosspoints
   pub owners : AreOwners state.plant state.owners
   pub groups : AreGroups state.groups
   pub changes : (number : ℕ) → All (IsChangeOf state.plant) (group_of state.groups number)

@@ -1,7 +1,8 @@
-//! Connects: what they ask for, whether they are permitted, and how they are made.
+//! Connects: what they ask for, whether they may be made, and how they are made.
 
-ghost use Rattle.std.specs.Prelude.{◌≡◌, [], ◌∷◌, IfSome};
-ghost use Rattle.crosspoint_state.specs.Crosspoints.{is_idle, applied};
+ghost use Rattle.std.specs.Prelude.{◌≡◌, true, false, [], ◌∷◌, IfSome, IfOk, IfErr};
+ghost use Rattle.crosspoint_state.specs.Crosspoints.{is_idle};
+ghost use Rattle.crosspoint_state.specs.Applied.{applied, are_enough};
 ghost use Rattle.protects.specs.Owners.{allows};
 ghost use Rattle.swp08_messages.specs.declared.message.Message.TheVariants.{Connect};
 ghost use Rattle.plant_core.specs.State.{IsValid, IsChangeOf, device_of};
@@ -13,10 +14,13 @@ use crate::state::PlantState;
 use change_boards::Sort;
 use plant_config::{Change, DestId, PanelNo, SourceId};
 use protects::Protects;
+use std::slice;
 use swp08_messages::{Message, Point};
+use tie_pools::{Exhausted, Planned};
 
 impl PlantState {
-    // Makes a connect where it is in range and permitted, and answers so; else answers with the source that stands.
+    // Makes a connect where it is in range and permitted and the ties are enough, and answers so; else answers with the source
+    // that stands.
     pub(crate) fn connect(&mut self, panel: PanelNo, at: Point, source: Option<u16>) -> Message
         ensures state { self.new ≡ (answered self.old panel (Connect at source)).state }
         ensures answer { SaysJust (answered self.old panel (Connect at source)) result }
@@ -28,7 +32,10 @@ impl PlantState {
         if !self.may_change(panel, change.dest) {
             return self.tally(at);
         }
-        self.make(panel, change);
+        let Ok(planned) = self.plan(&change) else {
+            return self.tally(at);
+        };
+        self.make(panel, &change, planned);
         Message::Connected { at, source }
     }
 
@@ -70,26 +77,45 @@ impl PlantState {
         self.crosspoints.is_idle(change)
     }
 
-    // Makes a panel's change, and gives notice of it to the others, unless it is idle.
-    fn make(&mut self, asker: PanelNo, change: Change)
-        requires { IsChangeOf self.old.plant change }
-        ensures { self.new ≡ changed self.old asker change }
+    // Whether the ties are enough for a change.
+    fn plan(&mut self, change: &Change) -> Result<Planned, Exhausted>
+        requires { IsChangeOf self.old.plant change.now }
+        ensures state { self.new ≡ self.old }
+        ensures enough { IfOk result
+            (λ _. are_enough self.old.plant self.old.crosspoints (change.now ∷ []) ≡ true) }
+        ensures exhausted { IfErr result
+            (λ _. are_enough self.old.plant self.old.crosspoints (change.now ∷ []) ≡ false) }
     {
-        if self.is_idle(&change) {
+        self.ties
+            .plan(&self.plant, &self.crosspoints, slice::from_ref(change))
+    }
+
+    // Makes a panel's change, for which the ties are enough, and gives notice of it to the others, unless it is idle.
+    fn make(&mut self, asker: PanelNo, change: &Change, planned: Planned)
+        requires change { IsChangeOf self.old.plant change.now }
+        requires enough { are_enough self.old.plant self.old.crosspoints
+            (change.now ∷ []) ≡ true }
+        ensures { self.new ≡ changed self.old asker change.now }
+    {
+        if self.is_idle(change) {
             return;
         }
-        self.apply(change);
+        self.apply(change, planned);
         self.give_notice(asker, change.dest, Sort::Source);
     }
 
-    // Makes a change, as a list of one.
-    fn apply(&mut self, change: Change)
-        requires { IsChangeOf self.old.plant change }
+    // Makes a change for which the ties are enough, as a list of one.
+    fn apply(&mut self, change: &Change, planned: Planned)
+        requires change { IsChangeOf self.old.plant change.now }
+        requires enough { are_enough self.old.plant self.old.crosspoints
+            (change.now ∷ []) ≡ true }
         ensures { self.new ≡ record self.old {
-          crosspoints = applied self.old.crosspoints (change ∷ []);
+          crosspoints = applied self.old.plant self.old.crosspoints (change.now ∷ []);
         } }
     {
-        self.crosspoints.set_all(&[change]);
+        let changes = slice::from_ref(change);
+        self.ties
+            .commit(&self.plant, &mut self.crosspoints, planned, changes);
     }
 }
 

@@ -10,8 +10,8 @@ ghost use Rattle.plant_core.specs.Laws.{AnswersAreFew, AnswersAreSayable};
 ghost use Rattle.plant_core.specs.Laws.{AnswersFit, RoomsAreBounded};
 ghost use Rattle.plant_core.specs.Laws.{ItemsHaveNoEffect, PollNumbersHaveNoEffect};
 
-/// The state at the start is valid, every step leaves a valid state, and no step changes the plant. A list of changes
-/// leaves a valid state too.
+/// The state at the start is valid, every step leaves a valid state, and no step changes the plant. A list of changes for
+/// which the ties are enough leaves a valid state too.
 pub fn states_stay_valid()
     ensures first { StartsAreValid }
     ensures stays { StepsStayValid }
@@ -19,8 +19,8 @@ pub fn states_stay_valid()
     ensures changes { ChangesStayValid }
 {}
 
-/// A connect is made exactly where its place is in the plant, its source is parked or in that level, and no device but the
-/// panel's protects the place. Else nothing changes, and the source that stands is the answer.
+/// A connect is made exactly where its place is in the plant, its source is parked or in that level, no device but the
+/// panel's protects the place, and the ties are enough. Else nothing changes, and the source that stands is the answer.
 pub fn connects_are_made()
     ensures made { ConnectablesAreMade }
     ensures not_made { OthersAreNotMade }
@@ -46,8 +46,8 @@ pub fn dumps_tell_what_stands()
 {}
 
 /// A message that asks for a dump has an answer for each destination of its level, the store of an entry at most one, any
-/// other that asks something has one, a poll at most one, and a leave none. From a valid state each answer can be spelled. No request has more answers than
-/// there has to be room for, and no plant asks for room for more than 1,024.
+/// other that asks something has one, a poll at most one, and a leave none. From a valid state each answer can be spelled.
+/// No request has more answers than there has to be room for, and no plant asks for room for more than 1,024.
 pub fn answers_are_few()
     ensures count { AnswersAreFew }
     ensures sayable { AnswersAreSayable }

@@ -1,10 +1,11 @@
 //! Salvo groups: storing an entry, taking or clearing a group whole, and telling an entry.
 
-ghost use Rattle.std.specs.Prelude.{◌≡◌, ◌<◌, IfSome};
+ghost use Rattle.std.specs.Prelude.{◌≡◌, ◌<◌, true, false, IfSome, IfOk, IfErr};
 ghost use Rattle.std.specs.Option.{option_and_then};
 ghost use Rattle.swp08_messages.specs.declared.message.Message.TheVariants.{Go, GoDone};
 ghost use Rattle.plant_config.specs.Plant.{destinations_of, sources_of};
 ghost use Rattle.plant_config.specs.Sites.{source_number_of};
+ghost use Rattle.crosspoint_state.specs.Applied.{are_enough};
 ghost use Rattle.salvo_groups.specs.Limits.{salvo_limit};
 ghost use Rattle.salvo_groups.specs.Groups.{group_of, with_store};
 ghost use Rattle.salvo_groups.specs.Answers.{store_answer};
@@ -22,6 +23,7 @@ use crate::state::PlantState;
 use plant_config::{Change, DestId, PanelNo, SourceId};
 use salvo_groups::Store;
 use swp08_messages::{GoStatus, Message, Point, Validity};
+use tie_pools::{Exhausted, Planned};
 
 // What is told as the place of an entry that a group hasn't.
 const NO_PLACE: Point = Point {
@@ -49,7 +51,7 @@ impl PlantState {
         }
     }
 
-    // Clears a group, or takes it whole where it is permitted, and says which it was.
+    // Clears a group, or takes it whole where it is permitted and the ties are enough, and says which it was.
     pub(crate) fn go(&mut self, panel: PanelNo, clear: bool, salvo: u8) -> GoStatus
         requires { salvo < salvo_limit }
         ensures state { self.new ≡ (answered self.old panel (Go clear salvo)).state }
@@ -66,7 +68,10 @@ impl PlantState {
         if !self.may_take(panel, salvo) {
             return GoStatus::Protected;
         }
-        self.take_whole(salvo);
+        let Ok(planned) = self.plan_group(salvo) else {
+            return GoStatus::NoTie;
+        };
+        self.take_whole(salvo, planned);
         GoStatus::Made
     }
 
@@ -100,16 +105,33 @@ impl PlantState {
         self.groups.clear(salvo);
     }
 
-    // Makes all changes of a group as one, gives notice of the sources that it changes to all panels, and empties it.
-    fn take_whole(&mut self, salvo: u8)
+    // Whether the ties are enough for all changes of a group at once.
+    fn plan_group(&mut self, salvo: u8) -> Result<Planned, Exhausted>
         requires { salvo < salvo_limit }
+        ensures state { self.new ≡ self.old }
+        ensures enough { IfOk result (λ _. are_enough self.old.plant self.old.crosspoints
+            (group_of self.old.groups salvo) ≡ true) }
+        ensures exhausted { IfErr result (λ _. are_enough self.old.plant self.old.crosspoints
+            (group_of self.old.groups salvo) ≡ false) }
+    {
+        let entries = self.groups.entries(salvo);
+        self.ties.plan(&self.plant, &self.crosspoints, entries)
+    }
+
+    // Makes all changes of a group as one, for which the ties are enough, gives notice of the sources that it changes to all
+    // panels, and empties it.
+    fn take_whole(&mut self, salvo: u8, planned: Planned)
+        requires group { salvo < salvo_limit }
+        requires enough { are_enough self.old.plant self.old.crosspoints
+            (group_of self.old.groups salvo) ≡ true }
         ensures { self.new ≡ emptied
             (all_changed self.old (group_of self.old.groups salvo)) salvo }
     {
         let panels = self.panel_count();
         let entries = self.groups.entries(salvo);
         notify_moved(&mut self.notices, panels, &self.crosspoints, entries);
-        self.crosspoints.set_all(entries);
+        self.ties
+            .commit(&self.plant, &mut self.crosspoints, planned, entries);
         self.groups.clear(salvo);
     }
 

@@ -1,7 +1,7 @@
 //! What is true of salvo groups in every valid state: a group is taken whole, or no crosspoint changes.
 
 ghost use Rattle.plant_core.specs.SalvoLaws.{GoesAreWhole, FreeGroupsAreTaken};
-ghost use Rattle.plant_core.specs.SalvoLaws.{KeptGroupsAreRefused};
+ghost use Rattle.plant_core.specs.SalvoLaws.{KeptGroupsAreRefused, TielessGroupsAreRefused};
 ghost use Rattle.plant_core.specs.SalvoLaws.{GroupsAreCleared, EmptyGroupsStay};
 ghost use Rattle.plant_core.specs.SalvoLaws.{EntriesAreStored, OtherEntriesAreNot};
 ghost use Rattle.plant_core.specs.SalvoLaws.{EntriesAreTold, OthersAreNoEntries};
@@ -12,11 +12,13 @@ pub fn goes_are_whole()
     ensures { GoesAreWhole }
 {}
 
-/// A group is taken, and is empty then, exactly where it has entries and no other device protects one of its destinations.
-/// Else the answer says why, and nothing changes.
+/// A group is taken, and is empty then, exactly where it has entries, no other device protects one of its destinations, and
+/// the ties are enough for all of it at once. Else the answer says why, and nothing changes: a protect comes before the
+/// ties.
 pub fn goes_are_answered()
     ensures taken { FreeGroupsAreTaken }
     ensures kept { KeptGroupsAreRefused }
+    ensures tieless { TielessGroupsAreRefused }
     ensures cleared { GroupsAreCleared }
     ensures empty { EmptyGroupsStay }
 {}

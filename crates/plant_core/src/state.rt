@@ -1,6 +1,6 @@
 //! A plant and what stands in it, and its step.
 
-ghost use Rattle.std.specs.Prelude.{◌≡◌, ◌<◌, ◌≤◌, [], length, All, IfOk, IfSome};
+ghost use Rattle.std.specs.Prelude.{◌≡◌, ◌<◌, ◌≤◌, [], length, All, Option, IfOk, IfSome};
 ghost use Rattle.std.specs.FinMap.{get};
 ghost use Rattle.swp08_messages.specs.Text.{InRange, kind_of};
 ghost use Rattle.swp08_messages.specs.declared.message.Message.TheVariants.{Tally};
@@ -8,7 +8,7 @@ ghost use Rattle.swp08_messages.specs.declared.message.MessageKind.TheVariants a
 ghost use Rattle.plant_config.specs.Plant.{destinations_of};
 ghost use Rattle.plant_config.specs.Limits.{last_device};
 ghost use Rattle.crosspoint_state.specs.Crosspoints.{source_of};
-ghost use Rattle.plant_core.specs.State.{start, standing, device_of, Fits, IsValid};
+ghost use Rattle.plant_core.specs.State.{start, tie_of, standing, device_of, Fits, IsValid};
 ghost use Rattle.plant_core.specs.Step.{step, answered, dest_of};
 ghost use Rattle.plant_core.specs.Answer.{IsSayable, IsAnswerCount, room_of};
 ghost use Rattle.plant_core.specs.AnswerInside.{AsksOne, SaysAtMost};
@@ -19,18 +19,20 @@ use crate::request::Request;
 use change_boards::Notices;
 use crosspoint_state::Crosspoints;
 use history_lock::OutBox;
-use plant_config::{DestId, PanelNo, Plant, SourceId};
+use plant_config::{DestId, PanelNo, Plant, SourceId, TieNo};
 use protects::Protects;
 use salvo_groups::Groups;
 use std::alloc::{AllocError, Global};
 use std::marker::Model;
 use swp08_messages::{Message, Point};
+use tie_pools::Ties;
 
 /// A plant and what stands in it.
 #[derive(Debug, Drop)]
 pub struct PlantState {
     pub(crate) plant: Plant,
     pub(crate) crosspoints: Crosspoints,
+    pub(crate) ties: Ties,
     pub(crate) protects: Protects,
     pub(crate) groups: Groups,
     pub(crate) notices: Notices,
@@ -42,8 +44,8 @@ impl Model for PlantState {
     ghost use Rattle.protects.specs.Owners as owned;
     ghost use Rattle.salvo_groups.specs.Groups as salvos;
     ghost use Rattle.change_boards.specs.Board as board;
-    ghost use Rattle.plant_core.specs.State.{State, IsValid};
-    ghost use Rattle.plant_core.specs.StateInside.{state_of};
+    ghost use Rattle.plant_core.specs.State.{State};
+    ghost use Rattle.plant_core.specs.StateInside.{state_of, IsKept};
 
     ghost Value = { State };
 
@@ -58,8 +60,8 @@ impl Model for PlantState {
     ghost view = { λ state. state_of state.plant state.crosspoints state.protects state.groups
         state.notices };
 
-    ghost invariant = { λ state. IsValid (state_of state.plant state.crosspoints state.protects
-        state.groups state.notices) };
+    ghost invariant = { λ state. IsKept (state_of state.plant state.crosspoints state.protects
+        state.groups state.notices) state.ties };
 }
 
 impl PlantState {
@@ -69,6 +71,7 @@ impl PlantState {
         ensures { IfOk result (λ state. state ≡ start plant.now) }
     {
         let crosspoints = Crosspoints::new(alloc)?;
+        let ties = Ties::new(alloc, plant)?;
         let protects = Protects::new(alloc)?;
         let groups = Groups::new(alloc)?;
         let notices = Notices::new(alloc, plant)?;
@@ -76,6 +79,7 @@ impl PlantState {
         Ok(PlantState {
             plant,
             crosspoints,
+            ties,
             protects,
             groups,
             notices,
@@ -96,6 +100,14 @@ impl PlantState {
         ensures valid { IsValid self.now }
     {
         self.crosspoints.source_at(dest)
+    }
+
+    /// The tie that brings a destination its source, `None` where it is parked or its source is local.
+    pub fn tie_at(&self, dest: DestId) -> Option<TieNo>
+        ensures tie { result ≡ tie_of self.now.crosspoints dest }
+        ensures valid { IsValid self.now }
+    {
+        self.crosspoints.at(dest)?.tie
     }
 
     /// The device that protects a destination, 0 to 1023, `None` where it is unprotected.

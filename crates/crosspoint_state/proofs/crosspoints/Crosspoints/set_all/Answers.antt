@@ -1,11 +1,17 @@
-use Rattle.std.proofs.Common.{◌+◌, drop, ap, ◌∙◌}
-use Rattle.crosspoint_state.specs.Crosspoints.{applied}
-use Rattle.crosspoint_state.proofs.AppliedLemmas.{applied_more}
+use Rattle.std.proofs.Common.{◌+◌, drop, get_or, ap, ◌∙◌, arith}
+use Rattle.crosspoint_state.specs.CrosspointsInside.{made_with, set_with}
+use Rattle.crosspoint_state.proofs.MadeLemmas.{set_more}
 use Rattle.crosspoint_state.proofs.crosspoints.Crosspoints.set_all.Goals as goal
 
-pub loop-change-preserved : goal.loop-change-preserved
-loop-change-preserved c =
-    let i = c.loop-change.change-index in
-    ap (λ crosspoints. applied crosspoints (drop (i + 1) c.args.changes.now)) c.set_one.ensures
-    ∙ applied_more c.loop-change.self c.args.changes.now i c.change-item.result c.requires.once c.loop-change-test.true c.change-item.is
-    ∙ c.loop-change.invariant
+pub loop-index-preserved : goal.loop-index-preserved
+loop-index-preserved c =
+    let i = c.loop-index.index in
+    let changes = c.args.changes.now in
+    let ties = c.args.ties.now in
+    let change = c.index-changes-index.result in
+    let tie = c.index-ties-index.result in
+    ap (λ crosspoints. set_with crosspoints (drop (i + 1) changes) (drop (i + 1) ties)) c.set_one.ensures
+    ∙ ap (λ change. set_with (made_with c.loop-index.self change tie) (drop (i + 1) changes) (drop (i + 1) ties)) c.index-changes-index.is
+    ∙ ap (λ tie. set_with (made_with c.loop-index.self (get_or changes i change) tie) (drop (i + 1) changes) (drop (i + 1) ties)) c.index-ties-index.is
+    ∙ set_more c.loop-index.self changes ties i change tie c.loop-index-test.true (omega (arith, c.loop-index-test.true, c.requires.beside))
+    ∙ c.loop-index.invariant

@@ -1,7 +1,7 @@
 use Rattle.std.proofs.Common.{◌≡◌, drop}
-use Rattle.crosspoint_state.specs.Crosspoints.{applied}
+use Rattle.crosspoint_state.specs.CrosspointsInside.{set_with}
 use Rattle.crosspoint_state.proofs.crosspoints.Crosspoints.set_all.Given as goal
 
-abbrev pub invariant-loop-change : goal.invariant-loop-change
-invariant-loop-change l =
-    applied l.self (drop l.change-index l.changes) ≡ applied l.initial.self l.changes
+abbrev pub invariant-loop-index : goal.invariant-loop-index
+invariant-loop-index l =
+    set_with l.self (drop l.index l.changes) (drop l.index l.ties) ≡ set_with l.initial.self l.changes l.ties

@@ -6,7 +6,7 @@ use Rattle.plant_core.proofs.state.PlantState.dest_count.Goals as goal
 pub overflow_cast-result : goal.overflow_cast-result
 overflow_cast-result c =
     let within = level_within c.self.inside.plant c.args.matrix c.args.level c.in-Some.at c.in-Some.ensures.at in
-    omega (arith, within, room_within c.self.inside.plant c.self.invariant.is_plant)
+    omega (arith, within, room_within c.self.inside.plant c.self.invariant.valid.is_plant)
 
 pub returns-in-Some-clause-within : goal.returns-in-Some-clause-within
 returns-in-Some-clause-within c =

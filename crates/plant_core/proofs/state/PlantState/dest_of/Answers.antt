@@ -7,4 +7,4 @@ use Rattle.plant_core.proofs.state.PlantState.dest_of.Goals as goal
 pub returns-clause-below : goal.returns-clause-below
 returns-clause-below c =
     subst (λ (state : State). IfSome c.dest_of.result (λ dest. dest < destinations_of state.plant)) c.self.view_is
-    (found-below c.self.inside.plant _ _ _ c.dest_of.result c.self.invariant.is_plant c.dest_of.ensures)
+    (found-below c.self.inside.plant _ _ _ c.dest_of.result c.self.invariant.valid.is_plant c.dest_of.ensures)

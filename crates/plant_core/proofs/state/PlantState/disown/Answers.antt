@@ -4,4 +4,7 @@ use Rattle.plant_core.proofs.state.PlantState.disown.Goals as goal
 
 pub invariant_of-self : goal.invariant_of-self
 invariant_of-self c =
-    rw c.lift.ensures.owners (IsValid-owners (state_of c.self.inside.plant c.self.inside.crosspoints c.self.inside.protects c.self.inside.groups c.self.inside.notices) _ c.self.invariant (AreOwners-lifted c.self.inside.plant c.self.inside.protects c.args.device c.args.master c.args.dest c.self.invariant.owners))
+    record {
+      valid = rw c.lift.ensures.owners (IsValid-owners (state_of c.self.inside.plant c.self.inside.crosspoints c.self.inside.protects c.self.inside.groups c.self.inside.notices) _ c.self.invariant.valid (AreOwners-lifted c.self.inside.plant c.self.inside.protects c.args.device c.args.master c.args.dest c.self.invariant.valid.owners));
+      counted = c.self.invariant.counted;
+    }

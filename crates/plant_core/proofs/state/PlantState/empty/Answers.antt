@@ -3,4 +3,8 @@ use Rattle.plant_core.proofs.Validity.{IsValid-clear}
 use Rattle.plant_core.proofs.state.PlantState.empty.Goals as goal
 
 pub invariant_of-self : goal.invariant_of-self
-invariant_of-self c = rw c.clear.ensures (IsValid-clear (state_of c.self.inside.plant c.self.inside.crosspoints c.self.inside.protects c.self.inside.groups c.self.inside.notices) c.args.salvo c.self.invariant)
+invariant_of-self c =
+    record {
+      valid = rw c.clear.ensures (IsValid-clear (state_of c.self.inside.plant c.self.inside.crosspoints c.self.inside.protects c.self.inside.groups c.self.inside.notices) c.args.salvo c.self.invariant.valid);
+      counted = c.self.invariant.counted;
+    }

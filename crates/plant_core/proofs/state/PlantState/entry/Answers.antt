@@ -17,5 +17,5 @@ source-below plant dest (Some source) is of = IsCrosspoint-below plant dest sour
 pub number_of-requires : goal.number_of-requires
 number_of-requires c =
     let state : State = state_of c.self.inside.plant c.self.inside.crosspoints c.self.inside.protects c.self.inside.groups c.self.inside.notices in
-    let is : IsChangeOf state.plant c.in-Some.entry = entry-IsChangeOf state c.args.salvo _ c.in-Some.entry c.self.invariant (sym c.in-Some.ensures.entry) in
-    rw (← c.self.view_is) (source-below state.plant c.in-Some.entry.dest c.in-Some.entry.source c.self.invariant.is_plant is.source)
+    let is : IsChangeOf state.plant c.in-Some.entry = entry-IsChangeOf state c.args.salvo _ c.in-Some.entry c.self.invariant.valid (sym c.in-Some.ensures.entry) in
+    rw (← c.self.view_is) (source-below state.plant c.in-Some.entry.dest c.in-Some.entry.source c.self.invariant.valid.is_plant is.source)

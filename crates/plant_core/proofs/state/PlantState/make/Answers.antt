@@ -9,5 +9,5 @@ pub returns : goal.returns
 returns c =
     let busy = sym c.is_idle.ensures.idle ∙ c.if-is_idle.false in
     c.give_notice.ensures
-    ∙ ap (λ (state : State). record state { boards = marked_for_others state.boards c.args.asker c.args.change.dest Source }) c.apply.ensures
-    ∙ changed-busy c.args.self.now c.args.asker c.args.change busy
+    ∙ ap (λ (state : State). record state { boards = marked_for_others state.boards c.args.asker c.args.change.now.dest Source }) c.apply.ensures
+    ∙ changed-busy c.args.self.now c.args.asker c.args.change.now busy

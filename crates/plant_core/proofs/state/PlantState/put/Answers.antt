@@ -5,4 +5,7 @@ use Rattle.plant_core.proofs.state.PlantState.put.Goals as goal
 pub invariant_of-self : goal.invariant_of-self
 invariant_of-self c =
     let is = rw (← c.self.view_is) at c.requires.change in
-    rw c.store.ensures.groups (IsValid-store (state_of c.self.inside.plant c.self.inside.crosspoints c.self.inside.protects c.self.inside.groups c.self.inside.notices) c.args.salvo c.args.change c.self.invariant is)
+    record {
+      valid = rw c.store.ensures.groups (IsValid-store (state_of c.self.inside.plant c.self.inside.crosspoints c.self.inside.protects c.self.inside.groups c.self.inside.notices) c.args.salvo c.args.change c.self.invariant.valid is);
+      counted = c.self.invariant.counted;
+    }

@@ -1,0 +1,9 @@
+use Rattle.crosspoint_state.specs.Ties.{HaveValidTies}
+use Rattle.tie_pools.specs.Counts.{AreCountsOf}
+use Rattle.tie_pools.proofs.tests.fill.Given as goal
+
+abbrev pub invariant-loop-number : goal.invariant-loop-number
+invariant-loop-number g l = record {
+  counts : AreCountsOf l.plant l.points l.ties;
+  valid : HaveValidTies l.plant l.points;
+}

@@ -1,0 +1,12 @@
+use Rattle.std.proofs.Common.{◌≡◌, ◌<◌, Some, sym, ap, subst, ◌∙◌}
+use Rattle.std.specs.Option.{IfSome}
+use Rattle.tie_pools.specs.Counts.{tie_limit}
+use Rattle.tie_pools.specs.HoldingsInside.{tie_for}
+use Rattle.tie_pools.specs.CommitInside.{holdings_of}
+use Rattle.tie_pools.proofs.ties.Ties.come.Goals as goal
+
+pub hold-requires-clause-tie : goal.hold-requires-clause-tie
+hold-requires-clause-tie c =
+    let found : tie_for (holdings_of c.args.self.now) c.args.route.pool c.args.size c.args.route.way ≡ Some c.in_ok-tie.tie =
+    ap (λ counts. tie_for (holdings_of counts) c.args.route.pool c.args.size c.args.route.way) (sym c.self.view_is) ∙ sym c.in_ok-tie.ensures in
+    subst (λ found. IfSome found (λ tie. tie < tie_limit)) found c.requires.tie

@@ -1,0 +1,11 @@
+pub use Rattle.crosspoint_state.specs.Crosspoints
+pub use Rattle.crosspoint_state.specs.Ties
+pub use Rattle.crosspoint_state.specs.Applied
+pub mod Ways
+pub mod WaysInside
+pub mod Counts
+pub mod CountsInside
+pub mod DemandInside
+pub mod HoldingsInside
+pub mod CommitInside
+pub mod Plans

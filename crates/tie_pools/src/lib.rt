@@ -1,0 +1,20 @@
+//! The ties that bring remote sources to destinations. A list of changes is planned first, by whether the ties are enough
+//! for all of it at once, and then made: a source that comes already shares its tie, and another one takes the lowest free.
+//! All memory is taken at the start, and no call looks at a destination that it isn't given.
+#![tactic(auto)]
+
+mod commit;
+mod demand;
+#[cfg(test)]
+mod example;
+mod holdings;
+mod plan;
+mod planned;
+mod route;
+#[cfg(test)]
+mod tests;
+mod ties;
+mod ways;
+
+pub use planned::{Exhausted, Planned};
+pub use ties::Ties;

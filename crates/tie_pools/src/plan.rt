@@ -1,0 +1,122 @@
+//! A list of changes is planned: whether the ties are enough for it.
+
+ghost use Rattle.std.specs.Prelude.{◌≡◌, true, IfOk, IfErr};
+ghost use Rattle.plant_config.specs.IsPlant.{IsPlant};
+ghost use Rattle.crosspoint_state.specs.Crosspoints.{NamesOnce};
+ghost use Rattle.crosspoint_state.specs.Applied.{put_all, are_enough};
+ghost use Rattle.crosspoint_state.specs.Laws.{AreInside};
+ghost use Rattle.tie_pools.specs.Counts.{AreCountsOf, AreWays};
+ghost use Rattle.tie_pools.specs.DemandInside.{AreDemandOf, HasRoomFor};
+ghost use Rattle.tie_pools.specs.DemandInside.{route_of, left, taken, moved};
+ghost use Rattle.tie_pools.specs.Plans.{IsExhausted};
+
+use crate::demand::Demand;
+use crate::planned::{Exhausted, Planned};
+use crate::route::route_of;
+use crate::ties::Ties;
+use crate::ways::Ways;
+use crosspoint_state::Crosspoints;
+use plant_config::{Change, Plant, SourceId};
+
+impl Ties {
+    /// Whether the ties are enough for a list of changes, with all new sources put in at once; else the lowest pool that
+    /// isn't. Nothing is changed.
+    pub fn plan(
+        &mut self,
+        plant: &Plant,
+        points: &Crosspoints,
+        changes: &[Change],
+    ) -> Result<Planned, Exhausted>
+        requires dests { AreInside plant.now changes.now }
+        requires once { NamesOnce changes.now }
+        requires counts { AreCountsOf plant.now points.now self.old }
+        ensures enough { IfOk result (λ _. are_enough plant.now points.now changes.now ≡ true) }
+        ensures exhausted { IfErr result (IsExhausted plant.now points.now changes.now) }
+        ensures counts { AreCountsOf plant.now points.now self.new }
+    {
+        // A plant without pools needs no ties.
+        if plant.pools().is_empty() {
+            return Ok(Planned::new());
+        }
+        put_in(&mut self.demand, &self.ways, plant, points, changes);
+        let over = self.demand.over(plant);
+        take_out(&mut self.demand, &self.ways, plant, points, changes);
+        match over {
+            Some(fault) => Err(fault),
+            None => Ok(Planned::new()),
+        }
+    }
+}
+
+// Puts the new sources of all changes into the demand.
+fn put_in(demand: &mut Demand, ways: &Ways, plant: &Plant, points: &Crosspoints, changes: &[Change])
+    requires plant { IsPlant plant.now }
+    requires ways { AreWays plant.now ways.now }
+    requires dests { AreInside plant.now changes.now }
+    requires once { NamesOnce changes.now }
+    requires demand { AreDemandOf plant.now points.now demand.old }
+    ensures { AreDemandOf plant.now (put_all points.now changes.now) demand.new }
+{
+    for change in changes {
+        let source = points.source_at(change.dest);
+        shift(demand, ways, plant, source, change.source);
+    }
+}
+
+// Takes the new sources of all changes out of the demand again.
+fn take_out(
+    demand: &mut Demand,
+    ways: &Ways,
+    plant: &Plant,
+    points: &Crosspoints,
+    changes: &[Change],
+)
+    requires plant { IsPlant plant.now }
+    requires ways { AreWays plant.now ways.now }
+    requires dests { AreInside plant.now changes.now }
+    requires once { NamesOnce changes.now }
+    requires demand { AreDemandOf plant.now (put_all points.now changes.now) demand.old }
+    ensures { AreDemandOf plant.now points.now demand.new }
+{
+    for change in changes {
+        let source = points.source_at(change.dest);
+        shift(demand, ways, plant, change.source, source);
+    }
+}
+
+// Moves the demand of a destination from one source to another.
+fn shift(
+    demand: &mut Demand,
+    ways: &Ways,
+    plant: &Plant,
+    from: Option<SourceId>,
+    to: Option<SourceId>,
+)
+    requires ways { AreWays plant.now ways.now }
+    requires room { HasRoomFor (left demand.old (route_of plant.now from)) (route_of plant.now to) }
+    ensures { demand.new ≡ moved plant.now demand.old from to }
+{
+    leave(demand, ways, plant, from);
+    take(demand, ways, plant, to);
+}
+
+// A destination leaves a source.
+fn leave(demand: &mut Demand, ways: &Ways, plant: &Plant, source: Option<SourceId>)
+    requires { AreWays plant.now ways.now }
+    ensures { demand.new ≡ left demand.old (route_of plant.now source) }
+{
+    if let Some(route) = route_of(ways, plant, source) {
+        demand.unfeed(route.pool, route.way);
+    }
+}
+
+// A destination takes a source.
+fn take(demand: &mut Demand, ways: &Ways, plant: &Plant, source: Option<SourceId>)
+    requires ways { AreWays plant.now ways.now }
+    requires room { HasRoomFor demand.old (route_of plant.now source) }
+    ensures { demand.new ≡ taken demand.old (route_of plant.now source) }
+{
+    if let Some(route) = route_of(ways, plant, source) {
+        demand.feed(route.pool, route.way);
+    }
+}
