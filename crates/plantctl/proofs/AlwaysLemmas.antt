@@ -6,19 +6,19 @@ use Rattle.ctl_io.specs.Held.{Held, Unshown, NoFile, Holds}
 use Rattle.plant_config.specs.Plant.{PlantData}
 use Rattle.plant_config.specs.Bench.{bench}
 use Rattle.plant_config.specs.PlantOfText.{plant_of_text}
-use Rattle.record_replay.specs.Replay.{IsReplay}
+use Rattle.record_replay.specs.TiedReplay.{IsTiedReplay}
 use Rattle.record_replay.proofs.IsReplayLemmas.{apart}
 use Rattle.plantctl.specs.World.{World}
-use Rattle.plantctl.specs.End.{End, Done, NoMemory, Usage, FileMissing, FileFault, PlantRefused, PlantTooLong, NotBuilt, LineRefused, ScriptTooLong, status_of, is_file_fault}
+use Rattle.plantctl.specs.End.{End, Done, NoMemory, Usage, FileMissing, FileFault, PlantRefused, PlantTooLong, LineRefused, ScriptTooLong, status_of, is_file_fault}
 use Rattle.plantctl.specs.Words.{Command, Check, Replay, plant_word, Ask}
 use Rattle.plantctl.specs.OpensPlant.{longest_plant, is_bench, OpensBench, OpensFile, OpensPlant, next_opening}
 use Rattle.plantctl.specs.Check.{CheckEnds}
-use Rattle.plantctl.specs.Replay.{IfFits, ReplayEnds, has_remotes}
-use Rattle.plantctl.specs.Asked.{AskFile, ShowsFile, ShowsPlant, AskShown, AskHeld, LeadsTo}
+use Rattle.plantctl.specs.Replay.{IfFits, ReplayEnds}
+use Rattle.plantctl.specs.Asked.{AskFile, ShowsFile, ShowsPlant, AskHeld, LeadsTo}
 use Rattle.plantctl.specs.Run.{RunEnds}
 use Rattle.plantctl.specs.Statuses.{IsRefusedPlant, IsAccepted, IsRefused, WasKept}
 use Rattle.plantctl.proofs.AskedLemmas.{same_command, same_word, same_name, no_check, opened_of}
-use Rattle.plantctl.proofs.CauseLemmas.{Came, at_words, at_plant, in_check, at_remotes, in_replay, came, status_or_7}
+use Rattle.plantctl.proofs.CauseLemmas.{Came, at_words, at_plant, in_check, in_replay, came, status_or_7}
 
 -- Of the end of a run: that it has this status, or that the run was kept from another end.
 abbrev IsOrKept : ℕ → World → World → End → Type 0
@@ -44,7 +44,6 @@ missing_file name NoMemory opens = absurd opens
 missing_file name Usage opens = absurd opens
 missing_file name (PlantRefused fault) opens = absurd opens
 missing_file name PlantTooLong opens = absurd opens
-missing_file name NotBuilt opens = absurd opens
 missing_file name (LineRefused number) opens = absurd opens
 missing_file name ScriptTooLong opens = absurd opens
 
@@ -69,7 +68,6 @@ refused_file name text before now PlantTooLong refused count opens = inl refl
 refused_file name text before now (FileMissing missing) refused count opens = absurd opens.1
 refused_file name text before now (Done output) refused count opens = absurd opens
 refused_file name text before now Usage refused count opens = absurd opens
-refused_file name text before now NotBuilt refused count opens = absurd opens
 refused_file name text before now (LineRefused number) refused count opens = absurd opens
 refused_file name text before now ScriptTooLong refused count opens = absurd opens
 
@@ -101,7 +99,6 @@ kept_file name (Holds text) plant before now (PlantRefused fault) shows count op
 kept_file name (Holds text) plant before now PlantTooLong shows count opens = absurd (omega (arith, shows.0, opens))
 kept_file name (Holds text) plant before now (Done output) shows count opens = absurd opens
 kept_file name (Holds text) plant before now Usage shows count opens = absurd opens
-kept_file name (Holds text) plant before now NotBuilt shows count opens = absurd opens
 kept_file name (Holds text) plant before now (LineRefused number) shows count opens = absurd opens
 kept_file name (Holds text) plant before now ScriptTooLong shows count opens = absurd opens
 
@@ -113,7 +110,6 @@ kept_bench before now (FileMissing name) opens = absurd opens
 kept_bench before now (FileFault name) opens = absurd opens
 kept_bench before now (PlantRefused fault) opens = absurd opens
 kept_bench before now PlantTooLong opens = absurd opens
-kept_bench before now NotBuilt opens = absurd opens
 kept_bench before now (LineRefused number) opens = absurd opens
 kept_bench before now ScriptTooLong opens = absurd opens
 
@@ -154,7 +150,6 @@ checked plant before now (FileMissing name) ends = absurd ends
 checked plant before now (FileFault name) ends = absurd ends
 checked plant before now (PlantRefused fault) ends = absurd ends
 checked plant before now PlantTooLong ends = absurd ends
-checked plant before now NotBuilt ends = absurd ends
 checked plant before now (LineRefused number) ends = absurd ends
 checked plant before now ScriptTooLong ends = absurd ends
 
@@ -164,48 +159,26 @@ checked_of words before now end word plant ask shows count (at_words none is) = 
 checked_of words before now end word plant ask shows count (at_plant command ask' opens) =
     inr (kept_at_word words before now end word plant (Check word) command refl ask ask' shows count opens)
 checked_of words before now end word plant ask shows count (in_check plant' by ends) = checked plant' before now end ends
-checked_of words before now end word plant ask shows count (at_remotes plant' name by ends) = no_check words by.word word name by.ask ask
-checked_of words before now end word plant ask shows count (in_replay plant' name held by ends) = no_check words by.on.word word name by.on.ask ask
+checked_of words before now end word plant ask shows count (in_replay plant' name held by ends) = no_check words by.word word name by.ask ask
 
 pub check_always : (words : List (List ℕ)) (before now : World) (status : ℕ) (word : List ℕ) (plant : PlantData) → Ask words (Check word) → ShowsPlant word before plant → RunEnds words before now status
     → (status ≡ 0) ⊎ WasKept before now status
 check_always words before now status word plant ask shows run =
     by_end 0 words before now status run (checked_of words before now run.end word plant ask shows run.file_faults (came words before now run.end run.cause))
 
--- a plant that isn't built
-
-not_built_of : (words : List (List ℕ)) (before now : World) (end : End) (plant : PlantData) (name : List ℕ) → AskShown words before plant name true
-    → now.file_faults ≡ counted (is_file_fault end) before.file_faults → Came words before end → IsOrKept 4 before now end
-not_built_of words before now end plant name asks count (at_words none is) = absurd (none (Replay asks.word name) asks.ask)
-not_built_of words before now end plant name asks count (at_plant command ask opens) =
-    inr (kept_at_word words before now end asks.word plant (Replay asks.word name) command refl asks.ask ask asks.shows count opens)
-not_built_of words before now end plant name asks count (in_check plant' by ends) = no_check words asks.word by.word name asks.ask by.ask
-not_built_of words before now end plant name asks count (at_remotes plant' name' by is) = inl (ap status_of is)
-not_built_of words before now end plant name asks count (in_replay plant' name' held by ends) =
-    let same = same_plant before asks.word by.on.word plant plant' (same_word words by.on.word asks.word name' name by.on.ask asks.ask) asks.shows by.on.leads in
-    absurd (let clash : true ≡ false = sym asks.remotes_are ∙ ap has_remotes (sym same) ∙ by.on.remotes_are in cc)
-
-pub not_built_always : (words : List (List ℕ)) (before now : World) (status : ℕ) (plant : PlantData) (name : List ℕ) → AskShown words before plant name true → RunEnds words before now status
-    → (status ≡ 4) ⊎ WasKept before now status
-not_built_always words before now status plant name asks run =
-    by_end 4 words before now status run (not_built_of words before now run.end plant name asks run.file_faults (came words before now run.end run.cause))
-
 -- a replay
 
 replayed_of : (words : List (List ℕ)) (before now : World) (end : End) (plant : PlantData) (name : List ℕ) (held : Held) → AskHeld words before plant name held
     → now.file_faults ≡ counted (is_file_fault end) before.file_faults → Came words before end → ReplayEnds plant name held end ⊎ WasKept before now (status_of end)
-replayed_of words before now end plant name held asks count (at_words none is) = absurd (none (Replay asks.on.word name) asks.on.ask)
+replayed_of words before now end plant name held asks count (at_words none is) = absurd (none (Replay asks.word name) asks.ask)
 replayed_of words before now end plant name held asks count (at_plant command ask opens) =
-    inr (kept_at_word words before now end asks.on.word plant (Replay asks.on.word name) command refl asks.on.ask ask asks.on.shows count opens)
-replayed_of words before now end plant name held asks count (in_check plant' by ends) = no_check words asks.on.word by.word name asks.on.ask by.ask
-replayed_of words before now end plant name held asks count (at_remotes plant' name' by is) =
-    let same = same_plant before asks.on.word by.word plant plant' (same_word words by.word asks.on.word name' name by.ask asks.on.ask) asks.on.shows by.leads in
-    absurd (let clash : true ≡ false = sym by.remotes_are ∙ ap has_remotes same ∙ asks.on.remotes_are in cc)
+    inr (kept_at_word words before now end asks.word plant (Replay asks.word name) command refl asks.ask ask asks.shows count opens)
+replayed_of words before now end plant name held asks count (in_check plant' by ends) = no_check words asks.word by.word name asks.ask by.ask
 replayed_of words before now end plant name held asks count (in_replay plant' name' held' by ends) =
-    let word = same_word words by.on.word asks.on.word name' name by.on.ask asks.on.ask in
-    let script = same_name words by.on.word asks.on.word name' name by.on.ask asks.on.ask in
-    let same = same_plant before asks.on.word by.on.word plant plant' word asks.on.shows by.on.leads in
-    let there : held' ≡ held = by.held_is ∙ ap (λ (n : List ℕ). before.held n (next_opening by.on.word n)) script ∙ ap (λ (w : List ℕ). before.held name (next_opening w name)) word ∙ asks.held_is in
+    let word = same_word words by.word asks.word name' name by.ask asks.ask in
+    let script = same_name words by.word asks.word name' name by.ask asks.ask in
+    let same = same_plant before asks.word by.word plant plant' word asks.shows by.leads in
+    let there : held' ≡ held = by.held_is ∙ ap (λ (n : List ℕ). before.held n (next_opening by.word n)) script ∙ ap (λ (w : List ℕ). before.held name (next_opening w name)) word ∙ asks.held_is in
     inl
     (subst (λ (h : Held). ReplayEnds plant name h end) there
     (subst (λ (p : PlantData). ReplayEnds p name held' end) same (subst (λ (n : List ℕ). ReplayEnds plant' n held' end) script ends)))
@@ -219,7 +192,6 @@ missing_script plant name before now NoMemory (inl ends) = absurd ends
 missing_script plant name before now Usage (inl ends) = absurd ends
 missing_script plant name before now (PlantRefused fault) (inl ends) = absurd ends
 missing_script plant name before now PlantTooLong (inl ends) = absurd ends
-missing_script plant name before now NotBuilt (inl ends) = absurd ends
 missing_script plant name before now (LineRefused number) (inl ends) = absurd ends
 missing_script plant name before now ScriptTooLong (inl ends) = absurd ends
 
@@ -241,7 +213,6 @@ accepted_of plant name script before now ScriptTooLong accepted count (inl ends)
 accepted_of plant name script before now Usage accepted count (inl ends) = absurd ends
 accepted_of plant name script before now (PlantRefused fault) accepted count (inl ends) = absurd ends
 accepted_of plant name script before now PlantTooLong accepted count (inl ends) = absurd ends
-accepted_of plant name script before now NotBuilt accepted count (inl ends) = absurd ends
 
 pub accepted_always : (words : List (List ℕ)) (before now : World) (status : ℕ) (plant : PlantData) (name script : List ℕ) → AskHeld words before plant name (Holds script) → IsAccepted plant script
     → RunEnds words before now status → (status ≡ 0) ⊎ WasKept before now status
@@ -250,9 +221,9 @@ accepted_always words before now status plant name script asks accepted run =
     (accepted_of plant name script before now run.end accepted run.file_faults
     (replayed_of words before now run.end plant name (Holds script) asks run.file_faults (came words before now run.end run.cause)))
 
-refused_script : (plant : PlantData) (script output : List ℕ) → IsRefused plant script → IfFits script (IsReplay plant script output) → ⊥
+refused_script : (plant : PlantData) (script output : List ℕ) → IsRefused plant script → IfFits script (IsTiedReplay plant script output) → ⊥
 refused_script plant script output (inl long) fits = omega (arith, fits.0)
-refused_script plant script output (inr bad) fits = apart plant script output bad.0 fits.1 bad.1
+refused_script plant script output (inr bad) fits = apart plant script output bad.0 fits.1.replay bad.1
 
 refused_of : (plant : PlantData) (name script : List ℕ) (before now : World) (end : End) → IsRefused plant script → now.file_faults ≡ counted (is_file_fault end) before.file_faults
     → ReplayEnds plant name (Holds script) end ⊎ WasKept before now (status_of end) → IsOrKept 5 before now end
@@ -266,7 +237,6 @@ refused_of plant name script before now ScriptTooLong refused count (inl ends) =
 refused_of plant name script before now Usage refused count (inl ends) = absurd ends
 refused_of plant name script before now (PlantRefused fault) refused count (inl ends) = absurd ends
 refused_of plant name script before now PlantTooLong refused count (inl ends) = absurd ends
-refused_of plant name script before now NotBuilt refused count (inl ends) = absurd ends
 
 pub refused_always : (words : List (List ℕ)) (before now : World) (status : ℕ) (plant : PlantData) (name script : List ℕ) → AskHeld words before plant name (Holds script) → IsRefused plant script
     → RunEnds words before now status → (status ≡ 5) ⊎ WasKept before now status

@@ -8,7 +8,7 @@ use Rattle.plantctl.specs.Words.{Command, Check, Replay, plant_word, Ask}
 use Rattle.plantctl.specs.OpensPlant.{is_bench, OpensBench, OpensFile, OpensPlant}
 use Rattle.plantctl.specs.Asked.{AskFile}
 use Rattle.plantctl.proofs.OpensLemmas.{from_false}
-use Rattle.plantctl.proofs.CauseLemmas.{Came, at_words, at_plant, in_check, at_remotes, in_replay}
+use Rattle.plantctl.proofs.CauseLemmas.{Came, at_words, at_plant, in_check, in_replay}
 
 -- words ask for one command
 pub same_command : (words : List (List ℕ)) (one other : Command) → Ask words one → Ask words other → one ≡ other
@@ -41,6 +41,5 @@ pub opened_of : (words : List (List ℕ)) (before : World) (name : List ℕ) (he
 opened_of words before name held end asks is (at_words none same) = absurd (none asks.command asks.ask)
 opened_of words before name held end asks is (at_plant command ask opens) = inl (file_of words before name held command (Err end) asks is ask opens)
 opened_of words before name held end asks is (in_check plant by ends) = inr (plant, file_of words before name held (Check by.word) (Ok plant) asks is by.ask by.leads)
-opened_of words before name held end asks is (at_remotes plant script by ends) = inr (plant, file_of words before name held (Replay by.word script) (Ok plant) asks is by.ask by.leads)
 opened_of words before name held end asks is (in_replay plant script found by ends) =
-    inr (plant, file_of words before name held (Replay by.on.word script) (Ok plant) asks is by.on.ask by.on.leads)
+    inr (plant, file_of words before name held (Replay by.word script) (Ok plant) asks is by.ask by.leads)

@@ -1,24 +1,22 @@
 -- Where a run came to its end.
-use Rattle.std.proofs.Common.{◌≡◌, ◌≢◌, ◌⊎◌, inl, inr, ℕ, Bool, true, false, List, Result, Ok, Err, refl, sym, subst}
-use Rattle.std.specs.Prelude.{MatchBool}
+use Rattle.std.proofs.Common.{◌≡◌, ◌≢◌, ◌⊎◌, inl, inr, ℕ, List, Result, Ok, Err, refl, sym, subst}
 use Rattle.ctl_io.specs.Faults.{one_more}
 use Rattle.ctl_io.specs.Held.{Held}
 use Rattle.plant_config.specs.Plant.{PlantData}
 use Rattle.plantctl.specs.World.{World}
-use Rattle.plantctl.specs.End.{End, Usage, NotBuilt, status_of}
+use Rattle.plantctl.specs.End.{End, Usage, status_of}
 use Rattle.plantctl.specs.Words.{Command, Check, Replay, plant_word, Ask, HasNoForm}
 use Rattle.plantctl.specs.OpensPlant.{OpensPlant, GoesOn, next_opening}
 use Rattle.plantctl.specs.Check.{CheckEnds}
-use Rattle.plantctl.specs.Replay.{ReplayEnds, has_remotes, BuiltReplayEnds}
-use Rattle.plantctl.specs.Asked.{AskCheck, AskOn, AskReplay}
+use Rattle.plantctl.specs.Replay.{ReplayEnds}
+use Rattle.plantctl.specs.Asked.{AskCheck, AskReplay}
 use Rattle.plantctl.specs.Run.{CommandEnds, EndsAtWords, EndsByCommand, IsWritten, IsCutShort}
 
--- A run came to its end at its words, at the plant's word, in a check, at a plant that isn't built, or in a replay.
+-- A run came to its end at its words, at the plant's word, in a check, or in a replay.
 pub data Came (words : List (List ℕ)) (before : World) (end : End) : Type 0 where
   at_words : HasNoForm words → end ≡ Usage → Came words before end
   at_plant : (command : Command) → Ask words command → OpensPlant (plant_word command) (before.held (plant_word command) 0) (Err end) → Came words before end
   in_check : (plant : PlantData) → AskCheck words before plant → CheckEnds plant end → Came words before end
-  at_remotes : (plant : PlantData) (name : List ℕ) → AskOn words before plant name true → end ≡ NotBuilt → Came words before end
   in_replay : (plant : PlantData) (name : List ℕ) (held : Held) → AskReplay words before plant name held → ReplayEnds plant name held end → Came words before end
 
 -- an end at a plant's word is the word's
@@ -32,15 +30,10 @@ came_check : (words : List (List ℕ)) (before : World) (end : End) (word : List
 came_check words before end word (Ok plant) ask opens ends = in_check plant (record { word = word; ask = ask; leads = opens }) ends
 came_check words before end word (Err stopped) ask opens ends = at_word words before end stopped (Check word) ask ends opens
 
-on_built : (words : List (List ℕ)) (before : World) (end : End) (word name : List ℕ) (plant : PlantData) (remotes : Bool) → has_remotes plant ≡ remotes → Ask words (Replay word name)
-    → OpensPlant word (before.held word 0) (Ok plant) → MatchBool remotes (end ≡ NotBuilt) (ReplayEnds plant name (before.held name (next_opening word name)) end) → Came words before end
-on_built words before end word name plant true is ask opens ends = at_remotes plant name (record { word = word; ask = ask; leads = opens; remotes_are = is }) ends
-on_built words before end word name plant false is ask opens ends =
-    in_replay plant name (before.held name (next_opening word name)) (record { on = record { word = word; ask = ask; leads = opens; remotes_are = is }; held_is = refl }) ends
-
 came_replay : (words : List (List ℕ)) (before : World) (end : End) (word name : List ℕ) (opened : Result PlantData End) → Ask words (Replay word name) → OpensPlant word (before.held word 0) opened
-    → GoesOn (λ plant. BuiltReplayEnds plant name (before.held name (next_opening word name))) opened end → Came words before end
-came_replay words before end word name (Ok plant) ask opens ends = on_built words before end word name plant (has_remotes plant) refl ask opens ends
+    → GoesOn (λ plant. ReplayEnds plant name (before.held name (next_opening word name))) opened end → Came words before end
+came_replay words before end word name (Ok plant) ask opens ends =
+    in_replay plant name (before.held name (next_opening word name)) (record { word = word; ask = ask; leads = opens; held_is = refl }) ends
 came_replay words before end word name (Err stopped) ask opens ends = at_word words before end stopped (Replay word name) ask ends opens
 
 came_by : (words : List (List ℕ)) (before : World) (end : End) (command : Command) → Ask words command → CommandEnds command before end → Came words before end

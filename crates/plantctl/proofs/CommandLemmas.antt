@@ -1,19 +1,19 @@
 -- How a command comes to its report.
-use Rattle.std.proofs.Common.{◌≡◌, ℕ, inl, inr, Bool, true, false, List, Option, Result, Ok, Err, refl, sym, ◌∙◌, ap, subst, arith}
+use Rattle.std.proofs.Common.{◌≡◌, ℕ, inl, inr, Bool, false, List, Option, Result, Ok, Err, refl, sym, ◌∙◌, ap, subst, arith}
 use Rattle.ctl_io.specs.Faults.{counted}
 use Rattle.ctl_io.specs.Held.{Held}
 use Rattle.plant_config.specs.Plant.{PlantData}
 use Rattle.plantctl.specs.declared.stop.Stop.{Stop}
 use Rattle.plantctl.specs.declared.stop.Stop.TheVariants as stops
 use Rattle.plantctl.specs.World.{World, Shelf, shelf}
-use Rattle.plantctl.specs.End.{End, Done, NoMemory, Usage, FileMissing, FileFault, PlantRefused, PlantTooLong, NotBuilt, LineRefused, ScriptTooLong, status_of}
+use Rattle.plantctl.specs.End.{End, Done, NoMemory, Usage, FileMissing, FileFault, PlantRefused, PlantTooLong, LineRefused, ScriptTooLong, status_of}
 use Rattle.plantctl.specs.Words.{Check, Replay, Ask, Command}
-use Rattle.plantctl.specs.OpensPlant.{OpensPlant, next_opening}
+use Rattle.plantctl.specs.OpensPlant.{OpensPlant}
 use Rattle.plantctl.specs.Check.{CheckEnds}
-use Rattle.plantctl.specs.Replay.{ReplayEnds, has_remotes}
+use Rattle.plantctl.specs.Replay.{ReplayEnds}
 use Rattle.plantctl.specs.Run.{LeavesPlant, ReadsOnly}
 use Rattle.plantctl.specs.StopInside.{stopped_by_files, stopped_by_output, is_by_files, StopComesTo, StopsFor, IsStopOf, OpensAs, AreNext, CommandStops, RunStops}
-use Rattle.plantctl.proofs.OpensLemmas.{match_true, match_false, silent, alone}
+use Rattle.plantctl.proofs.OpensLemmas.{silent, alone}
 
 -- a file that nobody opened was read only
 unopened : (name : List ℕ) (files : Shelf) → ReadsOnly name files files
@@ -65,20 +65,6 @@ check_went word before now plant result opens files stops same no_file count = r
   output_faults = count;
 }
 
--- the plant isn't built
-pub replay_not_built : {T : Type 0} (word name : List ℕ) (before now : World) (plant : PlantData) → OpensPlant word (before.held word 0) (Ok plant) → LeavesPlant word (shelf before) (shelf now)
-    → has_remotes plant ≡ true → now.written ≡ before.written → now.file_faults ≡ before.file_faults → now.output_faults ≡ before.output_faults
-    → CommandStops {T = T} (Replay word name) before now (Err stops.NotBuilt)
-replay_not_built word name before now plant opens files remotes same count kept = record {
-  end = NotBuilt;
-  ends = (Ok plant, opens, match_true (NotBuilt ≡ NotBuilt) (ReplayEnds plant name (before.held name (next_opening word name)) NotBuilt) (has_remotes plant) remotes refl);
-  files = record { between = shelf now; plant = files; script = unopened name (shelf now); unopened = λ four. alone (shelf now) };
-  comes = stopped_comes stops.NotBuilt NotBuilt before.written now.written (record { status_is = refl; text_is = refl; fault = refl; output = refl }) same;
-  fault = refl;
-  file_faults = count;
-  output_faults = kept;
-}
-
 -- no replay ends with the status of a plant
 not_4 : (plant : PlantData) (name : List ℕ) (held : Held) (end : End) → ReplayEnds plant name held end → status_of end ≡ 4 → ⊥
 not_4 plant name held (Done output) ends four = omega arith
@@ -88,23 +74,17 @@ not_4 plant name held (FileMissing missing) ends four = omega arith
 not_4 plant name held (FileFault failed) ends four = omega arith
 not_4 plant name held (PlantRefused fault) ends four = ends
 not_4 plant name held PlantTooLong ends four = ends
-not_4 plant name held NotBuilt ends four = ends
 not_4 plant name held (LineRefused number) ends four = omega arith
 not_4 plant name held ScriptTooLong ends four = omega arith
 
 -- the script was replayed, or stopped the run
 pub replay_went : {T : Type 0} (word name : List ℕ) (before now : World) (between : Shelf) (plant : PlantData) (result : Result T Stop) → OpensPlant word (before.held word 0) (Ok plant)
-    → LeavesPlant word (shelf before) between → AreNext word before.held between.held → has_remotes plant ≡ false
+    → LeavesPlant word (shelf before) between → AreNext word before.held between.held
     → StopsFor result (ReplayEnds plant name (between.held name 0)) before.written now.written → ReadsOnly name between (shelf now)
     → now.file_faults ≡ counted (stopped_by_files result) before.file_faults → now.output_faults ≡ counted (stopped_by_output result) before.output_faults → CommandStops (Replay word name) before now result
-replay_went word name before now between plant result opens files next built stops script count output = record {
+replay_went word name before now between plant result opens files next stops script count output = record {
   end = stops.end;
-  ends = (
-    Ok plant,
-    opens,
-    match_false (stops.end ≡ NotBuilt) (ReplayEnds plant name (before.held name (next_opening word name)) stops.end) (has_remotes plant) built
-        (subst (λ (h : Held). ReplayEnds plant name h stops.end) (next name) stops.cause),
-  );
+  ends = (Ok plant, opens, subst (λ (h : Held). ReplayEnds plant name h stops.end) (next name) stops.cause);
   files = record {
     between = between;
     plant = files;

@@ -5,7 +5,7 @@ use Rattle.ctl_io.specs.Custody.{Custody}
 use Rattle.ctl_io.specs.Faults.{one_more, counted}
 use Rattle.ctl_io.specs.Held.{Held, Stays}
 use Rattle.plantctl.specs.World.{World, Shelf, shelf}
-use Rattle.plantctl.specs.End.{End, Done, NoMemory, Usage, FileMissing, FileFault, PlantRefused, PlantTooLong, NotBuilt, LineRefused, ScriptTooLong, status_of, is_file_fault}
+use Rattle.plantctl.specs.End.{End, Done, NoMemory, Usage, FileMissing, FileFault, PlantRefused, PlantTooLong, LineRefused, ScriptTooLong, status_of, is_file_fault}
 use Rattle.plantctl.specs.Words.{Command, Check, Replay, Ask, plant_word}
 use Rattle.plantctl.specs.OpensPlant.{is_bench}
 use Rattle.plantctl.specs.Asked.{AskFile, NamesFile}
@@ -116,7 +116,6 @@ no_file_fault (FileMissing name) other = refl
 no_file_fault (FileFault name) other = absurd (other refl)
 no_file_fault (PlantRefused fault) other = refl
 no_file_fault PlantTooLong other = refl
-no_file_fault NotBuilt other = refl
 no_file_fault (LineRefused number) other = refl
 no_file_fault ScriptTooLong other = refl
 

@@ -21,14 +21,10 @@ use Rattle.plantctl.specs.OpensPlant.{longest_plant, Reads, OpensFile, OpensBenc
 use Rattle.plantctl.specs.Run.{LeavesAlone}
 use Rattle.plantctl.specs.StopInside.{StopComesTo, IsFrontOf, IsStopOf, OpensAs, stop_of_file, SaysFault}
 
--- a choice by a test that is known
-pub match_true : (P Q : Type 0) (b : Bool) → b ≡ true → P → MatchBool b P Q
+-- a choice by a test that is known to be true
+match_true : (P Q : Type 0) (b : Bool) → b ≡ true → P → MatchBool b P Q
 match_true P Q true is p = p
 match_true P Q false is p = absurd (false≢true is)
-
-pub match_false : (P Q : Type 0) (b : Bool) → b ≡ false → Q → MatchBool b P Q
-match_false P Q true is q = absurd (false≢true (sym is))
-match_false P Q false is q = q
 
 -- a choice whose first part isn't so
 pub only_false : (P Q : Type 0) (b : Bool) → (P → ⊥) → MatchBool b P Q → (b ≡ false) × Q
@@ -57,7 +53,6 @@ silent (stops.FileMissing name) end written is = front (stops.FileMissing name) 
 silent (stops.FileFault name) end written is = front (stops.FileFault name) end written is
 silent (stops.PlantRefused why) end written is = front (stops.PlantRefused why) end written is
 silent stops.PlantTooLong end written is = front stops.PlantTooLong end written is
-silent stops.NotBuilt end written is = front stops.NotBuilt end written is
 silent (stops.LineRefused number) end written is = front (stops.LineRefused number) end written is
 silent stops.ScriptTooLong end written is = front stops.ScriptTooLong end written is
 silent stops.OutputFault end written is = absurd (false≢true (sym is.output))
@@ -94,7 +89,6 @@ text_refused fault stops.Usage name held text whole within answers says = absurd
 text_refused fault (stops.FileMissing missing) name held text whole within answers says = absurd says
 text_refused fault (stops.FileFault failed) name held text whole within answers says = absurd says
 text_refused fault stops.PlantTooLong name held text whole within answers says = absurd says
-text_refused fault stops.NotBuilt name held text whole within answers says = absurd says
 text_refused fault (stops.LineRefused number) name held text whole within answers says = absurd says
 text_refused fault stops.ScriptTooLong name held text whole within answers says = absurd says
 text_refused fault stops.OutputFault name held text whole within answers says = absurd says

@@ -10,7 +10,7 @@ use Rattle.plant_config.specs.Plant.{PlantData}
 use Rattle.record_replay.specs.declared.replay.ReplayFault.{ReplayFault}
 use Rattle.record_replay.specs.declared.replay.ReplayFault.TheVariants as replays
 use Rattle.record_replay.specs.Script.{IsFirstBad}
-use Rattle.record_replay.specs.Replay.{IsReplay, HasReplayed, HasReplayedFront}
+use Rattle.record_replay.specs.TiedReplay.{IsTiedReplay, HasReplayed, HasReplayedFront}
 use Rattle.plantctl.specs.declared.stop.Stop.{Stop}
 use Rattle.plantctl.specs.declared.stop.Stop.TheVariants as stops
 use Rattle.plantctl.specs.End.{End, Done, NoMemory, FileMissing, FileFault as FileFailed, LineRefused, ScriptTooLong}
@@ -68,7 +68,7 @@ pub done_stop : {T : Type 0} (done : T) (plant : PlantData) (name : List ℕ) (h
     → HasReplayed plant script before now → StopsFor {T = T} (Ok done) (ReplayEnds plant name held) before now
 done_stop done plant name held script before now read within replayed = record {
   end = Done replayed.output;
-  cause = read_held (λ (b : List ℕ). IsReplay plant b replayed.output) held script read within replayed.replay;
+  cause = read_held (λ (b : List ℕ). IsTiedReplay plant b replayed.output) held script read within replayed.replay;
   comes = (refl, replayed.appends);
   fault = refl;
 }
@@ -91,7 +91,7 @@ replay_stop replays.OutputFault plant name held script before now ended is read 
     let wrote = output_fault is in
     record {
       end = Done wrote.output;
-      cause = read_held (λ (b : List ℕ). IsReplay plant b wrote.output) held script read within wrote.replay;
+      cause = read_held (λ (b : List ℕ). IsTiedReplay plant b wrote.output) held script read within wrote.replay;
       comes = wrote.appends;
       fault = refl;
     }

@@ -2,7 +2,7 @@
 use Rattle.std.proofs.Common.{◌≡◌, ◌≢◌, inl, inr, ℕ, List, refl, sym, subst, arith}
 use Rattle.ctl_io.specs.Faults.{one_more}
 use Rattle.plantctl.specs.World.{World}
-use Rattle.plantctl.specs.End.{End, Done, NoMemory, Usage, FileMissing, FileFault, PlantRefused, PlantTooLong, NotBuilt, LineRefused, ScriptTooLong, status_of}
+use Rattle.plantctl.specs.End.{End, Done, NoMemory, Usage, FileMissing, FileFault, PlantRefused, PlantTooLong, LineRefused, ScriptTooLong, status_of}
 use Rattle.plantctl.specs.Run.{RunEnds}
 use Rattle.plantctl.specs.Statuses.{IsKnown}
 use Rattle.plantctl.proofs.CauseLemmas.{is_written, status_or_7}
@@ -16,7 +16,6 @@ seven (FileMissing name) = inr (inr (inr (inl refl)))
 seven (FileFault name) = inr (inr (inr (inl refl)))
 seven (PlantRefused fault) = inr (inr (inr (inr (inl refl))))
 seven PlantTooLong = inr (inr (inr (inr (inl refl))))
-seven NotBuilt = inr (inr (inr (inr (inl refl))))
 seven (LineRefused number) = inr (inr (inr (inr (inr (inl refl)))))
 seven ScriptTooLong = inr (inr (inr (inr (inr (inl refl)))))
 
@@ -35,7 +34,6 @@ not_7 (FileMissing name) is = omega arith
 not_7 (FileFault name) is = omega arith
 not_7 (PlantRefused fault) is = omega arith
 not_7 PlantTooLong is = omega arith
-not_7 NotBuilt is = omega arith
 not_7 (LineRefused number) is = omega arith
 not_7 ScriptTooLong is = omega arith
 

@@ -2,13 +2,13 @@
 use Rattle.std.proofs.Common.{◌≡◌, ◌⊎◌, inl, inr, ℕ, List, arith}
 use Rattle.ctl_io.specs.Sink.{appended}
 use Rattle.plantctl.specs.World.{World}
-use Rattle.plantctl.specs.End.{End, Done, NoMemory, Usage, FileMissing, FileFault, PlantRefused, PlantTooLong, NotBuilt, LineRefused, ScriptTooLong}
+use Rattle.plantctl.specs.End.{End, Done, NoMemory, Usage, FileMissing, FileFault, PlantRefused, PlantTooLong, LineRefused, ScriptTooLong}
 use Rattle.plantctl.specs.Lines.{line_refused, script_too_long}
 use Rattle.plantctl.specs.Words.{plant_word}
 use Rattle.plantctl.specs.Run.{IsWritten, RunEnds}
 use Rattle.plantctl.specs.Statuses.{RefusedLine, RefusedLength}
 use Rattle.plantctl.proofs.OpensLemmas.{if_held}
-use Rattle.plantctl.proofs.CauseLemmas.{Came, at_words, at_plant, in_check, at_remotes, in_replay, came, is_written}
+use Rattle.plantctl.proofs.CauseLemmas.{Came, at_words, at_plant, in_check, in_replay, came, is_written}
 use Rattle.plantctl.proofs.StatusesLemmas.{nowhere}
 
 line_at : (words : List (List ℕ)) (before now : World) (number : ℕ) → Came words before (LineRefused number) → now.written ≡ appended before.written (line_refused number) → RefusedLine words before now
@@ -16,7 +16,6 @@ line_at words before now number (at_words none is) appends = absurd (cc)
 line_at words before now number (at_plant command ask opens) appends =
     absurd (nowhere (plant_word command) (before.held (plant_word command) 0) (LineRefused number) (λ h. h) (λ h. h) opens)
 line_at words before now number (in_check plant asks ends) appends = absurd ends
-line_at words before now number (at_remotes plant script on is) appends = absurd (cc)
 line_at words before now number (in_replay plant name held asks ends) appends = record {
   plant = plant;
   name = name;
@@ -33,7 +32,6 @@ length_at words before now (at_words none is) appends = absurd (cc)
 length_at words before now (at_plant command ask opens) appends =
     absurd (nowhere (plant_word command) (before.held (plant_word command) 0) ScriptTooLong (λ h. h) (λ h. h) opens)
 length_at words before now (in_check plant asks ends) appends = absurd ends
-length_at words before now (at_remotes plant script on is) appends = absurd (cc)
 length_at words before now (in_replay plant name held asks ends) appends =
     record { plant = plant; name = name; held = held; asks = asks; too_long = ends; appends = appends }
 
@@ -47,7 +45,6 @@ script_of words before now (FileMissing name) from written = absurd (let h = wri
 script_of words before now (FileFault name) from written = absurd (let h = written.status_is in omega arith)
 script_of words before now (PlantRefused fault) from written = absurd (let h = written.status_is in omega arith)
 script_of words before now PlantTooLong from written = absurd (let h = written.status_is in omega arith)
-script_of words before now NotBuilt from written = absurd (let h = written.status_is in omega arith)
 
 pub script_cause : (words : List (List ℕ)) (before now : World) → RunEnds words before now 5 → RefusedLine words before now ⊎ RefusedLength words before now
 script_cause words before now run =

@@ -9,15 +9,15 @@ use Rattle.plant_file.specs.PlantFile.{fault_text}
 use Rattle.plant_config.specs.Plant.{PlantData}
 use Rattle.plant_config.specs.Bench.{bench}
 use Rattle.plantctl.specs.World.{World}
-use Rattle.plantctl.specs.End.{End, Done, NoMemory, Usage, FileMissing, FileFault, PlantRefused, PlantTooLong, NotBuilt, LineRefused, ScriptTooLong, status_of, text_of, is_file_fault}
-use Rattle.plantctl.specs.Lines.{no_memory, usage, file_missing, file_fault, plant_refused, plant_too_long, not_built}
+use Rattle.plantctl.specs.End.{End, Done, NoMemory, Usage, FileMissing, FileFault, PlantRefused, PlantTooLong, LineRefused, ScriptTooLong, status_of, text_of, is_file_fault}
+use Rattle.plantctl.specs.Lines.{no_memory, usage, file_missing, file_fault, plant_refused, plant_too_long}
 use Rattle.plantctl.specs.Words.{Command, Check, Replay, plant_word, Ask, HasNoForm}
 use Rattle.plantctl.specs.OpensPlant.{is_bench, OpensBench, OpensFile, OpensPlant, Reads}
 use Rattle.plantctl.specs.Asked.{AskFile}
 use Rattle.plantctl.specs.Run.{IsWritten, RunEnds}
-use Rattle.plantctl.specs.Statuses.{WasChecked, WasReplayed, RanOutOfMemory, WasMissing, HadFileFault, HadPlantFault, WasTooLong, WasNotBuilt}
+use Rattle.plantctl.specs.Statuses.{WasChecked, WasReplayed, RanOutOfMemory, WasMissing, HadFileFault, HadPlantFault, WasTooLong}
 use Rattle.plantctl.proofs.OpensLemmas.{if_held, opened_file}
-use Rattle.plantctl.proofs.CauseLemmas.{Came, at_words, at_plant, in_check, at_remotes, in_replay, came, is_written, status_or_7}
+use Rattle.plantctl.proofs.CauseLemmas.{Came, at_words, at_plant, in_check, in_replay, came, is_written, status_or_7}
 
 -- no plant's word leads to an end that neither the bench plant nor a plant file has
 pub nowhere : (word : List ℕ) (held : Held) (end : End) → (OpensBench (Err end) → ⊥) → (OpensFile word held (Err end) → ⊥) → OpensPlant word held (Err end) → ⊥
@@ -34,7 +34,6 @@ done_at words before now output (at_words none is) appends = absurd (cc)
 done_at words before now output (at_plant command ask opens) appends =
     absurd (nowhere (plant_word command) (before.held (plant_word command) 0) (Done output) (λ h. h) (λ h. h) opens)
 done_at words before now output (in_check plant asks ends) appends = inl (record { plant = plant; asks = asks; appends = appends ∙ ap (appended before.written) ends })
-done_at words before now output (at_remotes plant name on is) appends = absurd (cc)
 done_at words before now output (in_replay plant name held asks ends) appends = inr (record {
   plant = plant;
   name = name;
@@ -54,7 +53,6 @@ done_of words before now (FileMissing name) from written = absurd (let h = writt
 done_of words before now (FileFault name) from written = absurd (let h = written.status_is in omega arith)
 done_of words before now (PlantRefused fault) from written = absurd (let h = written.status_is in omega arith)
 done_of words before now PlantTooLong from written = absurd (let h = written.status_is in omega arith)
-done_of words before now NotBuilt from written = absurd (let h = written.status_is in omega arith)
 done_of words before now (LineRefused number) from written = absurd (let h = written.status_is in omega arith)
 done_of words before now ScriptTooLong from written = absurd (let h = written.status_is in omega arith)
 
@@ -85,9 +83,8 @@ memory_at words before now (at_plant command ask opens) appends = record {
 }
 memory_at words before now (in_check plant asks ends) appends =
     record { command = Check asks.word; ask = asks.ask; there = led asks.word (before.held asks.word 0) plant asks.leads; appends = appends }
-memory_at words before now (at_remotes plant name on is) appends = absurd (cc)
 memory_at words before now (in_replay plant name held asks ends) appends =
-    record { command = Replay asks.on.word name; ask = asks.on.ask; there = led asks.on.word (before.held asks.on.word 0) plant asks.on.leads; appends = appends }
+    record { command = Replay asks.word name; ask = asks.ask; there = led asks.word (before.held asks.word 0) plant asks.leads; appends = appends }
 
 memory_of : (words : List (List ℕ)) (before now : World) (end : End) → Came words before end → IsWritten end before now 1 → RanOutOfMemory words before now
 memory_of words before now NoMemory from written = memory_at words before now from written.appends
@@ -97,7 +94,6 @@ memory_of words before now (FileMissing name) from written = absurd (let h = wri
 memory_of words before now (FileFault name) from written = absurd (let h = written.status_is in omega arith)
 memory_of words before now (PlantRefused fault) from written = absurd (let h = written.status_is in omega arith)
 memory_of words before now PlantTooLong from written = absurd (let h = written.status_is in omega arith)
-memory_of words before now NotBuilt from written = absurd (let h = written.status_is in omega arith)
 memory_of words before now (LineRefused number) from written = absurd (let h = written.status_is in omega arith)
 memory_of words before now ScriptTooLong from written = absurd (let h = written.status_is in omega arith)
 
@@ -115,7 +111,6 @@ usage_of (FileMissing name) is = absurd (omega arith)
 usage_of (FileFault name) is = absurd (omega arith)
 usage_of (PlantRefused fault) is = absurd (omega arith)
 usage_of PlantTooLong is = absurd (omega arith)
-usage_of NotBuilt is = absurd (omega arith)
 usage_of (LineRefused number) is = absurd (omega arith)
 usage_of ScriptTooLong is = absurd (omega arith)
 
@@ -123,7 +118,6 @@ usage_at : (words : List (List ℕ)) (before : World) → Came words before Usag
 usage_at words before (at_words none is) = none
 usage_at words before (at_plant command ask opens) = absurd (nowhere (plant_word command) (before.held (plant_word command) 0) Usage (λ h. h) (λ h. h) opens)
 usage_at words before (in_check plant asks ends) = absurd ends
-usage_at words before (at_remotes plant name on is) = absurd (cc)
 usage_at words before (in_replay plant name held asks ends) = absurd ends
 
 pub usage_no_form : (words : List (List ℕ)) (before now : World) → RunEnds words before now 2 → HasNoForm words
@@ -141,8 +135,7 @@ no_form_end : (words : List (List ℕ)) (before : World) (end : End) → HasNoFo
 no_form_end words before end none (at_words without is) = is
 no_form_end words before end none (at_plant command ask opens) = absurd (none command ask)
 no_form_end words before end none (in_check plant asks ends) = absurd (none (Check asks.word) asks.ask)
-no_form_end words before end none (at_remotes plant name on is) = absurd (none (Replay on.word name) on.ask)
-no_form_end words before end none (in_replay plant name held asks ends) = absurd (none (Replay asks.on.word name) asks.on.ask)
+no_form_end words before end none (in_replay plant name held asks ends) = absurd (none (Replay asks.word name) asks.ask)
 
 pub usage_always : (words : List (List ℕ)) (before now : World) (status : ℕ) → HasNoForm words → RunEnds words before now status → (status ≡ 2) ⊎ (status ≡ 7)
 usage_always words before now status none run = elim (status_or_7 run.end before now status run.output) [
@@ -166,7 +159,6 @@ missing_at words before now name (at_plant command ask opens) count appends =
       appends = appends ∙ ap (λ (n : List ℕ). appended before.written (file_missing n)) o.1.0;
     }
 missing_at words before now name (in_check plant asks ends) count appends = absurd ends
-missing_at words before now name (at_remotes plant script on is) count appends = absurd (cc)
 missing_at words before now name (in_replay plant script held asks ends) count appends = record {
   name = script;
   held = held;
@@ -189,7 +181,6 @@ fault_at words before now name (at_plant command ask opens) count appends =
       appends = appends ∙ ap (λ (n : List ℕ). appended before.written (file_fault n)) o.1;
     }
 fault_at words before now name (in_check plant asks ends) count appends = absurd ends
-fault_at words before now name (at_remotes plant script on is) count appends = absurd (cc)
 fault_at words before now name (in_replay plant script held asks ends) count appends = record {
   name = script;
   held = held;
@@ -207,7 +198,6 @@ file_of words before now NoMemory from written count = absurd (let h = written.s
 file_of words before now Usage from written count = absurd (let h = written.status_is in omega arith)
 file_of words before now (PlantRefused fault) from written count = absurd (let h = written.status_is in omega arith)
 file_of words before now PlantTooLong from written count = absurd (let h = written.status_is in omega arith)
-file_of words before now NotBuilt from written count = absurd (let h = written.status_is in omega arith)
 file_of words before now (LineRefused number) from written count = absurd (let h = written.status_is in omega arith)
 file_of words before now ScriptTooLong from written count = absurd (let h = written.status_is in omega arith)
 
@@ -224,7 +214,6 @@ plant_fault_at words before now fault (at_plant command ask opens) appends =
     let o = opened_file (plant_word command) (before.held (plant_word command) 0) (PlantRefused fault) (λ h. h) opens in
     record { name = plant_word command; asks = file_asked words command ask o.0; fault = fault; reads = o.1; appends = appends }
 plant_fault_at words before now fault (in_check plant asks ends) appends = absurd ends
-plant_fault_at words before now fault (at_remotes plant script on is) appends = absurd (cc)
 plant_fault_at words before now fault (in_replay plant script held asks ends) appends = absurd ends
 
 too_long_at : (words : List (List ℕ)) (before now : World) → Came words before PlantTooLong → now.written ≡ appended before.written plant_too_long → WasTooLong words before now
@@ -233,21 +222,12 @@ too_long_at words before now (at_plant command ask opens) appends =
     let o = opened_file (plant_word command) (before.held (plant_word command) 0) PlantTooLong (λ h. h) opens in
     record { name = plant_word command; asks = file_asked words command ask o.0; too_long = o.1; appends = appends }
 too_long_at words before now (in_check plant asks ends) appends = absurd ends
-too_long_at words before now (at_remotes plant script on is) appends = absurd (cc)
 too_long_at words before now (in_replay plant script held asks ends) appends = absurd ends
 
-not_built_at : (words : List (List ℕ)) (before now : World) → Came words before NotBuilt → now.written ≡ appended before.written not_built → WasNotBuilt words before now
-not_built_at words before now (at_words none is) appends = absurd (cc)
-not_built_at words before now (at_plant command ask opens) appends = absurd (nowhere (plant_word command) (before.held (plant_word command) 0) NotBuilt (λ h. h) (λ h. h) opens)
-not_built_at words before now (in_check plant asks ends) appends = absurd ends
-not_built_at words before now (at_remotes plant name on is) appends = record { plant = plant; name = name; asks = on; appends = appends }
-not_built_at words before now (in_replay plant script held asks ends) appends = absurd ends
-
 plant_of : (words : List (List ℕ)) (before now : World) (end : End) → Came words before end → IsWritten end before now 4
-    → HadPlantFault words before now ⊎ WasTooLong words before now ⊎ WasNotBuilt words before now
+    → HadPlantFault words before now ⊎ WasTooLong words before now
 plant_of words before now (PlantRefused fault) from written = inl (plant_fault_at words before now fault from written.appends)
-plant_of words before now PlantTooLong from written = inr (inl (too_long_at words before now from written.appends))
-plant_of words before now NotBuilt from written = inr (inr (not_built_at words before now from written.appends))
+plant_of words before now PlantTooLong from written = inr (too_long_at words before now from written.appends)
 plant_of words before now (Done output) from written = absurd (let h = written.status_is in omega arith)
 plant_of words before now NoMemory from written = absurd (let h = written.status_is in omega arith)
 plant_of words before now Usage from written = absurd (let h = written.status_is in omega arith)
@@ -256,6 +236,6 @@ plant_of words before now (FileFault name) from written = absurd (let h = writte
 plant_of words before now (LineRefused number) from written = absurd (let h = written.status_is in omega arith)
 plant_of words before now ScriptTooLong from written = absurd (let h = written.status_is in omega arith)
 
-pub plant_cause : (words : List (List ℕ)) (before now : World) → RunEnds words before now 4 → HadPlantFault words before now ⊎ WasTooLong words before now ⊎ WasNotBuilt words before now
+pub plant_cause : (words : List (List ℕ)) (before now : World) → RunEnds words before now 4 → HadPlantFault words before now ⊎ WasTooLong words before now
 plant_cause words before now run =
     plant_of words before now run.end (came words before now run.end run.cause) (is_written run.end before now 4 (λ h. omega arith) run.output)

@@ -98,7 +98,6 @@ output_of (Err (stops.FileMissing name)) end before mid now fb fm fn status come
 output_of (Err (stops.FileFault name)) end before mid now fb fm fn status comes kept reports = left_line (stops.FileFault name) end before mid now fb fm fn status comes kept reports
 output_of (Err (stops.PlantRefused why)) end before mid now fb fm fn status comes kept reports = left_line (stops.PlantRefused why) end before mid now fb fm fn status comes kept reports
 output_of (Err stops.PlantTooLong) end before mid now fb fm fn status comes kept reports = left_line stops.PlantTooLong end before mid now fb fm fn status comes kept reports
-output_of (Err stops.NotBuilt) end before mid now fb fm fn status comes kept reports = left_line stops.NotBuilt end before mid now fb fm fn status comes kept reports
 output_of (Err (stops.LineRefused number)) end before mid now fb fm fn status comes kept reports = left_line (stops.LineRefused number) end before mid now fb fm fn status comes kept reports
 output_of (Err stops.ScriptTooLong) end before mid now fb fm fn status comes kept reports = left_line stops.ScriptTooLong end before mid now fb fm fn status comes kept reports
 output_of (Err stops.OutputFault) end before mid now fb fm fn status comes kept (inl reported) =

@@ -1,5 +1,5 @@
 -- What the words of a run ask for, and of which names they ask.
-use Rattle.std.specs.Prelude.{◌≡◌, ◌⊎◌, ℕ, ◌≤◌, Bool, true, false, MatchBool, List, length, Ok}
+use Rattle.std.specs.Prelude.{◌≡◌, ◌⊎◌, ℕ, ◌≤◌, true, false, MatchBool, List, length, Ok}
 use Rattle.ctl_io.specs.Held.{Held, Unshown, NoFile, Holds, MayBeHere}
 use Rattle.plant_config.specs.Plant.{PlantData}
 use Rattle.plant_config.specs.Bench.{bench}
@@ -7,7 +7,6 @@ use Rattle.plant_config.specs.PlantOfText.{plant_of_text}
 use Rattle.plantctl.specs.World.{World}
 use Rattle.plantctl.specs.Words.{Command, Check, Replay, plant_word, Ask}
 use Rattle.plantctl.specs.OpensPlant.{longest_plant, is_bench, OpensPlant, next_opening}
-use Rattle.plantctl.specs.Replay.{has_remotes}
 
 -- The words ask for the plant file of this name: it is a plant's word, and not that of the bench plant.
 pub record AskFile (words : List (List ℕ)) (name : List ℕ) : Type 0 where
@@ -30,23 +29,17 @@ pub record AskCheck (words : List (List ℕ)) (before : World) (plant : PlantDat
   pub ask : Ask words (Check word)
   pub leads : LeadsTo word before plant
 
--- The words ask to replay the script of this name on this plant, which has remote sources, or none.
-pub record AskOn (words : List (List ℕ)) (before : World) (plant : PlantData) (name : List ℕ)
-    (remotes : Bool) : Type 0 where
+-- The words ask to replay the script of this name on this plant, and behind the plant's word the files hold this of the
+-- name.
+pub record AskReplay (words : List (List ℕ)) (before : World) (plant : PlantData) (name : List ℕ)
+    (held : Held) : Type 0 where
   pub word : List ℕ
   pub ask : Ask words (Replay word name)
   pub leads : LeadsTo word before plant
-  pub remotes_are : has_remotes plant ≡ remotes
-
--- The words ask to replay the script of this name on this plant, which is built, and behind the plant's word the files hold
--- this of the name.
-pub record AskReplay (words : List (List ℕ)) (before : World) (plant : PlantData) (name : List ℕ)
-    (held : Held) : Type 0 where
-  pub on : AskOn words before plant name false
-  pub held_is : held ≡ before.held name (next_opening on.word name)
+  pub held_is : held ≡ before.held name (next_opening word name)
 
 -- The words ask for the file of this name, of which the files hold this when its turn comes: the plant's, or, where that leads
--- to a plant which is built, the script's.
+-- to a plant, the script's.
 abbrev pub WantsFile : List (List ℕ) → World → List ℕ → Held → Type 0
 WantsFile words before name held =
     (AskFile words name × (held ≡ before.held name 0)) ⊎
@@ -67,16 +60,11 @@ abbrev pub ShowsPlant : List ℕ → World → PlantData → Type 0
 ShowsPlant word before plant =
     MatchBool (is_bench word) (plant ≡ bench) (ShowsFile (before.held word 0) plant)
 
--- The words ask to replay the script of this name on this plant, which the files show, and which has remote sources, or none.
-pub record AskShown (words : List (List ℕ)) (before : World) (plant : PlantData) (name : List ℕ)
-    (remotes : Bool) : Type 0 where
+-- The words ask to replay the script of this name on this plant, which the files show, and behind the plant's word the files
+-- hold this of the name.
+pub record AskHeld (words : List (List ℕ)) (before : World) (plant : PlantData) (name : List ℕ)
+    (held : Held) : Type 0 where
   pub word : List ℕ
   pub ask : Ask words (Replay word name)
   pub shows : ShowsPlant word before plant
-  pub remotes_are : has_remotes plant ≡ remotes
-
--- Such a script, and behind the plant's word the files hold this of it.
-pub record AskHeld (words : List (List ℕ)) (before : World) (plant : PlantData) (name : List ℕ)
-    (held : Held) : Type 0 where
-  pub on : AskShown words before plant name false
-  pub held_is : before.held name (next_opening on.word name) ≡ held
+  pub held_is : before.held name (next_opening word name) ≡ held

@@ -2,10 +2,10 @@
 use Rattle.std.specs.Prelude.{ℕ, Bool, true, false, List}
 use Rattle.plant_file.specs.declared.fault.PlantFault.{PlantFault}
 use Rattle.plant_file.specs.PlantFile.{fault_text}
-use Rattle.plantctl.specs.Lines.{usage, no_memory, file_missing, file_fault, plant_refused, plant_too_long, not_built, line_refused, script_too_long}
+use Rattle.plantctl.specs.Lines.{usage, no_memory, file_missing, file_fault, plant_refused, plant_too_long, line_refused, script_too_long}
 
 -- An end, with what its text names: the output of what was done, the name of a file, a plant file's fault, the number of a
--- line. A plant isn't built where it has what the program can't serve yet.
+-- line.
 pub data End : Type 0 where
   Done : (output : List ℕ) → End
   NoMemory : End
@@ -14,7 +14,6 @@ pub data End : Type 0 where
   FileFault : (name : List ℕ) → End
   PlantRefused : (fault : PlantFault) → End
   PlantTooLong : End
-  NotBuilt : End
   LineRefused : (number : ℕ) → End
   ScriptTooLong : End
 
@@ -27,7 +26,6 @@ status_of (FileMissing name) = 3
 status_of (FileFault name) = 3
 status_of (PlantRefused fault) = 4
 status_of PlantTooLong = 4
-status_of NotBuilt = 4
 status_of (LineRefused number) = 5
 status_of ScriptTooLong = 5
 
@@ -44,7 +42,6 @@ text_of (FileMissing name) = file_missing name
 text_of (FileFault name) = file_fault name
 text_of (PlantRefused fault) = plant_refused (fault_text fault)
 text_of PlantTooLong = plant_too_long
-text_of NotBuilt = not_built
 text_of (LineRefused number) = line_refused number
 text_of ScriptTooLong = script_too_long
 
@@ -57,6 +54,5 @@ is_file_fault (FileMissing name) = false
 is_file_fault (FileFault name) = true
 is_file_fault (PlantRefused fault) = false
 is_file_fault PlantTooLong = false
-is_file_fault NotBuilt = false
 is_file_fault (LineRefused number) = false
 is_file_fault ScriptTooLong = false

@@ -24,9 +24,6 @@ plant_refused why = line (codes "plant refused: " ++ why)
 abbrev pub plant_too_long : List ℕ
 plant_too_long = plant_refused (codes "too long")
 
-abbrev pub not_built : List ℕ
-not_built = plant_refused (codes "NotBuilt at remote 0 entries")
-
 abbrev pub line_refused : ℕ → List ℕ
 line_refused number = line (codes "script line " ++ decimal number ++ codes " refused")
 

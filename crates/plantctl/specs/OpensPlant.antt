@@ -5,7 +5,7 @@ use Rattle.plant_file.specs.declared.fault.PlantFault.{PlantFault}
 use Rattle.plant_config.specs.Plant.{PlantData}
 use Rattle.plant_config.specs.Bench.{bench}
 use Rattle.plant_config.specs.PlantOfText.{plant_of_text}
-use Rattle.plantctl.specs.End.{End, Done, NoMemory, Usage, FileMissing, FileFault, PlantRefused, PlantTooLong, NotBuilt, LineRefused, ScriptTooLong}
+use Rattle.plantctl.specs.End.{End, Done, NoMemory, Usage, FileMissing, FileFault, PlantRefused, PlantTooLong, LineRefused, ScriptTooLong}
 
 -- the most bytes of a plant file, 4 MiB
 abbrev pub longest_plant : ℕ
@@ -26,7 +26,6 @@ OpensFile name held (Err (FileMissing missing)) = (missing ≡ name) × MayBeMis
 OpensFile name held (Err (FileFault failed)) = failed ≡ name
 OpensFile name held (Err (PlantRefused fault)) = Reads held (Err fault)
 OpensFile name held (Err PlantTooLong) = IsLonger longest_plant held
-OpensFile name held (Err NotBuilt) = ⊥
 OpensFile name held (Err (LineRefused number)) = ⊥
 OpensFile name held (Err ScriptTooLong) = ⊥
 
@@ -40,7 +39,6 @@ OpensBench (Err (FileMissing missing)) = ⊥
 OpensBench (Err (FileFault failed)) = ⊥
 OpensBench (Err (PlantRefused fault)) = ⊥
 OpensBench (Err PlantTooLong) = ⊥
-OpensBench (Err NotBuilt) = ⊥
 OpensBench (Err (LineRefused number)) = ⊥
 OpensBench (Err ScriptTooLong) = ⊥
 

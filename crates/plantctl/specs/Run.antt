@@ -10,7 +10,7 @@ use Rattle.plantctl.specs.End.{End, Usage, status_of, output_failed, text_of, is
 use Rattle.plantctl.specs.Words.{Command, Check, Replay, Ask, HasNoForm}
 use Rattle.plantctl.specs.OpensPlant.{is_bench, OpensPlant, GoesOn, next_opening}
 use Rattle.plantctl.specs.Check.{CheckEnds}
-use Rattle.plantctl.specs.Replay.{BuiltReplayEnds}
+use Rattle.plantctl.specs.Replay.{ReplayEnds}
 
 -- A command ends so, in a world that is so before it: its plant's word leads to a plant with which it goes on, or to the end.
 abbrev pub CommandEnds : Command → World → End → Type 0
@@ -20,8 +20,8 @@ CommandEnds (Check word) before end =
 CommandEnds (Replay word name) before end =
     (opened : Result PlantData End)
     × OpensPlant word (before.held word 0) opened
-    × GoesOn (λ plant. BuiltReplayEnds plant name
-    (before.held name (next_opening word name))) opened end
+    × GoesOn (λ plant. ReplayEnds plant name (before.held name (next_opening word name)))
+    opened end
 
 -- The files were left alone.
 pub record LeavesAlone (before now : Shelf) : Type 0 where

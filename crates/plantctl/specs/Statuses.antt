@@ -1,5 +1,5 @@
 -- What the exit statuses tell of a run. Each is a law over the ends of runs.
-use Rattle.std.specs.Prelude.{◌≡◌, ◌≢◌, ◌⊎◌, ℕ, ◌<◌, ◌≤◌, true, List, length, Err}
+use Rattle.std.specs.Prelude.{◌≡◌, ◌≢◌, ◌⊎◌, ℕ, ◌<◌, ◌≤◌, List, length, Err}
 use Rattle.ctl_io.specs.Faults.{one_more}
 use Rattle.ctl_io.specs.Sink.{appended}
 use Rattle.ctl_io.specs.Held.{Held, NoFile, Holds, IfHeld, IsLonger, MayBeMissing, Stays}
@@ -9,13 +9,14 @@ use Rattle.plant_config.specs.Plant.{PlantData}
 use Rattle.plant_config.specs.PlantOfText.{plant_of_text}
 use Rattle.record_replay.specs.Script.{IsFirstBad}
 use Rattle.record_replay.specs.Replay.{IsReplay}
+use Rattle.record_replay.specs.TiedReplay.{IsTiedReplay}
 use Rattle.plantctl.specs.World.{World}
-use Rattle.plantctl.specs.Lines.{no_memory, usage, file_missing, file_fault, plant_refused, plant_too_long, not_built, line_refused, script_too_long}
+use Rattle.plantctl.specs.Lines.{no_memory, usage, file_missing, file_fault, plant_refused, plant_too_long, line_refused, script_too_long}
 use Rattle.plantctl.specs.Words.{Command, Check, plant_word, Ask, HasNoForm}
 use Rattle.plantctl.specs.OpensPlant.{longest_plant, Reads}
 use Rattle.plantctl.specs.Check.{check_text}
 use Rattle.plantctl.specs.Replay.{longest_script}
-use Rattle.plantctl.specs.Asked.{AskFile, AskCheck, AskOn, AskReplay, AskShown, AskHeld, ShowsPlant, PlantMayBeHere, WantsFile, NamesFile}
+use Rattle.plantctl.specs.Asked.{AskFile, AskCheck, AskReplay, AskHeld, ShowsPlant, PlantMayBeHere, WantsFile, NamesFile}
 use Rattle.plantctl.specs.Run.{RunEnds}
 
 -- The plant was checked: exactly its ten lines were appended.
@@ -24,7 +25,8 @@ pub record WasChecked (words : List (List ℕ)) (before now : World) : Type 0 wh
   pub asks : AskCheck words before plant
   pub appends : now.written ≡ appended before.written (check_text plant)
 
--- The script was replayed: it isn't too long, and exactly its replay text was appended.
+-- The script was replayed: it isn't too long, exactly its replay text was appended, and no tie carries two sources at any place
+-- of the history behind that.
 pub record WasReplayed (words : List (List ℕ)) (before now : World) : Type 0 where
   pub plant : PlantData
   pub name : List ℕ
@@ -32,7 +34,7 @@ pub record WasReplayed (words : List (List ℕ)) (before now : World) : Type 0 w
   pub asks : AskReplay words before plant name held
   pub output : List ℕ
   pub within : IfHeld held (λ script. length script ≤ longest_script)
-  pub replay : IfHeld held (λ script. IsReplay plant script output)
+  pub replay : IfHeld held (λ script. IsTiedReplay plant script output)
   pub appends : now.written ≡ appended before.written output
 
 -- Memory ran out, though the plant's file, where one was asked for, may be there; and nothing was appended but the line that
@@ -74,13 +76,6 @@ pub record WasTooLong (words : List (List ℕ)) (before now : World) : Type 0 wh
   pub asks : AskFile words name
   pub too_long : IsLonger longest_plant (before.held name 0)
   pub appends : now.written ≡ appended before.written plant_too_long
-
--- A replay was asked for on a plant with remote sources, and the line says that it isn't built.
-pub record WasNotBuilt (words : List (List ℕ)) (before now : World) : Type 0 where
-  pub plant : PlantData
-  pub name : List ℕ
-  pub asks : AskOn words before plant name true
-  pub appends : now.written ≡ appended before.written not_built
 
 -- The first line without a form was refused by its number, and nothing else was written.
 pub record RefusedLine (words : List (List ℕ)) (before now : World) : Type 0 where
@@ -177,24 +172,16 @@ NoScriptEndsWithThree =
     → AskHeld words before plant name NoFile
     → RunEnds words before now status → (status ≡ 3) ⊎ WasKept before now status
 
--- Where a run ends with 4, its plant file has a fault or is too long, or its plant isn't built.
+-- Where a run ends with 4, its plant file has a fault or is too long.
 abbrev pub FourHasCause : Type 0
 FourHasCause = (words : List (List ℕ)) (before now : World)
-    → RunEnds words before now 4
-    → HadPlantFault words before now ⊎ WasTooLong words before now ⊎ WasNotBuilt words before now
+    → RunEnds words before now 4 → HadPlantFault words before now ⊎ WasTooLong words before now
 
 -- A plant file that is refused leads to 4, whatever the script, unless the run is kept from its end.
 abbrev pub RefusedPlantEndsWithFour : Type 0
 RefusedPlantEndsWithFour =
     (words : List (List ℕ)) (before now : World) (status : ℕ) (name text : List ℕ)
     → AskFile words name → before.held name 0 ≡ Holds text → IsRefusedPlant text
-    → RunEnds words before now status → (status ≡ 4) ⊎ WasKept before now status
-
--- So does a replay on a plant that isn't built.
-abbrev pub NotBuiltEndsWithFour : Type 0
-NotBuiltEndsWithFour =
-    (words : List (List ℕ)) (before now : World) (status : ℕ) (plant : PlantData) (name : List ℕ)
-    → AskShown words before plant name true
     → RunEnds words before now status → (status ≡ 4) ⊎ WasKept before now status
 
 -- Where a run ends with 4, no script was opened: what the files hold of every name stays but of the plant file's.

@@ -18,7 +18,7 @@ use Rattle.plantctl.specs.declared.stop.Status.{Status}
 use Rattle.plantctl.specs.declared.stop.Status.TheVariants as statuses
 use Rattle.plantctl.specs.declared.words.Command as code
 use Rattle.plantctl.specs.declared.words.Command.TheVariants as commands
-use Rattle.plantctl.specs.Lines.{usage, no_memory, file_missing, file_fault, plant_refused, plant_too_long, not_built, line_refused, script_too_long}
+use Rattle.plantctl.specs.Lines.{usage, no_memory, file_missing, file_fault, plant_refused, plant_too_long, line_refused, script_too_long}
 use Rattle.plantctl.specs.End.{End, status_of, output_failed, text_of, is_file_fault}
 use Rattle.plantctl.specs.World.{World, shelf}
 use Rattle.plantctl.specs.Words.{Command, Check, Replay}
@@ -43,7 +43,6 @@ line_of (stops.FileMissing name) = file_missing name.now
 line_of (stops.FileFault name) = file_fault name.now
 line_of (stops.PlantRefused why) = plant_refused (string_bytes why)
 line_of stops.PlantTooLong = plant_too_long
-line_of stops.NotBuilt = not_built
 line_of (stops.LineRefused number) = line_refused number
 line_of stops.ScriptTooLong = script_too_long
 line_of stops.OutputFault = []
@@ -56,7 +55,6 @@ stop_status (stops.FileMissing name) = 3
 stop_status (stops.FileFault name) = 3
 stop_status (stops.PlantRefused why) = 4
 stop_status stops.PlantTooLong = 4
-stop_status stops.NotBuilt = 4
 stop_status (stops.LineRefused number) = 5
 stop_status stops.ScriptTooLong = 5
 stop_status stops.OutputFault = 7
@@ -69,7 +67,6 @@ is_by_output (stops.FileMissing name) = false
 is_by_output (stops.FileFault name) = false
 is_by_output (stops.PlantRefused why) = false
 is_by_output stops.PlantTooLong = false
-is_by_output stops.NotBuilt = false
 is_by_output (stops.LineRefused number) = false
 is_by_output stops.ScriptTooLong = false
 is_by_output stops.OutputFault = true
@@ -81,7 +78,6 @@ is_by_files (stops.FileMissing name) = false
 is_by_files (stops.FileFault name) = true
 is_by_files (stops.PlantRefused why) = false
 is_by_files stops.PlantTooLong = false
-is_by_files stops.NotBuilt = false
 is_by_files (stops.LineRefused number) = false
 is_by_files stops.ScriptTooLong = false
 is_by_files stops.OutputFault = false
@@ -111,7 +107,6 @@ StopComesTo (stops.FileFault name) end before now = IsFrontOf (stops.FileFault n
 StopComesTo (stops.PlantRefused why) end before now =
     IsFrontOf (stops.PlantRefused why) end before now
 StopComesTo stops.PlantTooLong end before now = IsFrontOf stops.PlantTooLong end before now
-StopComesTo stops.NotBuilt end before now = IsFrontOf stops.NotBuilt end before now
 StopComesTo (stops.LineRefused number) end before now =
     IsFrontOf (stops.LineRefused number) end before now
 StopComesTo stops.ScriptTooLong end before now = IsFrontOf stops.ScriptTooLong end before now
@@ -187,7 +182,6 @@ SaysFault fault stops.Usage = ⊥
 SaysFault fault (stops.FileMissing name) = ⊥
 SaysFault fault (stops.FileFault name) = ⊥
 SaysFault fault stops.PlantTooLong = ⊥
-SaysFault fault stops.NotBuilt = ⊥
 SaysFault fault (stops.LineRefused number) = ⊥
 SaysFault fault stops.ScriptTooLong = ⊥
 SaysFault fault stops.OutputFault = ⊥

@@ -5,7 +5,6 @@ ghost use Rattle.plantctl.specs.Statuses.{TwoHasNoForm, TwoTellsUsage, NoFormEnd
 ghost use Rattle.plantctl.specs.Statuses.{ThreeHasCause, NoPlantEndsWithThree};
 ghost use Rattle.plantctl.specs.Statuses.{NoScriptEndsWithThree};
 ghost use Rattle.plantctl.specs.Statuses.{FourHasCause, RefusedPlantEndsWithFour};
-ghost use Rattle.plantctl.specs.Statuses.{NotBuiltEndsWithFour};
 ghost use Rattle.plantctl.specs.Statuses.{FourOpensNoScript};
 ghost use Rattle.plantctl.specs.Statuses.{FiveHasCause, RefusedEndsWithFive, AcceptedEndsWithZero};
 ghost use Rattle.plantctl.specs.Statuses.{PlantEndsWithZero, SevenHasCause, OthersWriteAll};
@@ -17,7 +16,8 @@ pub fn statuses()
     ensures { StatusesAreKnown }
 {}
 
-/// Status 0: exactly the plant's ten lines or the script's replay text was appended. Status 1: memory ran out.
+/// Status 0: exactly the plant's ten lines or the script's replay text was appended, and in the history behind that text
+/// no tie ever carries two sources. Status 1: memory ran out.
 pub fn done()
     ensures done { ZeroHasDone }
     ensures checked { PlantEndsWithZero }
@@ -39,12 +39,10 @@ pub fn file_refused()
     ensures no_script { NoScriptEndsWithThree }
 {}
 
-/// Status 4: the plant file's first fault, or its length, or a plant that isn't built. Such a plant ends the run
-/// before the script is opened.
+/// Status 4: the plant file's first fault, or its length. Such a file ends the run before the script is opened.
 pub fn plant_refused()
     ensures cause { FourHasCause }
     ensures refused { RefusedPlantEndsWithFour }
-    ensures not_built { NotBuiltEndsWithFour }
     ensures unopened { FourOpensNoScript }
 {}
 

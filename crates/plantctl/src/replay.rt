@@ -3,7 +3,7 @@
 ghost use Rattle.std.specs.Prelude.{◌≡◌};
 ghost use Rattle.ctl_io.specs.Faults.{counted};
 ghost use Rattle.plantctl.specs.World.{shelf_of};
-ghost use Rattle.plantctl.specs.Replay.{ReplayEnds, has_remotes};
+ghost use Rattle.plantctl.specs.Replay.{ReplayEnds};
 ghost use Rattle.plantctl.specs.Run.{ReadsOnly};
 ghost use Rattle.plantctl.specs.StopInside.{stopped_by_files, stopped_by_output, StopsFor};
 
@@ -16,13 +16,6 @@ use std::alloc::Global;
 
 // The most bytes of a script, 64 MiB.
 const MAX_SCRIPT: usize = 64 << 20;
-
-// Whether a plant has a remote source. On such a plant no script is replayed yet.
-pub(crate) fn has_remotes(plant: &Plant) -> bool
-    ensures { result ≡ has_remotes plant.now }
-{
-    plant.sources().iter().any(|source| source.pool.is_some())
-}
 
 // Replays the script of this name on the plant.
 pub(crate) fn replay<'a, F: Files, K: Sink>(

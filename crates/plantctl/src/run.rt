@@ -7,7 +7,7 @@ ghost use Rattle.plantctl.specs.StopInside.{CommandStops, RunStops};
 
 use crate::check::check;
 use crate::plant::open_plant;
-use crate::replay::{has_remotes, replay};
+use crate::replay::replay;
 use crate::stop::{Stop, report};
 use crate::words::{Command, read_words};
 use ctl_io::{Files, Sink};
@@ -88,8 +88,5 @@ fn run_replay<'a, F: Files, K: Sink>(
         Ok(plant) => plant,
         Err(stop) => return Err(stop),
     };
-    if has_remotes(&plant) {
-        return Err(Stop::NotBuilt);
-    }
     replay(alloc, &plant, script, files, out)
 }

@@ -28,7 +28,7 @@ pub(crate) enum Status {
     Usage = 2,
     /// A file is missing, or the files had a fault.
     File = 3,
-    /// The plant file has a fault or is too long, or the plant isn't built.
+    /// The plant file has a fault or is too long.
     Plant = 4,
     /// A line of the script has no form, or the script is too long.
     Script = 5,
@@ -58,8 +58,6 @@ pub(crate) enum Stop<'a> {
     /// The plant file has this fault.
     PlantRefused(String),
     PlantTooLong,
-    /// The plant has what can't be served yet.
-    NotBuilt,
     /// The line of this number, counted from 1, has no form.
     LineRefused(u64),
     ScriptTooLong,
@@ -121,7 +119,7 @@ impl<'a> Stop<'a> {
             Stop::NoMemory => Status::NoMemory,
             Stop::Usage => Status::Usage,
             Stop::FileMissing(_) | Stop::FileFault(_) => Status::File,
-            Stop::PlantRefused(_) | Stop::PlantTooLong | Stop::NotBuilt => Status::Plant,
+            Stop::PlantRefused(_) | Stop::PlantTooLong => Status::Plant,
             Stop::LineRefused(_) | Stop::ScriptTooLong => Status::Script,
             Stop::OutputFault => Status::Output,
         }
@@ -145,7 +143,6 @@ impl<'a> Stop<'a> {
                 write_parts(out, b"plant refused: ", text, b"\n")
             }
             Stop::PlantTooLong => write_all(out, b"plant refused: too long\n"),
-            Stop::NotBuilt => write_all(out, b"plant refused: NotBuilt at remote 0 entries\n"),
             Stop::LineRefused(number) => {
                 let mut buffer = Buffer::new();
                 let digits = buffer.format(*number).as_bytes();

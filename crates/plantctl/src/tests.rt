@@ -6,6 +6,7 @@ mod limits;
 mod plants;
 mod replays;
 mod sessions;
+mod ties;
 mod words;
 
 use crate::run_quiet;

@@ -11,6 +11,7 @@ pub mod IsReplayLemmas
 pub mod SessionsLemmas
 pub mod DeedsLemmas
 pub mod DeedsOnce
+pub mod TiedReplayLemmas
 pub mod DigitsLemmas
 pub mod TurnEntries
 pub mod AnsweredLemmas

@@ -10,9 +10,11 @@ use Rattle.record_replay.specs.declared.output.Output.{Output}
 use Rattle.record_replay.specs.declared.stage.Stage.{Stage}
 use Rattle.record_replay.specs.OutputInside.{HasNothing, Puts, IsAllGiven, IsCutShort}
 use Rattle.record_replay.specs.Script.{Work, panel_of, lines, worked, LinesSpell}
-use Rattle.record_replay.specs.Replay.{begun, AllWork, HasReplayed, HasReplayedFront}
+use Rattle.record_replay.specs.Replay.{begun, AllWork}
+use Rattle.record_replay.specs.TiedReplay.{HasReplayed, HasReplayedFront}
 use Rattle.record_replay.specs.StageInside.{StandsAt, MayDo, DoesScript}
 use Rattle.record_replay.proofs.IsReplayLemmas.{have_panels}
+use Rattle.record_replay.proofs.TiedReplayLemmas.{no_two_sources}
 use Rattle.record_replay.proofs.WorksLemmas.{AllWork-append, works_exist}
 
 -- A new stage may do any script.
@@ -36,7 +38,10 @@ replayed written faults plant script stage sink now first last stands small spel
     let is : spelled.0 ≡ done.2.done = done.2.works_are ∙ ap (λ (left : List Work). done.2.done ++ left) (done.2.whole whole) ∙ append-nil done.2.done in (
       record {
         output = done.0;
-        replay = record { works = spelled.0; spelled = spelled.1; last = done.2.next; all_work = subst (λ (works : List Work). AllWork plant works (begun plant) done.0 done.2.next) (sym is) done.2.all_work };
+        replay = record {
+          replay = record { works = spelled.0; spelled = spelled.1; last = done.2.next; all_work = subst (λ (works : List Work). AllWork plant works (begun plant) done.0 done.2.next) (sym is) done.2.all_work };
+          ties = no_two_sources plant script done.0 stands.valid.is_plant;
+        };
         appends = all.0;
       },
       all.1,
@@ -57,11 +62,14 @@ cut_short written faults plant script stage sink now first last stands small spe
       record {
         output = done.0 ++ later.0;
         replay = record {
-          works = spelled.0;
-          spelled = spelled.1;
-          last = later.1;
-          all_work = subst (λ (works : List Work). AllWork plant works (begun plant) (done.0 ++ later.0) later.1) (sym done.2.works_are)
-              (AllWork-append plant done.2.done done.2.left (begun plant) done.2.next later.1 done.0 later.0 done.2.all_work later.2);
+          replay = record {
+            works = spelled.0;
+            spelled = spelled.1;
+            last = later.1;
+            all_work = subst (λ (works : List Work). AllWork plant works (begun plant) (done.0 ++ later.0) later.1) (sym done.2.works_are)
+                (AllWork-append plant done.2.done done.2.left (begun plant) done.2.next later.1 done.0 later.0 done.2.all_work later.2);
+          };
+          ties = no_two_sources plant script (done.0 ++ later.0) stands.valid.is_plant;
         };
         appends = record {
           count = part.appends.count;

@@ -22,7 +22,7 @@ use Rattle.record_replay.specs.Replay.{Stand, begun, with_past, behind_turn, tur
 use Rattle.record_replay.specs.StandInside.{IsSettled}
 
 -- No history changes the plant.
-run-plant : (state : State) (history : List PlantEntry) → (run step state history).plant ≡ state.plant
+pub run-plant : (state : State) (history : List PlantEntry) → (run step state history).plant ≡ state.plant
 run-plant state [] = refl
 run-plant state (entry ∷ later) = run-plant (step state entry.request).state later ∙ plant-step state entry.request
 

@@ -13,5 +13,6 @@ pub mod OutputLaws
 pub mod StandInside
 pub mod StageInside
 pub mod Laws
+pub mod TiedReplay
 pub mod Answered
 pub mod ScriptLaws

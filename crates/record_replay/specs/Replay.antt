@@ -1,8 +1,7 @@
 -- What a replay writes.
-use Rattle.std.specs.Prelude.{◌≡◌, ℕ, ◌==◌, Bool, true, false, if◌then◌else◌, List, [], ◌∷◌, ◌++◌, codes, Option, Result, Ok, Err}
+use Rattle.std.specs.Prelude.{◌≡◌, ℕ, ◌==◌, Bool, true, false, if◌then◌else◌, List, [], ◌∷◌, ◌++◌, codes, Result, Ok, Err}
 use Rattle.std.specs.Fmt.{decimal}
 use Rattle.hex.specs.Hex.{encode_upper}
-use Rattle.ctl_io.specs.Sink.{appended, AppendsPart}
 use Rattle.history_lock.specs.History.{run}
 use Rattle.plant_config.specs.Plant.{PlantData}
 use Rattle.plant_core.specs.declared.request.Request.TheVariants as requests
@@ -77,20 +76,6 @@ pub record IsReplay (plant : PlantData) (script output : List ℕ) : Type 0 wher
   pub spelled : LinesSpell plant (worked (lines script)) works
   pub last : Stand
   pub all_work : AllWork plant works (begun plant) output last
-
--- A sink was given the script's replay text.
-pub record HasReplayed (plant : PlantData) (script : List ℕ)
-    (before now : Option (List ℕ)) : Type 0 where
-  pub output : List ℕ
-  pub replay : IsReplay plant script output
-  pub appends : now ≡ appended before output
-
--- A sink was given a front of the script's replay text.
-pub record HasReplayedFront (plant : PlantData) (script : List ℕ)
-    (before now : Option (List ℕ)) : Type 0 where
-  pub output : List ℕ
-  pub replay : IsReplay plant script output
-  pub appends : AppendsPart output before now
 
 -- whether a replay ended for a fault of the output
 abbrev pub output_failed : {T : Type 0} → Result T ReplayFault → Bool

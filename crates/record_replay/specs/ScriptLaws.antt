@@ -8,11 +8,13 @@ use Rattle.swp08_messages.specs.declared.message.Message.{Message}
 use Rattle.swp08_messages.specs.Text.{text, InRange}
 use Rattle.swp08_messages.specs.Spelled.{Spells}
 use Rattle.plant_config.specs.Plant.{PlantData}
+use Rattle.plant_config.specs.IsPlant.{IsPlant}
 use Rattle.panel_session.specs.Entry.{PlantEntry}
 use Rattle.record_replay.specs.Script.{IsFirstBad}
 use Rattle.record_replay.specs.Replay.{IsReplay}
 use Rattle.record_replay.specs.Laws.{Deed, Turned, IsHistory, pieces_of}
 use Rattle.record_replay.specs.Answered.{AnswersItems}
+use Rattle.record_replay.specs.TiedReplay.{NoTieCarriesTwoSources}
 
 -- the frame of a message is read as one good item with the message's DATA
 abbrev pub MessageFramesAreItems : Type 0
@@ -72,3 +74,8 @@ TurnsAnswerItems = (plant : PlantData) (script output : List ℕ) (deeds before 
     → IsHistory plant script output deeds
     → deeds ≡ before ++ Turned panel piece entries sent ∷ after
     → AnswersItems (flat_map (λ piece. piece) (pieces_of panel before)) piece sent
+
+-- On a plant no tie carries two sources, at each place of the history behind a replay's text.
+abbrev pub TiesCarryOneSource : Type 0
+TiesCarryOneSource = (plant : PlantData) (script output : List ℕ)
+    → IsPlant plant → NoTieCarriesTwoSources plant script output

@@ -6,6 +6,7 @@ ghost use Rattle.record_replay.specs.ScriptLaws.{ScriptsReplayOrAreBad, ReplayTe
 ghost use Rattle.record_replay.specs.ScriptLaws.{FirstBadsAreOne, BadsDoNotReplay};
 ghost use Rattle.record_replay.specs.ScriptLaws.{ReplaysHaveHistory, HistoriesAreOne};
 ghost use Rattle.record_replay.specs.ScriptLaws.{HistoriesShowReplays, TurnsAnswerItems};
+ghost use Rattle.record_replay.specs.ScriptLaws.{TiesCarryOneSource};
 
 /// The frame of a message is read as one good item with the message's DATA and no rest. These DATA spell the
 /// message, and no other.
@@ -37,4 +38,10 @@ pub fn one_history()
 /// nothing, a NAK by nothing or one message frame.
 pub fn lines_answer_items()
     ensures { TurnsAnswerItems }
+{}
+
+/// At each place of the history behind a replay's text no tie carries two sources: behind each front of its entries the
+/// sources of one pool that stand in the plant have one tie exactly where they stand for one origin.
+pub fn no_tie_carries_two_sources()
+    ensures { TiesCarryOneSource }
 {}

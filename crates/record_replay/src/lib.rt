@@ -16,7 +16,7 @@ mod script;
 mod stage;
 mod take;
 
-pub use laws::{lines_answer_items, one_history, one_item, one_replay};
+pub use laws::{lines_answer_items, no_tie_carries_two_sources, one_history, one_item, one_replay};
 pub use replay::{ReplayFault, replay_script};
 
 #[cfg(test)]

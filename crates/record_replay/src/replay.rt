@@ -5,7 +5,8 @@ ghost use Rattle.ctl_io.specs.Faults.{counted};
 ghost use Rattle.record_replay.specs.declared.replay.ReplayFault.TheVariants.{NoMemory};
 ghost use Rattle.record_replay.specs.Script.{IsFirstBad};
 ghost use Rattle.record_replay.specs.LineInside.{HasWorks};
-ghost use Rattle.record_replay.specs.Replay.{HasReplayed, HasReplayedFront, output_failed};
+ghost use Rattle.record_replay.specs.Replay.{output_failed};
+ghost use Rattle.record_replay.specs.TiedReplay.{HasReplayed, HasReplayedFront};
 
 use crate::check::check_lines;
 use crate::digits::Digits;

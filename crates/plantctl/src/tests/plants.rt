@@ -82,8 +82,8 @@ const RUNS: [(&[&str], u8, &str); 14] = [
     (&["replay", "both", "both"], 0, "< 0 -\n"),
     (
         &["replay", "remote", "script"],
-        4,
-        "plant refused: NotBuilt at remote 0 entries\n",
+        0,
+        "< 0 10061002032007027F05501003\n",
     ),
     // The plant's fault is told before the script is looked for.
     (

@@ -1,5 +1,5 @@
 use Rattle.plantctl.proofs.StatusesLemmas.{plant_cause}
-use Rattle.plantctl.proofs.AlwaysLemmas.{refused_plant, not_built_always}
+use Rattle.plantctl.proofs.AlwaysLemmas.{refused_plant}
 use Rattle.plantctl.proofs.FilesLeftLemmas.{no_script_opened}
 use Rattle.plantctl.proofs.laws.plant_refused.Goals as goal
 
@@ -8,9 +8,6 @@ returns-clause-cause c = plant_cause
 
 pub returns-clause-refused : goal.returns-clause-refused
 returns-clause-refused c = refused_plant
-
-pub returns-clause-not_built : goal.returns-clause-not_built
-returns-clause-not_built c = not_built_always
 
 pub returns-clause-unopened : goal.returns-clause-unopened
 returns-clause-unopened c = no_script_opened

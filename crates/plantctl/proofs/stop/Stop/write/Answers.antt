@@ -19,6 +19,3 @@ returns-in-PlantRefused-clause-all g c =
 
 pub returns-in-PlantTooLong-clause-all : goal.returns-in-PlantTooLong-clause-all
 returns-in-PlantTooLong-clause-all g c = rw c.in-PlantTooLong.is c.write_all-in-PlantTooLong.ensures.all
-
-pub returns-in-NotBuilt-clause-all : goal.returns-in-NotBuilt-clause-all
-returns-in-NotBuilt-clause-all g c = rw c.in-NotBuilt.is c.write_all-in-NotBuilt.ensures.all

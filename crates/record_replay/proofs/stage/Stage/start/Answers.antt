@@ -8,7 +8,7 @@ use Rattle.record_replay.proofs.stage.Stage.start.Goals as goal
 
 pub returns : goal.returns
 returns c =
-    let is : IsPlant c.args.plant.now = subst IsPlant (ap (λ (state : State). state.plant) (c.drop.view_is ∙ c.in_ok-start.ensures)) c.drop.invariant.is_plant in
+    let is : IsPlant c.args.plant.now = subst IsPlant (ap (λ (state : State). state.plant) (c.drop.view_is ∙ c.in_ok-start.ensures)) c.drop.invariant.valid.is_plant in
     record {
       plant_is = refl;
       state_is = c.in_ok-start.ensures;

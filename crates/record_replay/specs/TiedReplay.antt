@@ -1,0 +1,41 @@
+-- What a replay is: its text, and the ties behind it.
+use Rattle.std.specs.Prelude.{◌≡◌, ℕ, List, ◌++◌, Option}
+use Rattle.ctl_io.specs.Sink.{appended, AppendsPart}
+use Rattle.history_lock.specs.History.{run}
+use Rattle.plant_config.specs.Plant.{PlantData}
+use Rattle.crosspoint_state.specs.Ties.{HaveValidTies}
+use Rattle.plant_core.specs.State.{start}
+use Rattle.plant_core.specs.Step.{step}
+use Rattle.panel_session.specs.Entry.{PlantEntry}
+use Rattle.record_replay.specs.Replay.{IsReplay}
+use Rattle.record_replay.specs.Laws.{Deed, history_of, IsHistory}
+
+-- Behind each front of a history, begun at the start of the plant, the ties of the crosspoints are valid: no tie carries two
+-- sources.
+abbrev pub KeepsTiesValid : PlantData → List PlantEntry → Type 0
+KeepsTiesValid plant history = (front later : List PlantEntry) → history ≡ front ++ later
+    → HaveValidTies plant (run step (start plant) front).crosspoints
+
+-- At each place of the history behind a replay's text no tie carries two sources.
+abbrev pub NoTieCarriesTwoSources : PlantData → (script output : List ℕ) → Type 0
+NoTieCarriesTwoSources plant script output = (deeds : List Deed)
+    → IsHistory plant script output deeds → KeepsTiesValid plant (history_of deeds)
+
+-- The script has this replay text on this plant, and no tie carries two sources at any place of the history behind it.
+pub record IsTiedReplay (plant : PlantData) (script output : List ℕ) : Type 0 where
+  pub replay : IsReplay plant script output
+  pub ties : NoTieCarriesTwoSources plant script output
+
+-- A sink was given the script's replay text.
+pub record HasReplayed (plant : PlantData) (script : List ℕ)
+    (before now : Option (List ℕ)) : Type 0 where
+  pub output : List ℕ
+  pub replay : IsTiedReplay plant script output
+  pub appends : now ≡ appended before output
+
+-- A sink was given a front of the script's replay text.
+pub record HasReplayedFront (plant : PlantData) (script : List ℕ)
+    (before now : Option (List ℕ)) : Type 0 where
+  pub output : List ℕ
+  pub replay : IsTiedReplay plant script output
+  pub appends : AppendsPart output before now
