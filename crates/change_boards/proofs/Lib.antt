@@ -1,10 +1,8 @@
-pub mod Bits
-pub mod SummaryLemmas
-pub mod Members
-pub mod LowestLemmas
-pub mod FirstMember
 pub mod NextLemmas
 pub mod OneNotice
 pub mod InOrder
 pub mod StayBoards
+pub mod ScreensLemmas
+pub mod ScreenDisplays
+pub mod ShownLemmas
 mod Worked

@@ -1,15 +1,8 @@
 -- The definitions computed on boards of a few notices, by hand.
 use Rattle.std.proofs.Common.{◌≡◌, [], ◌∷◌, false, Some, None, refl}
 use Rattle.change_boards.specs.declared.sort.Sort.TheVariants.{Source, Protect}
-use Rattle.change_boards.specs.Destinations.{least}
 use Rattle.change_boards.specs.Board.{sooner, blank, abandoned, marked, without}
 use Rattle.change_boards.specs.Notices.{start, with_leave, has_left}
-
-least_of_none : least [] ≡ None
-least_of_none = refl
-
-least_of_some : least (5 ∷ 3 ∷ 65535 ∷ []) ≡ Some 3
-least_of_some = refl
 
 lower_first : sooner (Some 5) (Some 3) ≡ Some (3, Protect)
 lower_first = refl

@@ -1,6 +1,10 @@
 pub use Rattle.plant_config.specs.Plant
+pub use Rattle.number_set.specs.Numbers
 pub mod Destinations
-pub mod SetInside
 pub mod Board
 pub mod Notices
+pub mod Screens
+pub mod ScreensInside
+pub mod Shown
 pub mod Laws
+pub mod ShownLaws

@@ -1,22 +1,26 @@
-//! The notices of a plant: which destinations changed that each panel has yet to hear of, and which panels have left.
-//! A panel's notices are two sets of destinations, and are taken one by one, the lowest first. All memory is taken when
-//! they are made, and no call but `drop_panel` and `all_left` takes longer where there are more.
+//! What has yet to be told: the notices of each panel and which panels have left, what each display was last shown, and
+//! the displays of each screen. A panel's notices are two sets of destinations and are taken one by one, the lowest first;
+//! the displays of a screen are in the order of their indexes. All memory is taken when these are made.
 #![tactic(auto)]
 
-mod dest_set;
 #[cfg(test)]
 mod example;
 mod laws;
 mod notices;
 mod panel_board;
+mod screens;
+mod shown;
 mod sort;
 #[cfg(test)]
 mod tests;
-mod words;
+mod value;
 
 pub use laws::{
-    boards_stay_boards, leaves_are_of_one_panel, marks_give_one_notice, takes_go_in_order,
-    takes_remove_one_notice,
+    a_display_is_shown_alone, boards_stay_boards, leaves_are_of_one_panel, marks_give_one_notice,
+    screens_have_their_displays, takes_go_in_order, takes_remove_one_notice,
 };
 pub use notices::Notices;
+pub use screens::Screens;
+pub use shown::Shown;
 pub use sort::Sort;
+pub use value::Value;

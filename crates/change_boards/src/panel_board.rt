@@ -4,19 +4,22 @@ ghost use Rattle.std.specs.Prelude.{◌≡◌, ◌<◌, ◌↔◌, IsNone, IsTru
 ghost use Rattle.change_boards.specs.Board.{IsEmpty, abandoned, blank, has_notice};
 ghost use Rattle.change_boards.specs.Board.{marked, next, taken};
 
-use crate::dest_set::DestSet;
 use crate::sort::Sort;
+use number_set::{MAX_NUMBERS, NumberSet};
 use plant_config::{DestId, MAX_DESTINATIONS};
 use std::alloc::{AllocError, Global};
 use std::marker::Model;
+
+// A set has room for all destinations of the largest plant: what is below their limit is below that of the sets.
+const _: () = prove!(MAX_DESTINATIONS == MAX_NUMBERS);
 
 /// Of which destinations a panel has yet to hear that they changed, and whether it has left.
 #[derive(Debug, Drop)]
 pub(crate) struct PanelBoard {
     /// Those whose source changed.
-    source: DestSet,
+    source: NumberSet,
     /// Those whose owner changed.
-    protect: DestSet,
+    protect: NumberSet,
     /// Whether the panel has left.
     left: bool,
 }
@@ -40,8 +43,8 @@ impl PanelBoard {
     pub(crate) fn new(alloc: Global) -> Result<PanelBoard, AllocError>
         ensures { IfOk result (λ board. board ≡ blank) }
     {
-        let source = DestSet::new(alloc)?;
-        let protect = DestSet::new(alloc)?;
+        let source = NumberSet::new(alloc)?;
+        let protect = NumberSet::new(alloc)?;
         Ok(PanelBoard {
             source,
             protect,
@@ -62,8 +65,8 @@ impl PanelBoard {
         ensures { result ≡ has_notice self.now dest sort }
     {
         match sort {
-            Sort::Source => self.source.contains(dest),
-            Sort::Protect => self.protect.contains(dest),
+            Sort::Source => self.source.contains(dest.get()),
+            Sort::Protect => self.protect.contains(dest.get()),
         }
     }
 
@@ -83,8 +86,8 @@ impl PanelBoard {
             return;
         }
         match sort {
-            Sort::Source => self.source.insert(dest),
-            Sort::Protect => self.protect.insert(dest),
+            Sort::Source => self.source.insert(dest.get()),
+            Sort::Protect => self.protect.insert(dest.get()),
         }
     }
 
@@ -95,13 +98,13 @@ impl PanelBoard {
     {
         match (self.source.lowest(), self.protect.lowest()) {
             (None, None) => None,
-            (None, Some(protect)) => Some((protect, Sort::Protect)),
-            (Some(source), None) => Some((source, Sort::Source)),
+            (None, Some(protect)) => Some((DestId::of(protect), Sort::Protect)),
+            (Some(source), None) => Some((DestId::of(source), Sort::Source)),
             (Some(source), Some(protect)) => {
                 if protect < source {
-                    Some((protect, Sort::Protect))
+                    Some((DestId::of(protect), Sort::Protect))
                 } else {
-                    Some((source, Sort::Source))
+                    Some((DestId::of(source), Sort::Source))
                 }
             }
         }
@@ -115,8 +118,8 @@ impl PanelBoard {
     {
         let (dest, sort) = self.next()?;
         match sort {
-            Sort::Source => self.source.remove(dest),
-            Sort::Protect => self.protect.remove(dest),
+            Sort::Source => self.source.remove(dest.get()),
+            Sort::Protect => self.protect.remove(dest.get()),
         }
         Some((dest, sort))
     }

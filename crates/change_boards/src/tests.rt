@@ -2,8 +2,8 @@
 
 ghost use Rattle.std.specs.Prelude.{◌≡◌, ◌<◌, length};
 
-use crate::{Notices, Sort};
-use plant_config::{DestId, MAX_DESTINATIONS, PanelNo, Plant};
+use crate::{Notices, Screens, Shown, Sort, Value};
+use plant_config::{DestId, DisplayId, MAX_DESTINATIONS, PanelNo, Plant, SourceId};
 use std::process::Abort;
 use std::test::Fail;
 
@@ -160,5 +160,126 @@ fn whoever_left_hears_nothing(rt: HostRuntime) -> Result<(), Fail> {
     notices.drop_panel(stayer);
     takes_all(&rt, &mut notices, stayer, &[]);
     assert!(rt; notices.all_left());
+    Ok(())
+}
+
+// Displays of three screens, no screen's in a row and none's in the order of their indexes.
+const WALL: &[u8] = br#"
+title = "Wall"
+[[level]]
+matrix = 0
+level = 0
+sources = 2
+destinations = 1
+[[display]]
+screen = 7
+index = 300
+matrix = 0
+destination = 0
+[[display]]
+screen = 65534
+index = 65534
+matrix = 0
+destination = 0
+[[display]]
+screen = 7
+index = 2
+matrix = 0
+destination = 0
+[[display]]
+screen = 0
+index = 2
+matrix = 0
+destination = 0
+[[display]]
+screen = 65534
+index = 0
+matrix = 0
+destination = 0
+[[display]]
+screen = 7
+index = 10
+matrix = 0
+destination = 0
+[[panel]]
+device = 1
+port = 9001
+"#;
+
+#[test]
+fn displays_come_in_the_order_of_their_indexes(rt: HostRuntime) -> Result<(), Fail> {
+    let plant = Plant::from_toml(rt.alloc(), WALL)?;
+    let screens = Screens::new(rt.alloc(), &plant)?;
+    let rows: [(u16, &[u32]); 6] = [
+        (0, &[3]),
+        (1, &[]),
+        (7, &[2, 5, 0]),
+        (65_533, &[]),
+        (65_534, &[4, 1]),
+        (65_535, &[]),
+    ];
+    for (screen, wanted) in rows {
+        let displays = screens.displays(screen);
+        assert_eq!(rt; displays.len(), wanted.len(), "screen {screen}");
+        for (display, number) in displays.iter().zip(wanted) {
+            assert_eq!(rt; display.get(), *number, "screen {screen}");
+        }
+    }
+    Ok(())
+}
+
+#[test]
+fn a_plant_without_displays_has_no_screen(rt: HostRuntime) -> Result<(), Fail> {
+    let plant = Plant::bench(rt.alloc())?;
+    let screens = Screens::new(rt.alloc(), &plant)?;
+    assert!(rt; screens.displays(0).is_empty());
+    Ok(())
+}
+
+fn value(source: Option<u32>, air: bool, preview: bool) -> Value {
+    Value {
+        source: source.map(SourceId::of),
+        air,
+        preview,
+    }
+}
+
+#[test]
+fn each_part_of_a_value_differs(rt: HostRuntime) -> Result<(), Fail> {
+    let plant = Plant::from_toml(rt.alloc(), WALL)?;
+    assert!(rt; plant.displays().len() == 6);
+    let display = DisplayId::of(5);
+    let mut shown = Shown::new(rt.alloc(), &plant)?;
+    assert_eq!(rt; shown.last(display), None);
+    shown.show(display, value(Some(1), true, false));
+    assert_eq!(rt; shown.last(display), Some(value(Some(1), true, false)));
+    for (source, air, preview, differs) in [
+        (Some(1), true, false, false),
+        (None, true, false, true),
+        (Some(0), true, false, true),
+        (Some(1), false, false, true),
+        (Some(1), true, true, true),
+    ] {
+        assert_eq!(rt;
+            shown.differs(display, value(source, air, preview)),
+            differs
+        );
+    }
+    Ok(())
+}
+
+#[test]
+fn what_is_forgotten_is_shown_again(rt: HostRuntime) -> Result<(), Fail> {
+    let plant = Plant::from_toml(rt.alloc(), WALL)?;
+    assert!(rt; plant.displays().len() == 6);
+    let (kept, forgotten) = (DisplayId::of(3), DisplayId::of(4));
+    let mut shown = Shown::new(rt.alloc(), &plant)?;
+    shown.show(kept, value(None, false, true));
+    shown.show(forgotten, value(None, false, true));
+    shown.forget(&[]);
+    assert!(rt; !shown.differs(forgotten, value(None, false, true)));
+    shown.forget(&[DisplayId::of(0), forgotten, forgotten]);
+    assert!(rt; shown.differs(forgotten, value(None, false, true)));
+    assert_eq!(rt; shown.last(kept), Some(value(None, false, true)));
     Ok(())
 }

@@ -1,6 +1,0 @@
-use Rattle.std.proofs.Common.{arith}
-use Rattle.change_boards.proofs.Bits.{SetsBit-or}
-use Rattle.change_boards.proofs.words.set_bit.Goals as goal
-
-pub returns : goal.returns
-returns c = SetsBit-or c.args.words.now c.args.number (omega arith)

@@ -1,0 +1,6 @@
+pub mod Bits
+pub mod SummaryLemmas
+pub mod Members
+pub mod LowestLemmas
+pub mod FirstMember
+mod Worked

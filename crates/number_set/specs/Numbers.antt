@@ -1,0 +1,22 @@
+-- Sets of numbers.
+use Rattle.std.specs.Prelude.{ℕ, min, List, [], ◌∷◌, Option, Some, None}
+use Rattle.std.specs.Option.{option_map_or}
+use Rattle.std.specs.Ordering.{nat_cmp}
+use Rattle.std.specs.FinSet.{FinSet, items}
+
+-- a set of numbers. It is the list of its members in order, each once, so that equal sets are one value.
+abbrev pub Numbers : Type 0
+Numbers = FinSet nat_cmp
+
+-- how many numbers there are: the members of a set are below
+abbrev pub number_limit : ℕ
+number_limit = 65536
+
+-- the least of some numbers
+abbrev pub least : List ℕ → Option ℕ
+least [] = None
+least (x ∷ xs) = Some (option_map_or (min x) (least xs) x)
+
+-- the lowest member of a set
+abbrev pub lowest : Numbers → Option ℕ
+lowest numbers = least (items numbers)
