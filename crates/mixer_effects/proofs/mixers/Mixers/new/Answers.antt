@@ -1,0 +1,26 @@
+use Rattle.std.proofs.Common.{◌≤◌, length, arith, ap, ◌∙◌}
+use Rattle.mixer_effects.proofs.TableLemmas.{fed-device_from}
+use Rattle.mixer_effects.proofs.SpanLemmas.{spans_none, spans_all}
+use Rattle.mixer_effects.proofs.mixers.Mixers.new.Goals as goal
+
+pub loop-number-init : goal.loop-number-init
+loop-number-init c = record {
+  spans = spans_none c.args.plant.now c.in_ok-span_by_switch.span_by_switch.entries c.new-switched.result.items c.in_ok-span_by_switch.ensures.empty c.new-switched.ensures.items;
+  room = c.in_ok-span_by_switch.ensures.room;
+}
+
+pub put_switch-requires-clause-room : goal.put_switch-requires-clause-room
+put_switch-requires-clause-room c = c.loop-number.invariant.room
+
+pub put_switch-requires-clause-spans : goal.put_switch-requires-clause-spans
+put_switch-requires-clause-spans c = c.loop-number.invariant.spans
+
+pub returns : goal.returns
+returns c =
+    let plant = c.args.plant.now in
+    let few : length plant.buses ≤ c.loop-number.number = omega (arith, ap length c.buses-number-end.ensures.buses, c.loop-number-test.false) in
+    record {
+      buses = λ dest. c.in_ok-bus_by_dest.ensures dest;
+      devices = λ source. c.in_ok-device_by_output.ensures source ∙ fed-device_from plant source;
+      switched = λ dest. spans_all plant c.loop-number.number c.loop-number.span_by_switch.entries c.loop-number.switched.items few c.loop-number.invariant.spans dest;
+    }

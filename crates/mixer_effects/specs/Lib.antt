@@ -1,0 +1,5 @@
+pub mod Buses
+pub mod Live
+pub mod Wiring
+pub mod WiringInside
+pub mod Laws

@@ -1,0 +1,18 @@
+//! Devices and their buses. A bus is a destination, and is on by itself or by the destination that switches it. All tables are
+//! made at the opening, and no call of a graph looks at a bus or a device that it isn't asked for.
+#![tactic(auto)]
+
+#[cfg(test)]
+mod example;
+mod graph;
+mod laws;
+mod mixers;
+mod span;
+#[cfg(test)]
+mod tests;
+
+pub use graph::{Graph, is_bus_on};
+pub use laws::{
+    a_cut_switch_cuts_its_bus, cut_sources_are_dark, live_is_least, sources_at_roots_are_seen,
+};
+pub use mixers::Mixers;

@@ -1,0 +1,34 @@
+//! The destinations at which a plant's tally begins.
+
+ghost use Rattle.std.specs.Prelude.{◌≡◌};
+ghost use Rattle.tally.specs.Tally.{roots_of};
+ghost use Rattle.tally.specs.TallyInside.{is_root};
+
+use plant_config::{DestId, Plant};
+
+/// For which roots a tally is asked.
+#[derive(Clone, Copy, Debug, PartialEq, Eq)]
+pub enum Roots {
+    /// The destinations that are on air.
+    Air,
+    /// The destinations that are on preview.
+    Preview,
+}
+
+impl Roots {
+    // The destinations of a plant that are such roots.
+    pub(crate) fn of(self, plant: &Plant) -> &[DestId]
+        ensures { result.now ≡ roots_of plant.now self }
+    {
+        match self {
+            Roots::Air => plant.air(),
+            Roots::Preview => plant.preview(),
+        }
+    }
+    // Whether a destination is one of them.
+    pub(crate) fn has(self, plant: &Plant, dest: DestId) -> bool
+        ensures { result ≡ is_root (roots_of plant.now self) dest }
+    {
+        self.of(plant).contains(&dest)
+    }
+}

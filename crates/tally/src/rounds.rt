@@ -1,0 +1,121 @@
+//! The sources that are seen at roots, found in rounds: each puts what the buses carry that feed the sources so far.
+
+ghost use Rattle.std.specs.Prelude.{◌≡◌, ◌<◌, ◌&&◌, ℕ, false, length, slice_index_or, IfSome};
+ghost use Rattle.plant_config.specs.IsPlant.{IsPlant};
+ghost use Rattle.crosspoint_state.specs.Crosspoints.{Crosspoints};
+ghost use Rattle.mixer_effects.specs.Live.{origin_at, carries};
+ghost use Rattle.number_set.specs.Numbers.{number_limit};
+ghost use Rattle.tally.specs.Tally.{origins_at, seen_origins, CarrySources};
+ghost use Rattle.tally.specs.TallyInside.{Adds, any_brings, bus_carries, feeds};
+
+use crosspoint_state::Crosspoints;
+use mixer_effects::is_bus_on;
+use number_set::NumberSet;
+use plant_config::{Bus, DestId, Plant, SourceId};
+
+// The most devices of a plant.
+const DEVICES: usize = 64;
+
+// Finds the local sources whose pictures are seen at these roots. A round that puts nothing is the last.
+pub(crate) fn find_seen(plant: &Plant, points: &Crosspoints, roots: &[DestId], seen: &mut NumberSet)
+    requires plant { IsPlant plant.now }
+    requires carried { CarrySources plant.now points.now }
+    ensures { seen.new ≡ seen_origins plant.now points.now roots.now }
+{
+    put_roots(plant, points, roots, seen);
+    for _round in 0..plant.devices().len() {
+        if !put_round(plant, points, seen) {
+            return;
+        }
+    }
+}
+
+// Puts the origins of what the roots carry into a set, in the place of what it had.
+fn put_roots(plant: &Plant, points: &Crosspoints, roots: &[DestId], seen: &mut NumberSet)
+    requires plant { IsPlant plant.now }
+    requires carried { CarrySources plant.now points.now }
+    ensures { seen.new ≡ origins_at plant.now points.now roots.now }
+{
+    seen.clear();
+    for root in roots {
+        put_origin(plant, points, *root, seen);
+    }
+}
+
+// Puts the origins of what the buses carry that are on and whose device puts out one of the set. Whether one is new.
+fn put_round(plant: &Plant, points: &Crosspoints, seen: &mut NumberSet) -> bool
+    requires plant { IsPlant plant.now }
+    requires carried { CarrySources plant.now points.now }
+    ensures put { Adds (any_brings plant.now points.now seen.old plant.now.buses)
+        seen.old seen.new }
+    ensures same { result ≡ false → seen.new ≡ seen.old }
+{
+    let fed = fed_devices(plant, seen);
+    let mut is_new = false;
+    for bus in plant.buses() {
+        is_new |= put_bus(plant, points, &fed, bus, seen);
+    }
+    is_new
+}
+
+// Which devices put out a source of a set.
+fn fed_devices(plant: &Plant, seen: &NumberSet) -> [bool; DEVICES]
+    requires { IsPlant plant.now }
+    ensures { (device : ℕ) → device < length plant.now.devices
+        → slice_index_or result device false ≡ feeds plant.now seen.now device }
+{
+    let mut fed = [false; DEVICES];
+    for (number, device) in plant.devices().iter().enumerate() {
+        fed[number] = seen.contains(device.output.get());
+    }
+    fed
+}
+
+// Puts the origin of what a bus carries, where it is on and its device is one of these. Whether that is new.
+fn put_bus(
+    plant: &Plant,
+    points: &Crosspoints,
+    fed: &[bool; DEVICES],
+    bus: &Bus,
+    seen: &mut NumberSet,
+) -> bool
+    requires plant { IsPlant plant.now }
+    requires carried { CarrySources plant.now points.now }
+    requires device { bus.now.device < DEVICES }
+    ensures put { Adds (λ origin. slice_index_or fed.now bus.now.device false
+        && bus_carries plant.now points.now origin bus.now) seen.old seen.new }
+    ensures same { result ≡ false → seen.new ≡ seen.old }
+{
+    if !fed[bus.device.get() as usize] || !is_bus_on(plant, points, bus) {
+        return false;
+    }
+    put_origin(plant, points, bus.dest, seen)
+}
+
+// Puts the origin of what a destination carries. Whether that is new.
+fn put_origin(plant: &Plant, points: &Crosspoints, dest: DestId, seen: &mut NumberSet) -> bool
+    requires plant { IsPlant plant.now }
+    requires carried { CarrySources plant.now points.now }
+    ensures put { Adds (λ origin. carries plant.now points.now origin dest) seen.old seen.new }
+    ensures same { result ≡ false → seen.new ≡ seen.old }
+{
+    let Some(origin) = origin_at(plant, points, dest) else {
+        return false;
+    };
+    if seen.contains(origin.get()) {
+        return false;
+    }
+    seen.insert(origin.get());
+    true
+}
+
+// The local source whose picture a destination carries, `None` where it is parked.
+fn origin_at(plant: &Plant, points: &Crosspoints, dest: DestId) -> Option<SourceId>
+    requires plant { IsPlant plant.now }
+    requires carried { CarrySources plant.now points.now }
+    ensures origin { result ≡ origin_at plant.now points.now dest }
+    ensures below { IfSome result (λ origin. origin < number_limit) }
+{
+    let source = points.source_at(dest)?;
+    Some(plant.origin(source))
+}

@@ -1,0 +1,117 @@
+//! The tally of a plant.
+
+ghost use Rattle.std.specs.Prelude.{◌≡◌, ◌<◌, IfOk};
+ghost use Rattle.std.specs.FinMap.{empty};
+ghost use Rattle.plant_config.specs.Plant.{sources_of};
+ghost use Rattle.plant_config.specs.IsPlant.{IsPlant};
+ghost use Rattle.crosspoint_state.specs.Crosspoints.{Crosspoints};
+ghost use Rattle.mixer_effects.specs.Live.{is_live, is_seen};
+ghost use Rattle.mixer_effects.specs.Wiring.{IsWiringOf};
+ghost use Rattle.tally.specs.Tally.{tallies_of, roots_of, CarrySources};
+ghost use Rattle.tally.specs.TallyInside.{feeds, seen_at, is_fed_bus};
+
+use crate::roots::Roots;
+use crate::rounds::find_seen;
+use crosspoint_state::Crosspoints;
+use mixer_effects::{Graph, live_is_least};
+use number_set::NumberSet;
+use plant_config::{DestId, DeviceId, Plant, SourceId};
+use std::alloc::{AllocError, Global};
+use std::marker::Model;
+
+/// Which sources of a plant are on air, and which are on preview.
+#[derive(Debug, Drop)]
+pub struct Tally {
+    /// The local sources whose pictures are seen at the air roots.
+    air: NumberSet,
+    /// Those whose pictures are seen at the preview roots.
+    preview: NumberSet,
+}
+
+impl Model for Tally {
+    ghost use Rattle.tally.specs.Tally.{Tallies, code};
+
+    ghost Value = { Tallies };
+
+    ghost coded = { code };
+
+    ghost view = { λ tally. record { air = tally.air; preview = tally.preview } };
+}
+
+impl Tally {
+    /// The tally of a plant of which all destinations are parked.
+    pub fn new(alloc: Global, plant: &Plant) -> Result<Tally, AllocError>
+        ensures { IfOk result (λ tally. tally ≡ tallies_of plant.now empty) }
+    {
+        let air = NumberSet::new(alloc)?;
+        let preview = NumberSet::new(alloc)?;
+        Ok(Tally { air, preview })
+    }
+
+    /// Finds the tally anew, from what the destinations carry.
+    pub fn find(&mut self, plant: &Plant, points: &Crosspoints)
+        requires { CarrySources plant.now points.now }
+        ensures { self.new ≡ tallies_of plant.now points.now }
+    {
+        find_seen(plant, points, plant.air(), &mut self.air);
+        find_seen(plant, points, plant.preview(), &mut self.preview);
+    }
+
+    /// Whether a source is seen at the air roots, or at the preview roots, with the crosspoints from which the tally was found.
+    pub fn is_seen(&self, plant: &Plant, roots: Roots, source: SourceId) -> bool
+        requires { source < sources_of plant.now }
+        ensures { (points : Crosspoints) → self.now ≡ tallies_of plant.now points
+            → result ≡ is_seen plant.now points (roots_of plant.now roots) source }
+    {
+        // So it is known that the plant is within its limits.
+        let _sources = plant.source_count();
+        self.seen(roots).contains(plant.origin(source).get())
+    }
+
+    /// Whether a destination is live for the air roots, or for the preview roots.
+    pub fn is_live(&self, graph: &Graph<'_>, roots: Roots, dest: DestId) -> bool
+        requires wired { IsWiringOf graph.now.plant.now graph.now.mixers.now }
+        requires found { self.now ≡ tallies_of graph.now.plant.now graph.now.points.now }
+        ensures { result ≡ is_live graph.now.plant.now graph.now.points.now
+            (roots_of graph.now.plant.now roots) dest }
+    {
+        live_is_least();
+        // So it is known that the plant is within its limits.
+        let _sources = graph.plant.source_count();
+        roots.has(graph.plant, dest) || self.is_fed_bus(graph, roots, dest)
+    }
+
+    // Whether a destination is a bus that is on, of a device that puts out a source that is seen.
+    fn is_fed_bus(&self, graph: &Graph<'_>, roots: Roots, dest: DestId) -> bool
+        requires wired { IsWiringOf graph.now.plant.now graph.now.mixers.now }
+        requires plant { IsPlant graph.now.plant.now }
+        ensures { result ≡ is_fed_bus graph.now.plant.now graph.now.points.now
+            (seen_at self.now roots) dest }
+    {
+        let Some(device) = graph.device_of(dest) else {
+            return false;
+        };
+        graph.is_on(dest) && self.feeds(graph.plant, roots, device)
+    }
+
+    // Whether a device puts out a source that is seen.
+    fn feeds(&self, plant: &Plant, roots: Roots, device: DeviceId) -> bool
+        requires { IsPlant plant.now }
+        ensures { result ≡ feeds plant.now (seen_at self.now roots) device }
+    {
+        match plant.devices().get(device.get() as usize) {
+            Some(device) => self.seen(roots).contains(device.output.get()),
+            None => false,
+        }
+    }
+
+    // The local sources whose pictures are seen at these roots.
+    fn seen(&self, roots: Roots) -> &NumberSet
+        ensures { result.now ≡ seen_at self.now roots }
+    {
+        match roots {
+            Roots::Air => &self.air,
+            Roots::Preview => &self.preview,
+        }
+    }
+}
