@@ -1,5 +1,5 @@
 -- What is sent once one answer more was added.
-use Rattle.std.proofs.Common.{◌≡◌, ℕ, Bool, true, false, if◌then◌else◌, [], ◌∷◌, ◌++◌, Option, refl, sym, ap, ◌∙◌, subst}
+use Rattle.std.proofs.Common.{◌≡◌, ℕ, Bool, true, false, if◌then◌else◌, ◌∷◌, ◌++◌, Option, refl, sym, ap, ◌∙◌, subst}
 use Rattle.dle_framing.specs.Frame.{frame}
 use Rattle.swp08_messages.specs.Dump.{Page}
 use Rattle.swp08_messages.specs.Text.{text}

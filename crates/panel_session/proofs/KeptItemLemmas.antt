@@ -20,7 +20,7 @@ use Rattle.panel_session.specs.Entry.{PlantEntry}
 use Rattle.plant_core.specs.State.{IsForPlant}
 use Rattle.panel_session.specs.Asked.{Asks, sent_to_plant}
 use Rattle.panel_session.specs.Turns.{bytes_of}
-use Rattle.panel_session.specs.Text.{Output, frames_of, with_frames, nothing_sent, output_from, polled_at, with_control, repeated, with_polls}
+use Rattle.panel_session.specs.Text.{Output, with_frames, nothing_sent, output_from, polled_at, with_control, repeated, with_polls}
 use Rattle.panel_session.specs.NamePages.{name_frames}
 use Rattle.panel_session.specs.OutgoingInside.{emptied}
 use Rattle.panel_session.specs.SoFar.{Past, read_so_far, entries_so_far, with_bytes, with_sent}

@@ -17,4 +17,5 @@ pub mod AsksExist
 pub mod TurnExists
 pub mod TurnsFit
 pub mod TurnsOnce
-pub mod NoLeaves
+pub mod SessionRequests
+pub mod LampLemmas

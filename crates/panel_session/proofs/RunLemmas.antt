@@ -10,7 +10,7 @@ use Rattle.plant_config.specs.Plant.{PlantData}
 use Rattle.plant_core.specs.Answer.{IsSayable}
 use Rattle.plant_core.specs.declared.answer.Answer.{Answer}
 use Rattle.plant_core.specs.declared.request.Request.{Request}
-use Rattle.plant_core.specs.declared.request.Request.TheVariants.{Told, Poll, Leave}
+use Rattle.plant_core.specs.declared.request.Request.TheVariants.{Told, Poll, Leave, DisplayPoll}
 use Rattle.panel_session.specs.declared.act.Act.{Act}
 use Rattle.panel_session.specs.declared.act.Act.TheVariants.{Send, Rest}
 use Rattle.panel_session.specs.declared.session.Session.{Session}
@@ -167,6 +167,7 @@ module _ {State : Type 0} {step : State → Request → Stepped State Answer} {F
       asked_behind used (Poll asker item turn) way is fits state stands refl refl refl
       (sym (append_assoc now.now.told now.now.polls (entry ∷ []))) (λ some. is ∙ drop_all used rest place)
   way_asked used (Leave asker) way is place fits state stands = absurd place
+  way_asked used (DisplayPoll screen refresh) way is place fits state stands = absurd place
 
   -- the turn is over
   pub way_over : {machine_now : State} {session_now after : Session} {now : Past} {rest more : List ℕ} (used : ℕ)

@@ -4,7 +4,7 @@ use Rattle.dle_framing.specs.Items.{items}
 use Rattle.plant_config.specs.Plant.{PlantData}
 use Rattle.plant_core.specs.State.{FitsPlant}
 use Rattle.plant_core.specs.declared.request.Request.{Request}
-use Rattle.plant_core.specs.declared.request.Request.TheVariants.{Told, Poll, Leave}
+use Rattle.plant_core.specs.declared.request.Request.TheVariants.{Told, Poll, Leave, DisplayPoll}
 use Rattle.panel_session.specs.declared.act.Act.{Act}
 use Rattle.panel_session.specs.declared.act.Act.TheVariants.{Send, Ask, Rest}
 use Rattle.panel_session.specs.declared.session.Session.{Session}
@@ -25,6 +25,7 @@ abbrev pub IsInPlace : Past → Request → ℕ → List ℕ → Type 0
 IsInPlace now (Told panel item message) used piece = now.now.polls ≡ []
 IsInPlace now (Poll panel item turn) used piece = used ≡ length piece
 IsInPlace now (Leave panel) used piece = ⊥
+IsInPlace now (DisplayPoll screen refresh) used piece = ⊥
 
 -- What `act` does behind a past that now has the bytes that it used. `Send`: some bytes are to be sent, and once they are,
 -- all of the session's text so far is. `Ask`: a request that fits the plant is to be answered into the

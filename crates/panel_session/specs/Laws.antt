@@ -1,10 +1,14 @@
 -- What holds of every session. The functions of `laws` promise it.
-use Rattle.std.specs.Prelude.{◌≡◌, ◌⊎◌, ℕ, List, ◌++◌, map}
+use Rattle.std.specs.Prelude.{◌≡◌, ◌⊎◌, ℕ, Bool, List, ◌++◌, map}
 use Rattle.dle_framing.specs.Items.{items}
 use Rattle.history_lock.specs.Step.{Stepped}
 use Rattle.plant_config.specs.Plant.{PlantData}
 use Rattle.plant_core.specs.declared.answer.Answer.{Answer}
 use Rattle.plant_core.specs.declared.request.Request.{Request}
+use Rattle.plant_core.specs.declared.request.Request.TheVariants.{DisplayPoll}
+use Rattle.plant_core.specs.State.{State, IsValid}
+use Rattle.plant_core.specs.Step.{step}
+use Rattle.panel_session.specs.DisplayPacket.{AreLamps}
 use Rattle.panel_session.specs.declared.session.Session.{Session}
 use Rattle.panel_session.specs.Run.{IsWorked}
 use Rattle.panel_session.specs.Session.{StandsFor, Awaits, outgoing_of}
@@ -45,3 +49,8 @@ TurnsAreSent = (plant : PlantData) (panel : ℕ) (session : Session) (past : Pas
     → IsText plant (items (bytes_of past.turns)) (entries_of past.turns) past.sent
     ⊎ IsText plant (items (bytes_of past.turns)) (entries_of past.turns)
     (past.sent ++ outgoing_of session)
+
+-- In a valid state the lamps that answer a display poll are of displays and sources of the plant.
+abbrev pub DisplayPollAnswersAreLamps : Type 0
+DisplayPollAnswersAreLamps = (state : State) (screen : ℕ) (refresh : Bool) → IsValid state
+    → AreLamps state.plant (step state (DisplayPoll screen refresh)).answers

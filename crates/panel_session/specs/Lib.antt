@@ -22,5 +22,7 @@ pub mod ReadingInside
 pub mod Lending
 pub mod Run
 pub mod Laws
+pub mod DisplayPacket
+pub mod DisplayPacketInside
 pub mod RunInside
 pub mod SettledInside

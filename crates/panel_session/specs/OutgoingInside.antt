@@ -1,5 +1,5 @@
 -- What a session sends next.
-use Rattle.std.specs.Prelude.{◌≡◌, ℕ, ◌+◌, ◌<◌, ◌≤◌, List, [], ◌∷◌, length, All}
+use Rattle.std.specs.Prelude.{◌≡◌, ◌+◌, ◌<◌, ◌≤◌, List, [], ◌∷◌, length, All}
 use Rattle.swp08_messages.specs.Field.{levels, dests, IsSource}
 use Rattle.swp08_messages.specs.Dump.{Page, page_dests}
 use Rattle.plant_core.specs.declared.answer.Answer.{Answer}

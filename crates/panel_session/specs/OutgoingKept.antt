@@ -1,7 +1,6 @@
 -- How what is sent next is kept.
 use Rattle.std.specs.Prelude.{ℕ, ◌*◌, ◌≤◌, List, [], ◌∷◌, length, Option, None, Some, vec_capacity}
 use Rattle.plant_names.specs.Pages.{max_page_len}
-use Rattle.panel_session.specs.MostAnswers.{most_answers}
 use Rattle.panel_session.specs.Text.{Output}
 use Rattle.panel_session.specs.declared.outgoing.Outgoing.TheInside.{Inside}
 

@@ -5,7 +5,7 @@ use Rattle.dle_framing.specs.declared.item.Item.{Item}
 use Rattle.dle_framing.specs.Items.{items}
 use Rattle.plant_config.specs.Plant.{PlantData}
 use Rattle.plant_core.specs.declared.request.Request.{Request}
-use Rattle.plant_core.specs.declared.request.Request.TheVariants.{Told, Poll, Leave}
+use Rattle.plant_core.specs.declared.request.Request.TheVariants.{Told, Poll, Leave, DisplayPoll}
 use Rattle.panel_session.specs.Entry.{PlantEntry}
 use Rattle.panel_session.specs.declared.asked.Asked.{Asked}
 use Rattle.panel_session.specs.Asked.{AllAsk, sent_to_plant}
@@ -41,6 +41,7 @@ with_entry entry past = record past { now = added entry.request entry past.now }
   added (Poll panel item turn) entry now = record now { polls = now.polls ++ entry ∷ [] }
   added (Told panel item message) entry now = record now { told = now.told ++ entry ∷ [] }
   added (Leave panel) entry now = now
+  added (DisplayPoll screen refresh) entry now = now
 
 -- the present turn is over
 abbrev pub with_turn : Past → Past

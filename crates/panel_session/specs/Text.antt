@@ -9,9 +9,9 @@ use Rattle.swp08_messages.specs.Text.{text}
 use Rattle.swp08_messages.specs.Dump.{Page, page_text, page_dests}
 use Rattle.plant_config.specs.Plant.{PlantData}
 use Rattle.plant_core.specs.declared.request.Request.{Request}
-use Rattle.plant_core.specs.declared.request.Request.TheVariants.{Told, Poll, Leave}
+use Rattle.plant_core.specs.declared.request.Request.TheVariants.{Told, Poll, Leave, DisplayPoll}
 use Rattle.plant_core.specs.declared.answer.Answer.{Answer}
-use Rattle.plant_core.specs.declared.answer.Answer.TheVariants.{Say, Dumped}
+use Rattle.plant_core.specs.declared.answer.Answer.TheVariants.{Say, Dumped, Lamp, Finished}
 use Rattle.panel_session.specs.Entry.{PlantEntry}
 use Rattle.panel_session.specs.declared.asked.Asked.{Asked}
 use Rattle.panel_session.specs.declared.asked.Asked.TheVariants.{Nothing, Repeat, Refused, Noted, Named, Sent}
@@ -41,7 +41,8 @@ abbrev pub page_frames : Page → List (List ℕ)
 page_frames page = if length page.sources == 0 then [] else frame (page_text page) ∷ []
 
 -- The message frames of answers that come behind what this page already has. What is said has a frame of its own. What a
--- dump tells is gathered in pages: a page is sent once it doesn't go on with what comes next, or nothing does.
+-- dump tells is gathered in pages: a page is sent once it doesn't go on with what comes next, or nothing does. What displays
+-- are told isn't sent to panels.
 abbrev pub frames_behind : Page → List Answer → List (List ℕ)
 frames_behind page [] = page_frames page
 frames_behind page (Say message ∷ others) =
@@ -49,6 +50,8 @@ frames_behind page (Say message ∷ others) =
 frames_behind page (Dumped matrix level dest source ∷ others) =
     if goes_on page matrix level dest then frames_behind (with_source source page) others
     else page_frames page ++ frames_behind (with_source source (page_at matrix level dest)) others
+frames_behind page (Lamp display value ∷ others) = frames_behind page others
+frames_behind page (Finished ∷ others) = frames_behind page others
 
 -- the message frames of the answers to one request, in order
 abbrev pub frames_of : List Answer → List (List ℕ)
@@ -88,6 +91,7 @@ abbrev pub polled_by : ℕ → Request → List Answer → List Answer
 polled_by item (Poll panel at turn) answers = if at == item then answers else []
 polled_by item (Told panel at message) answers = []
 polled_by item (Leave panel) answers = []
+polled_by item (DisplayPoll screen refresh) answers = []
 
 -- the message frames of the polls that were made behind so many items, in order: those of each poll by themselves
 abbrev pub polled_at : ℕ → List PlantEntry → List (List ℕ)
@@ -99,6 +103,7 @@ abbrev pub is_told_at : ℕ → Request → Bool
 is_told_at item (Told panel at message) = at == item
 is_told_at item (Poll panel at turn) = false
 is_told_at item (Leave panel) = false
+is_told_at item (DisplayPoll screen refresh) = false
 
 -- the answers to what the item of this number sent to the plant, where it has an entry
 abbrev pub told_at : ℕ → List PlantEntry → Option (List Answer)

@@ -1,10 +1,13 @@
 //! A use of the crate: an interrogate, and the plant's answer.
 
+ghost use Rattle.std.specs.Prelude.{◌≡◌, [], ◌∷◌, IfOk};
+
 use crate::{Act, Session};
 use history_lock::OutBox;
 use plant_config::{PanelNo, Plant};
 use plant_core::{Answer, Request};
 use plant_names::Names;
+use std::alloc::{AllocError, Global};
 use std::test::Fail;
 use swp08_messages::{Message, Point};
 
@@ -34,9 +37,8 @@ fn an_interrogate_is_answered(rt: HostRuntime) -> Result<(), Fail> {
         message,
     };
     assert_eq!(rt; session.act(&[]), (0, Act::Ask(told)));
-    let mut answers = OutBox::new(alloc, 1)?;
-    answers.put(Answer::Say(Message::Tally { at, source: None }));
-    *session.outbox() = answers;
+    let tally = Message::Tally { at, source: None };
+    *session.outbox() = boxed(alloc, Answer::Say(tally))?;
     session.answered();
     assert_eq!(rt; session.act(&[]), (0, Act::Send));
     assert_eq!(rt; session.outgoing(), TALLY);
@@ -52,4 +54,16 @@ fn an_interrogate_is_answered(rt: HostRuntime) -> Result<(), Fail> {
     session.answered();
     assert_eq!(rt; session.act(&[]), (0, Act::Rest));
     Ok(())
+}
+
+// A box with this answer. The arm of a lamp names the types that a lamp is made of, which a proof of `put` asks for.
+fn boxed(alloc: Global, answer: Answer) -> Result<OutBox<Answer>, AllocError>
+    ensures { IfOk result (λ answers. answers.items ≡ answer ∷ []) }
+{
+    let mut answers = OutBox::new(alloc, 1)?;
+    match answer {
+        Answer::Lamp { display, value } => answers.put(Answer::Lamp { display, value }),
+        other => answers.put(other),
+    }
+    Ok(answers)
 }

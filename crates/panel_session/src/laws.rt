@@ -2,6 +2,7 @@
 
 ghost use Rattle.panel_session.specs.Laws.{AwaitsSoFar, StandsSoFar, TurnsAreOne};
 ghost use Rattle.panel_session.specs.Laws.{TurnsAreSent, TurnsFit};
+ghost use Rattle.panel_session.specs.Laws.{DisplayPollAnswersAreLamps};
 
 use history_lock::Machine;
 use plant_core::{Answer, Request};
@@ -23,4 +24,10 @@ pub fn one_turn<M: Machine<Request = Request, Answer = Answer>>()
 pub fn turns_fit()
     ensures fit { TurnsFit }
     ensures text { TurnsAreSent }
+{}
+
+/// In a valid state the lamps that answer a display poll are of displays and sources of the plant, so that
+/// `display_packet` takes them.
+pub fn display_poll_answers_are_lamps()
+    ensures { DisplayPollAnswersAreLamps }
 {}

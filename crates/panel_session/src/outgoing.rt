@@ -9,9 +9,8 @@ ghost use Rattle.swp08_messages.specs.Text.{InRange, text};
 ghost use Rattle.dle_framing.specs.Frame.{frame};
 ghost use Rattle.swp08_messages.specs.Dump.{page_dests, page_text};
 ghost use Rattle.swp08_messages.specs.Field.{levels, dests};
-ghost use Rattle.panel_session.specs.Text.{no_page, page_at, goes_on, page_frames, frames_of};
-ghost use Rattle.panel_session.specs.Text.{with_frame, with_frames, with_control, repeated};
-ghost use Rattle.panel_session.specs.Text.{nothing_sent};
+ghost use Rattle.panel_session.specs.Text.{no_page, page_frames, frames_of, repeated, nothing_sent};
+ghost use Rattle.panel_session.specs.Text.{page_at, goes_on, with_frame, with_frames, with_control};
 ghost use Rattle.panel_session.specs.NamePagesInside.{IsNamePage, HasRoomFor, names_of};
 ghost use Rattle.panel_session.specs.NamePagesInside.{data_of, end_of};
 ghost use Rattle.plant_names.specs.Pages.{AreFew};
@@ -169,7 +168,7 @@ impl Outgoing {
         !self.bytes.is_empty()
     }
 
-    // This answer comes behind what the page has: the page may go on with it, or is to be sent before it.
+    // This answer comes behind what the page has, which goes on with it or is sent before it. No lamp is sent to panels.
     fn add(&mut self, page: &mut DumpPage, answer: &Answer)
         requires sayable { IsSayable answer.now }
         requires room { length self.old.bytes + room_of (length page.old.sources + 1)
@@ -186,6 +185,7 @@ impl Outgoing {
                 dest,
                 source,
             } => self.add_dumped(page, matrix, level, dest, source),
+            Answer::Lamp { .. } | Answer::Finished => {}
         }
     }
 

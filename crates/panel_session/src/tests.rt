@@ -4,6 +4,7 @@ ghost use Rattle.std.specs.Prelude.{◌≡◌, ◌≤◌, length};
 
 mod board;
 mod frames;
+mod packets;
 mod turns;
 
 use crate::{Act, Session};

@@ -1,14 +1,13 @@
 -- What is answered can be spelled.
-use Rattle.std.proofs.Common.{◌≡◌, ℕ, ◌<◌, ◌≤◌, Bool, true, false, cond, List, [], ◌∷◌, length, All, Option, Some, None, IfSome, max, refl, sym, subst, arith}
-use Rattle.std.specs.Prelude.{◌==◌, ◌&&◌, find, slice_get}
-use Rattle.std.specs.List.{fold, AllByRecursion}
-use Rattle.std.specs.Option.{option_map, option_map_or, option_and_then, unwrap_or}
+use Rattle.std.proofs.Common.{◌≡◌, ℕ, ◌<◌, ◌≤◌, Bool, true, false, cond, [], ◌∷◌, All, Option, Some, None, IfSome, refl, sym, subst, arith}
+use Rattle.std.specs.Prelude.{slice_get}
+use Rattle.std.specs.List.{AllByRecursion}
+use Rattle.std.specs.Option.{option_map, option_and_then, unwrap_or}
 use Rattle.std.proofs.lemmas.List.FromFn.{length-map-range_with_len, get_or-map-range_with_len}
-use Rattle.std.proofs.lemmas.List.Elements.{All-nil, All-push, All-head, All-tail}
+use Rattle.std.proofs.lemmas.List.Elements.{All-nil, All-push}
 use Rattle.swp08_messages.specs.declared.point.Point.{Point}
-use Rattle.swp08_messages.specs.declared.message.Message.{Message}
-use Rattle.swp08_messages.specs.declared.message.Message.TheVariants.{Interrogate, Connect, Tally, Connected, ProtectAsk, ProtectConnect, ProtectDisconnect, ProtectTally, ProtectConnected, ProtectDisconnected, DumpAsk, Store, Stored, Go, GoDone, EntryAsk, Entry}
-use Rattle.swp08_messages.specs.declared.go_status.GoStatus.TheVariants.{Made, Cleared, Empty, Protected}
+use Rattle.swp08_messages.specs.declared.message.Message.TheVariants.{Interrogate, Connect, Tally, Connected, ProtectAsk, ProtectConnect, ProtectDisconnect, ProtectTally, ProtectConnected, ProtectDisconnected, DumpAsk, Store, Stored, Go, GoDone, EntryAsk}
+use Rattle.swp08_messages.specs.declared.go_status.GoStatus.TheVariants.{Made, Cleared, Empty}
 use Rattle.swp08_messages.specs.Field.{devices, salvos, indexes, HasRoom}
 use Rattle.swp08_messages.specs.Row.{protect_told}
 use Rattle.swp08_messages.specs.Text.{IsPoint, IsSource, InRange}
@@ -19,10 +18,9 @@ use Rattle.crosspoint_state.specs.Crosspoints.{source_of}
 use Rattle.salvo_groups.specs.Groups.{Group, group_of, may_store, with_store}
 use Rattle.plant_config.specs.declared.records.Point as places
 use Rattle.plant_config.specs.declared.records.Change.{Change}
-use Rattle.plant_config.specs.declared.records.Level.{Level}
 use Rattle.plant_config.specs.Plant.{PlantData, dest_numbers, source_numbers}
-use Rattle.plant_config.specs.IsPlant.{IsLevel, IsPlant}
-use Rattle.plant_config.specs.Sites.{Site, site_of, dest_at, point_of, source_number_of}
+use Rattle.plant_config.specs.IsPlant.{IsPlant}
+use Rattle.plant_config.specs.Sites.{Site, site_of, dest_at, source_number_of}
 use Rattle.plant_config.proofs.SiteLemmas.{dests_are, sources_are, site_of-IsSite}
 use Rattle.change_boards.specs.declared.sort.Sort.{Sort}
 use Rattle.change_boards.specs.declared.sort.Sort.TheVariants.{Source, Protect}
@@ -30,17 +28,18 @@ use Rattle.change_boards.specs.Board.{next}
 use Rattle.change_boards.specs.Notices.{board_of}
 use Rattle.history_lock.specs.Step.{Stepped}
 use Rattle.plant_core.specs.declared.request.Request.{Request}
-use Rattle.plant_core.specs.declared.request.Request.TheVariants.{Told, Poll, Leave}
+use Rattle.plant_core.specs.declared.request.Request.TheVariants.{Told, Poll, Leave, DisplayPoll}
 use Rattle.plant_core.specs.declared.answer.Answer.{Answer}
 use Rattle.plant_core.specs.declared.answer.Answer.TheVariants.{Say}
 use Rattle.plant_core.specs.State.{State, IsValid, Fits, standing, owner_at, device_of, is_master}
-use Rattle.plant_core.specs.Connects.{says, says_nothing, change_of, are_permitted, changed, connected}
+use Rattle.plant_core.specs.Connects.{says, says_nothing, change_of, connected}
 use Rattle.plant_core.specs.Protecting.{owner_told, with_owners, protected, unprotected}
-use Rattle.plant_core.specs.Salvos.{stored_in, emptied, all_changed, taken_whole, cleared, message_place, no_place, told_place, entry_told, entry_answer}
+use Rattle.plant_core.specs.Salvos.{stored_in, taken_whole, cleared, message_place, no_place, told_place, entry_told, entry_answer}
 use Rattle.plant_core.specs.Step.{step, dest_of, dest_count, dumped_at, told_at, told_owner, notice_of}
 use Rattle.plant_core.proofs.Validity.{device-within}
 use Rattle.plant_core.proofs.CountLemmas.{room_within, dest_count_within}
-use Rattle.plant_core.specs.Answer.{IsSayable, IsAnswerCount, room_of}
+use Rattle.plant_core.specs.Answer.{IsSayable}
+use Rattle.plant_core.proofs.Shows.{display_polled-sayable}
 use Rattle.plant_core.proofs.Outcomes.{by_made, by_taken}
 
 -- a source has a number in its level that can be spelled, and so has each destination's place
@@ -202,3 +201,4 @@ All-sayable state (Told panel item (EntryAsk salvo index)) valid fits =
 All-sayable state (Told panel item message) valid fits = All-nil IsSayable
 All-sayable state (Poll panel item turn) valid fits = sayable-notice state (next (board_of state.boards panel)) valid
 All-sayable state (Leave panel) valid fits = All-nil IsSayable
+All-sayable state (DisplayPoll screen refresh) valid fits = display_polled-sayable state screen refresh

@@ -1,7 +1,7 @@
 -- Which changes are permitted, and what they change.
-use Rattle.std.proofs.Common.{◌≡◌, ◌≢◌, ◌⊎◌, ℕ, ◌<◌, nat_eq, true, false, not, Bool, cond, List, [], ◌∷◌, ◌&&◌, ◌||◌, map, filter, find, length, get_or, All, Option, Some, None, IfSome, suc, inl, inr, refl, sym, ap, subst, ◌∙◌, arith}
+use Rattle.std.proofs.Common.{◌≡◌, ◌≢◌, ℕ, ◌<◌, nat_eq, true, false, not, Bool, cond, List, [], ◌∷◌, ◌&&◌, ◌||◌, filter, find, get_or, All, Option, Some, None, IfSome, suc, inl, inr, refl, sym, ap, subst, ◌∙◌, arith}
 use Rattle.std.specs.Prelude.{◌==◌}
-use Rattle.std.specs.List.{list_any, list_all, Any}
+use Rattle.std.specs.List.{list_any, Any}
 use Rattle.std.specs.Option.{option_map, option_map_or, option_eq}
 use Rattle.std.specs.FinMap as finite
 use Rattle.std.proofs.lemmas.Bool.{cases_eq, eqb-true, eq-eqb, ne_eqb, both_ways, and_parts, or_parts}

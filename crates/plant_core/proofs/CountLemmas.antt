@@ -1,45 +1,33 @@
 -- How many answers there are.
-use Rattle.std.proofs.Common.{◌≡◌, ℕ, ◌<◌, ◌≤◌, Bool, true, false, cond, List, [], ◌∷◌, length, All, Option, Some, None, max, refl, sym, subst, arith}
-use Rattle.std.specs.Prelude.{◌==◌, ◌&&◌, find, slice_get}
-use Rattle.std.specs.List.{fold, AllByRecursion}
-use Rattle.std.specs.Option.{option_map, option_map_or, option_and_then, unwrap_or}
-use Rattle.std.proofs.lemmas.List.FromFn.{length-map-range_with_len, get_or-map-range_with_len}
-use Rattle.std.proofs.lemmas.List.Elements.{All-nil, All-push, All-head, All-tail}
+use Rattle.std.proofs.Common.{◌≡◌, ℕ, ◌≤◌, Bool, true, false, cond, List, [], ◌∷◌, length, All, Option, Some, None, max, refl, arith}
+use Rattle.std.specs.Prelude.{◌==◌, ◌&&◌, find}
+use Rattle.std.specs.List.{fold}
+use Rattle.std.specs.Option.{option_map_or}
+use Rattle.std.proofs.lemmas.List.FromFn.{length-map-range_with_len}
+use Rattle.std.proofs.lemmas.List.Elements.{All-head, All-tail}
 use Rattle.swp08_messages.specs.declared.point.Point.{Point}
-use Rattle.swp08_messages.specs.declared.message.Message.{Message}
-use Rattle.swp08_messages.specs.declared.message.Message.TheVariants.{Interrogate, Connect, Tally, Connected, ProtectAsk, ProtectConnect, ProtectDisconnect, ProtectTally, ProtectConnected, ProtectDisconnected, DumpAsk, Store, Stored, Go, GoDone, EntryAsk, Entry}
-use Rattle.swp08_messages.specs.declared.go_status.GoStatus.TheVariants.{Made, Cleared, Empty, Protected}
-use Rattle.swp08_messages.specs.Field.{devices, salvos, indexes, HasRoom}
-use Rattle.swp08_messages.specs.Row.{protect_told}
-use Rattle.swp08_messages.specs.Text.{IsPoint, IsSource, InRange}
+use Rattle.swp08_messages.specs.declared.message.Message.TheVariants.{Interrogate, Connect, ProtectAsk, ProtectConnect, ProtectDisconnect, ProtectTally, ProtectConnected, ProtectDisconnected, DumpAsk, Store, Stored, Go, EntryAsk}
 use Rattle.std.specs.FinMap as finite
-use Rattle.plant_config.specs.Limits.{last_device}
 use Rattle.protects.specs.Owners.{allows, may_lift, taken, lifted}
-use Rattle.crosspoint_state.specs.Crosspoints.{source_of}
 use Rattle.salvo_groups.specs.Groups.{Group, group_of, may_store, with_store}
-use Rattle.plant_config.specs.declared.records.Point as places
 use Rattle.plant_config.specs.declared.records.Change.{Change}
 use Rattle.plant_config.specs.declared.records.Level.{Level}
-use Rattle.plant_config.specs.Plant.{PlantData, dest_numbers, source_numbers}
+use Rattle.plant_config.specs.Plant.{PlantData}
 use Rattle.plant_config.specs.IsPlant.{IsLevel, IsPlant}
-use Rattle.plant_config.specs.Sites.{Site, site_of, dest_at, point_of, source_number_of}
-use Rattle.plant_config.proofs.SiteLemmas.{dests_are, sources_are, site_of-IsSite}
 use Rattle.change_boards.specs.declared.sort.Sort.{Sort}
-use Rattle.change_boards.specs.declared.sort.Sort.TheVariants.{Source, Protect}
 use Rattle.change_boards.specs.Board.{next}
 use Rattle.change_boards.specs.Notices.{board_of}
 use Rattle.history_lock.specs.Step.{Stepped}
 use Rattle.plant_core.specs.declared.request.Request.{Request}
-use Rattle.plant_core.specs.declared.request.Request.TheVariants.{Told, Poll, Leave}
+use Rattle.plant_core.specs.declared.request.Request.TheVariants.{Told, Poll, Leave, DisplayPoll}
 use Rattle.plant_core.specs.declared.answer.Answer.{Answer}
-use Rattle.plant_core.specs.declared.answer.Answer.TheVariants.{Say}
-use Rattle.plant_core.specs.State.{State, IsValid, Fits, standing, owner_at, device_of, is_master}
-use Rattle.plant_core.specs.Connects.{says, says_nothing, change_of, are_permitted, changed, connected}
+use Rattle.plant_core.specs.State.{State, Fits, device_of, is_master}
+use Rattle.plant_core.specs.Connects.{says, says_nothing, change_of, connected}
 use Rattle.plant_core.specs.Protecting.{owner_told, with_owners, protected, unprotected}
-use Rattle.plant_core.specs.Salvos.{stored_in, emptied, all_changed, taken_whole, cleared, message_place, no_place, told_place, entry_told, entry_answer}
-use Rattle.plant_core.specs.Step.{step, dest_of, dest_count, dumped_at, told_at, told_owner, notice_of}
-use Rattle.plant_core.proofs.Validity.{device-within}
-use Rattle.plant_core.specs.Answer.{IsSayable, IsAnswerCount, room_of}
+use Rattle.plant_core.specs.Salvos.{stored_in, taken_whole, cleared}
+use Rattle.plant_core.specs.Step.{step, dest_of, dest_count, dumped_at, notice_of}
+use Rattle.plant_core.specs.Answer.{IsAnswerCount, room_of}
+use Rattle.plant_core.proofs.Shows.{display_polled-few}
 use Rattle.plant_core.proofs.Outcomes.{by_made, by_taken}
 
 -- no level has more destinations
@@ -124,6 +112,7 @@ answer_count state (Told panel item (EntryAsk salvo index)) fits = refl
 answer_count state (Told panel item message) fits = let not = fits.1.0 in absurd cc
 answer_count state (Poll panel item turn) fits = few-notices state (next (board_of state.boards panel))
 answer_count state (Leave panel) fits = refl
+answer_count state (DisplayPoll screen refresh) fits = display_polled-few state screen refresh
 
 -- there is room for the answers to any event
 pub answers_within : (plant : PlantData) (request : Request) (count : ℕ) → IsAnswerCount plant request count → count ≤ room_of plant
@@ -132,3 +121,4 @@ answers_within plant (Told panel item (Store at source salvo)) count is = omega 
 answers_within plant (Told panel item message) count is = omega (arith, is, room_some plant)
 answers_within plant (Poll panel item turn) count is = omega (arith, is, room_some plant)
 answers_within plant (Leave panel) count is = omega arith
+answers_within plant (DisplayPoll screen refresh) count is = omega (arith, is, room_some plant)

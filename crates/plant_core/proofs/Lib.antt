@@ -1,5 +1,9 @@
 pub mod Noticed
+pub mod Shows
+pub mod ScreenLemmas
+pub mod DisplayLemmas
 pub mod Validity
+pub mod GroupValidity
 pub mod Changes
 pub mod Outcomes
 pub mod StepValidity
@@ -17,3 +21,6 @@ pub mod TellLemmas
 pub mod StandLemmas
 pub mod PollLemmas
 pub mod ServedLemmas
+pub mod ValueLemmas
+pub mod LampLemmas
+pub mod RefreshLemmas

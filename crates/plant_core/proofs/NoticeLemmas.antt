@@ -1,34 +1,32 @@
 -- Who hears of what, and what polls tell.
-use Rattle.std.proofs.Common.{◌≡◌, ◌≢◌, ◌⊎◌, ℕ, ◌<◌, nat_eq, Bool, true, false, cond, List, [], ◌∷◌, length, set, All, Option, Some, None, IsSome, IfSome, suc, inl, inr, refl, sym, ap, subst, ◌∙◌, arith, is_some, eq-eqb}
-use Rattle.std.proofs.lemmas.Bool.{cases_eq, both_ways, false_from_ne_true}
-use Rattle.std.specs.Option.{option_map, option_eq}
+use Rattle.std.proofs.Common.{◌≡◌, ◌≢◌, ℕ, Bool, true, false, cond, List, [], ◌∷◌, Option, Some, None, inl, inr, refl, sym, ap, subst, ◌∙◌}
+use Rattle.std.proofs.lemmas.Bool.{cases_eq, false_from_ne_true}
+use Rattle.std.specs.Option.{option_map}
 use Rattle.std.specs.FinMap as finite
 use Rattle.swp08_messages.specs.declared.point.Point.{Point}
 use Rattle.swp08_messages.specs.declared.message.Message.{Message}
-use Rattle.swp08_messages.specs.declared.message.Message.TheVariants.{Interrogate, Connect, Tally, Connected, ProtectAsk, ProtectConnect, ProtectDisconnect, ProtectTally, ProtectConnected, ProtectDisconnected, DumpAsk, Store, Stored, Go, GoDone, EntryAsk}
-use Rattle.swp08_messages.specs.declared.go_status.GoStatus.TheVariants.{Made, Protected}
+use Rattle.swp08_messages.specs.declared.message.Message.TheVariants.{Connect, ProtectConnect, ProtectDisconnect, ProtectTally, ProtectConnected, ProtectDisconnected, Go}
 use Rattle.plant_config.specs.declared.records.Change.{Change}
 use Rattle.crosspoint_state.specs.Crosspoints.{Crosspoints, source_of, is_idle}
 use Rattle.crosspoint_state.specs.Applied.{applied}
 use Rattle.crosspoint_state.specs.declared.spot.Spot.{Spot}
 use Rattle.protects.specs.Owners.{Owners, allows, may_lift, taken, lifted}
-use Rattle.salvo_groups.specs.Groups.{Group, group_of, may_store, with_store}
+use Rattle.salvo_groups.specs.Groups.{Group, group_of}
 use Rattle.change_boards.specs.Board.{Board}
 use Rattle.change_boards.specs.Notices.{board_of, has, has_left}
-use Rattle.change_boards.specs.declared.sort.Sort.{Sort}
 use Rattle.change_boards.specs.declared.sort.Sort.TheVariants.{Source, Protect}
 use Rattle.history_lock.specs.Step.{Stepped}
 use Rattle.plant_core.specs.declared.request.Request.TheVariants.{Told}
 use Rattle.plant_core.specs.declared.answer.Answer.{Answer}
-use Rattle.plant_core.specs.State.{State, IsValid, standing, device_of, is_master}
-use Rattle.plant_core.specs.Noticed.{marked_for_others, all_marked}
-use Rattle.plant_core.specs.Connects.{says, says_nothing, change_of, are_permitted, changed, connected}
+use Rattle.plant_core.specs.State.{State, IsValid, device_of, is_master}
+use Rattle.plant_core.specs.Noticed.{marked_for_others}
+use Rattle.plant_core.specs.Connects.{says, change_of, changed, connected}
 use Rattle.plant_core.specs.Protecting.{owner_told, has_same_owner, with_owners, protected, unprotected}
-use Rattle.plant_core.specs.Salvos.{stored_in, emptied, moved, all_changed, taken_whole, cleared, gone}
+use Rattle.plant_core.specs.Salvos.{emptied, moved, all_changed, taken_whole, cleared}
 use Rattle.plant_core.specs.Step.{step, dest_of}
 use Rattle.plant_core.specs.NoticeLaws.{IsHeard, IsOfOne, SourceChanged, OwnerChanged, AreHeardByAll}
 use Rattle.plant_core.proofs.Outcomes.{by_made, by_taken}
-use Rattle.plant_core.proofs.Changes.{same_source, source_same, applied-idle, source_of-one, get-one_other, source-idle, not_moved, is_moved}
+use Rattle.plant_core.proofs.Changes.{same_source, applied-idle, get-one_other, not_moved, is_moved}
 use Rattle.plant_core.proofs.Noticed.{is_among, others-IsHeard, marked_heard, marked_gone, marked_others, marked_stays_left}
 use Rattle.plant_core.proofs.OwnerLemmas.{taken_other, lifted_other}
 use Rattle.plant_core.proofs.ProtectLemmas.{connected-owners}

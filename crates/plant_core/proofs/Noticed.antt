@@ -1,5 +1,5 @@
 -- The boards behind an event: who hears of a change, and what stays.
-use Rattle.std.proofs.Common.{◌≡◌, ◌≢◌, ◌⊎◌, ℕ, ◌<◌, ◌≤◌, ◌==◌, ◌||◌, Bool, true, false, List, [], ◌∷◌, length, set, map, All, inl, inr, refl, sym, ap, subst, ◌∙◌, arith, suc, eq-eqb}
+use Rattle.std.proofs.Common.{◌≡◌, ◌≢◌, ◌⊎◌, ℕ, ◌<◌, ◌≤◌, ◌==◌, ◌||◌, Bool, true, false, List, [], ◌∷◌, length, All, inl, inr, refl, sym, ap, subst, ◌∙◌, arith, suc, eq-eqb}
 use Rattle.std.specs.List.{list_any}
 use Rattle.std.proofs.lemmas.Bool.{cases_eq, cases_lt, both_ways, ne_eqb}
 use Rattle.std.proofs.lemmas.List.{ext_get_or, get_or-map, get_or_past, length-map, length-set}
@@ -10,7 +10,7 @@ use Rattle.change_boards.specs.declared.sort.Sort.TheVariants.{Source, Protect}
 use Rattle.change_boards.specs.Board.{Board, IsEmpty, blank, has_notice, marked}
 use Rattle.change_boards.specs.Notices.{board_of, has, has_left, with_mark}
 use Rattle.change_boards.specs.Laws.{AreBoards}
-use Rattle.change_boards.proofs.OneNotice.{given, given_other, same_left, board_same, board_other, marked_left, marked_open, with_mark-Gives, with_mark-left}
+use Rattle.change_boards.proofs.OneNotice.{given, given_other, same_left, board_same, board_other, marked_left, marked_open}
 use Rattle.change_boards.proofs.StayBoards.{AreBoards-mark}
 use Rattle.plant_core.specs.Noticed.{marked_for_all, marked_for_others, all_marked}
 use Rattle.plant_core.specs.NoticeLaws.{IsHeard}

@@ -1,33 +1,21 @@
 -- Who may protect and lift, and what protects keep.
-use Rattle.std.proofs.Common.{◌≡◌, ◌≢◌, ◌⊎◌, ℕ, Bool, true, false, cond, ◌||◌, List, [], ◌∷◌, All, Option, Some, None, IsSome, IsNone, is_some, inl, inr, refl, sym, ap, subst, ◌∙◌, arith}
-use Rattle.std.specs.Option.{option_and_then, unwrap_or}
+use Rattle.std.proofs.Common.{◌≡◌, ◌≢◌, ℕ, Bool, true, false, cond, ◌||◌, Option, Some, None, IsSome, inl, inr, refl, sym, ap, subst, ◌∙◌}
+use Rattle.std.specs.Option.{option_and_then}
 use Rattle.std.specs.Ordering.{nat_cmp, eq_by_cmp}
 use Rattle.std.specs.Cmp.{nat_cmp_total, unsigned_tied}
 use Rattle.std.specs.FinMap as finite
-use Rattle.std.proofs.lemmas.Bool.{cases_eq, eq-eqb, ne_eqb, both_ways}
+use Rattle.std.proofs.lemmas.Bool.{eq-eqb, ne_eqb}
 use Rattle.swp08_messages.specs.declared.point.Point.{Point}
-use Rattle.swp08_messages.specs.declared.message.Message.{Message}
-use Rattle.swp08_messages.specs.declared.message.Message.TheVariants.{Interrogate, Connect, Tally, Connected, ProtectAsk, ProtectConnect, ProtectDisconnect, ProtectTally, ProtectConnected, ProtectDisconnected, DumpAsk, Store, Stored, Go, GoDone, EntryAsk}
-use Rattle.swp08_messages.specs.declared.go_status.GoStatus.TheVariants.{Made, Protected}
-use Rattle.plant_config.specs.Plant.{PlantData}
-use Rattle.plant_config.specs.Sites.{dest_at}
-use Rattle.plant_config.specs.declared.records.Change.{Change}
+use Rattle.swp08_messages.specs.declared.message.Message.TheVariants.{ProtectConnect, ProtectDisconnect, ProtectTally, ProtectConnected, ProtectDisconnected}
 use Rattle.protects.specs.Owners.{Owners, allows, may_lift, taken, lifted}
-use Rattle.salvo_groups.specs.Groups.{Group, group_of, may_store, with_store}
-use Rattle.history_lock.specs.Step.{Stepped}
-use Rattle.plant_core.specs.declared.request.Request.{Request}
-use Rattle.plant_core.specs.declared.request.Request.TheVariants.{Told, Poll, Leave}
-use Rattle.plant_core.specs.declared.answer.Answer.{Answer}
-use Rattle.plant_core.specs.State.{State, IsValid, standing, owner_at, device_of, is_master, start}
-use Rattle.plant_core.specs.Connects.{says, says_nothing, change_of, are_permitted, changed, connected}
+use Rattle.plant_core.specs.declared.request.Request.TheVariants.{Told}
+use Rattle.plant_core.specs.State.{State, IsValid, owner_at, device_of, is_master}
+use Rattle.plant_core.specs.Connects.{says}
 use Rattle.plant_core.specs.Protecting.{owner_told, with_owners, protected, unprotected}
-use Rattle.plant_core.specs.Salvos.{stored_in, emptied, all_changed, taken_whole, cleared, gone}
 use Rattle.plant_core.specs.Step.{step, dest_of}
 use Rattle.plant_core.specs.Laws.{IsFree}
-use Rattle.plant_core.specs.ProtectLaws.{TellsOwner, HasOwner, IsOwnedNow, IsProtected, IsLifted, IsRefused, MayLift, panel_of}
-use Rattle.plant_core.proofs.Changes.{kept-allows, permitted-apart, get-one_other, get-applied_other}
+use Rattle.plant_core.specs.ProtectLaws.{TellsOwner, HasOwner, IsOwnedNow, IsProtected, IsLifted, IsRefused, MayLift}
 use Rattle.plant_core.proofs.Steps.{owner_at-dest, free-dest, dest-free}
-use Rattle.plant_core.proofs.StepLeaves.{message-leaves}
 
 tied_self : (dest : ℕ) → eq_by_cmp nat_cmp dest dest ≡ true
 tied_self dest = unsigned_tied dest dest ∙ eq-eqb dest dest refl

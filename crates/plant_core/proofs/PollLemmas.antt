@@ -4,13 +4,12 @@ use Rattle.std.proofs.lemmas.Bool.{cases_eq, cases_lt, both_ways}
 use Rattle.std.proofs.lemmas.List.{get_or_past}
 use Rattle.swp08_messages.specs.declared.point.Point.{Point}
 use Rattle.swp08_messages.specs.declared.message.Message.{Message}
-use Rattle.swp08_messages.specs.declared.message.Message.TheVariants.{Interrogate, Connect, Tally, Connected, ProtectAsk, ProtectConnect, ProtectDisconnect, ProtectTally, ProtectConnected, ProtectDisconnected, DumpAsk, Store, Stored, Go, GoDone, EntryAsk}
-use Rattle.swp08_messages.specs.declared.go_status.GoStatus.TheVariants.{Made, Protected}
+use Rattle.swp08_messages.specs.declared.message.Message.TheVariants.{Interrogate, Connect, ProtectConnect, ProtectDisconnect, ProtectTally, ProtectConnected, ProtectDisconnected, Store, Go}
 use Rattle.plant_config.specs.declared.records.Change.{Change}
 use Rattle.plant_config.specs.Plant.{destinations_of}
 use Rattle.crosspoint_state.specs.Crosspoints.{is_idle}
 use Rattle.protects.specs.Owners.{allows, may_lift, taken as taken_owner, lifted}
-use Rattle.salvo_groups.specs.Groups.{Group, group_of, may_store, with_store}
+use Rattle.salvo_groups.specs.Groups.{Group, group_of}
 use Rattle.change_boards.specs.declared.sort.Sort.{Sort}
 use Rattle.change_boards.specs.declared.sort.Sort.TheVariants.{Source, Protect}
 use Rattle.std.specs.FinMap as finite
@@ -21,19 +20,20 @@ use Rattle.change_boards.proofs.OneNotice.{board_same, board_other, same_left}
 use Rattle.change_boards.proofs.InOrder.{takes_in_order}
 use Rattle.history_lock.specs.Step.{Stepped}
 use Rattle.plant_core.specs.declared.request.Request.{Request}
-use Rattle.plant_core.specs.declared.request.Request.TheVariants.{Told, Poll, Leave}
+use Rattle.plant_core.specs.declared.request.Request.TheVariants.{Told, Poll, Leave, DisplayPoll}
 use Rattle.plant_core.specs.declared.answer.Answer.{Answer}
-use Rattle.plant_core.specs.State.{State, IsValid, standing, device_of, is_master}
+use Rattle.plant_core.specs.State.{State, IsValid, device_of, is_master}
 use Rattle.plant_core.specs.Noticed.{marked_for_others}
-use Rattle.plant_core.specs.Connects.{says, says_nothing, change_of, are_permitted, changed, connected}
+use Rattle.plant_core.specs.Connects.{says, change_of, connected}
 use Rattle.plant_core.specs.Protecting.{owner_told, has_same_owner, with_owners, protected, unprotected}
-use Rattle.plant_core.specs.Salvos.{stored_in, emptied, moved, all_changed, taken_whole, cleared, gone}
+use Rattle.plant_core.specs.Salvos.{moved, taken_whole}
 use Rattle.plant_core.specs.Step.{step, dest_of, notice_of}
 use Rattle.plant_core.specs.Laws.{after}
 use Rattle.plant_core.specs.NoticeLaws.{answers_of, notices_of, polls_of}
 use Rattle.plant_core.proofs.Outcomes.{by_made, by_taken}
 use Rattle.plant_core.proofs.Noticed.{others-IsHeard, marked_stays_left}
 use Rattle.plant_core.proofs.QuietLemmas.{store-quiet, clear-quiet}
+use Rattle.plant_core.proofs.Shows.{display_polled-is}
 use Rattle.plant_core.proofs.StepValidity.{IsValid-step}
 use Rattle.plant_core.proofs.TellLemmas.{empty_has, poll-nothing}
 
@@ -159,6 +159,7 @@ left-step state panel (Told p item message) left = told_left state panel left p 
 left-step state panel (Poll p item turn) left =
     left_set state.boards p panel (taken (board_of state.boards p)) (λ here. taken_left (board_of state.boards p) ∙ ap (has_left state.boards) (sym here) ∙ left) left
 left-step state panel (Leave p) left = left_set state.boards p panel abandoned (λ here. refl) left
+left-step state panel (DisplayPoll screen refresh) left = ap (λ (state : State). has_left state.boards panel) (display_polled-is state screen refresh) ∙ left
 
 pub stays_left : (later : List Request) (state : State) (panel : ℕ) → has_left state.boards panel ≡ true → has_left (after state later).boards panel ≡ true
 stays_left [] state panel left = left

@@ -1,31 +1,31 @@
 -- What a protect keeps, whatever another device's panel asks.
-use Rattle.std.proofs.Common.{◌≡◌, ◌≢◌, ℕ, Bool, true, false, cond, ◌||◌, [], ◌∷◌, Option, Some, None, IsNone, inl, inr, refl, sym, ap, subst, ◌∙◌, arith}
+use Rattle.std.proofs.Common.{◌≡◌, ◌≢◌, ℕ, Bool, true, false, cond, ◌||◌, [], ◌∷◌, Option, Some, None, IsNone, inl, inr, refl, sym, ap, ◌∙◌, arith}
 use Rattle.std.specs.Option.{option_and_then}
 use Rattle.std.specs.Ordering.{nat_cmp}
 use Rattle.std.specs.FinMap as finite
 use Rattle.std.proofs.lemmas.Bool.{cases_eq, both_ways}
 use Rattle.swp08_messages.specs.declared.point.Point.{Point}
 use Rattle.swp08_messages.specs.declared.message.Message.{Message}
-use Rattle.swp08_messages.specs.declared.message.Message.TheVariants.{Interrogate, Connect, Tally, Connected, ProtectAsk, ProtectConnect, ProtectDisconnect, ProtectTally, ProtectConnected, ProtectDisconnected, DumpAsk, Store, Stored, Go, GoDone, EntryAsk}
-use Rattle.swp08_messages.specs.declared.go_status.GoStatus.TheVariants.{Made, Protected}
+use Rattle.swp08_messages.specs.declared.message.Message.TheVariants.{Interrogate, Connect, ProtectConnect, ProtectDisconnect, ProtectTally, ProtectConnected, ProtectDisconnected, Store, Stored, Go}
 use Rattle.plant_config.specs.Plant.{PlantData}
 use Rattle.plant_config.specs.Sites.{dest_at}
 use Rattle.plant_config.specs.declared.records.Change.{Change}
-use Rattle.protects.specs.Owners.{Owners, allows, may_lift, taken, lifted}
+use Rattle.protects.specs.Owners.{allows, may_lift, taken, lifted}
 use Rattle.salvo_groups.specs.Groups.{Group, group_of, may_store, with_store}
 use Rattle.history_lock.specs.Step.{Stepped}
 use Rattle.plant_core.specs.declared.request.Request.{Request}
-use Rattle.plant_core.specs.declared.request.Request.TheVariants.{Told, Poll, Leave}
+use Rattle.plant_core.specs.declared.request.Request.TheVariants.{Told, Poll, Leave, DisplayPoll}
 use Rattle.plant_core.specs.declared.answer.Answer.{Answer}
-use Rattle.plant_core.specs.State.{State, standing, owner_at, device_of, is_master, start}
-use Rattle.plant_core.specs.Connects.{says, says_nothing, change_of, are_permitted, changed, connected}
+use Rattle.plant_core.specs.State.{State, device_of, is_master, start}
+use Rattle.plant_core.specs.Connects.{says, says_nothing, change_of, connected}
 use Rattle.plant_core.specs.Protecting.{owner_told, with_owners, protected, unprotected}
-use Rattle.plant_core.specs.Salvos.{stored_in, emptied, all_changed, taken_whole, cleared, gone}
+use Rattle.plant_core.specs.Salvos.{stored_in, taken_whole, cleared, gone}
 use Rattle.plant_core.specs.Step.{step, dest_of}
-use Rattle.plant_core.specs.ProtectLaws.{HasOwner, panel_of}
+use Rattle.plant_core.specs.ProtectLaws.{HasOwner, IsOfOtherDevice, IsOfNoMaster}
 use Rattle.plant_core.proofs.Outcomes.{by_made, by_taken, made-permitted}
 use Rattle.plant_core.proofs.Changes.{kept-allows, permitted-apart, get-one_other, get-applied_other}
 use Rattle.plant_core.proofs.OwnerLemmas.{has-owner, taken_other, lifted_other}
+use Rattle.plant_core.proofs.Shows.{display_polled-is}
 use Rattle.plant_core.proofs.StepLeaves.{protected-leaves, unprotected-leaves, stored-leaves, cleared-leaves}
 
 -- the source of a destination that another device protects stays
@@ -107,13 +107,14 @@ gone-owners state panel false salvo group h =
     ap (λ (g : Group). (taken_whole state panel salvo g).state.owners) h
     ∙ by_taken (λ (stepped : Stepped State Answer). stepped.state.owners ≡ state.owners) state panel salvo group (λ may. refl) (λ status. refl)
 
-pub sources-stay : (state : State) (request : Request) (dest device : ℕ) → finite.get state.owners dest ≡ Some device → device ≢ device_of state.plant (panel_of request) →
+pub sources-stay : (state : State) (request : Request) (dest device : ℕ) → finite.get state.owners dest ≡ Some device → IsOfOtherDevice state request device →
     finite.get (step state request).state.crosspoints dest ≡ finite.get state.crosspoints dest
 sources-stay state (Told panel item message) dest device owned other = source-told state panel dest device owned other item message
 sources-stay state (Poll panel item turn) dest device owned other = refl
 sources-stay state (Leave panel) dest device owned other = refl
+sources-stay state (DisplayPoll screen refresh) dest device owned other = ap (λ (state : State). finite.get state.crosspoints dest) (display_polled-is state screen refresh)
 
-pub owners-stay : (state : State) (request : Request) (dest device : ℕ) → finite.get state.owners dest ≡ Some device → device ≢ device_of state.plant (panel_of request) → is_master state.plant (panel_of request) ≡ false →
+pub owners-stay : (state : State) (request : Request) (dest device : ℕ) → finite.get state.owners dest ≡ Some device → IsOfOtherDevice state request device → IsOfNoMaster state request →
     finite.get (step state request).state.owners dest ≡ Some device
 owners-stay state (Told panel item (Interrogate at)) dest device owned other mere = owned
 owners-stay state (Told panel item (Connect at source)) dest device owned other mere = ap (λ o. finite.get o dest) (connected-owners state panel at source (change_of state.plant at source)) ∙ owned
@@ -124,6 +125,7 @@ owners-stay state (Told panel item (Go clear salvo)) dest device owned other mer
 owners-stay state (Told panel item message) dest device owned other mere = owned
 owners-stay state (Poll panel item turn) dest device owned other mere = owned
 owners-stay state (Leave panel) dest device owned other mere = owned
+owners-stay state (DisplayPoll screen refresh) dest device owned other mere = ap (λ (state : State). finite.get state.owners dest) (display_polled-is state screen refresh) ∙ owned
 
 -- before the first protect, and outside the plant
 pub start-unprotected : (plant : PlantData) (at : Point) → HasOwner (start plant) at None

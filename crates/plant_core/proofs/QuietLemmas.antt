@@ -1,27 +1,25 @@
 -- What changes neither a source nor an owner gives no notice.
-use Rattle.std.proofs.Common.{◌≡◌, ◌≢◌, ℕ, nat_eq, Bool, true, false, cond, ◌||◌, ◌==◌, List, [], ◌∷◌, Option, Some, None, refl, sym, ap, subst, ◌∙◌, eq-eqb}
+use Rattle.std.proofs.Common.{◌≡◌, ℕ, nat_eq, Bool, true, false, cond, ◌||◌, List, [], ◌∷◌, Option, Some, None, refl, sym, ap, subst, ◌∙◌, eq-eqb}
 use Rattle.std.proofs.lemmas.Bool.{both_ways}
 use Rattle.std.specs.Option.{option_eq}
 use Rattle.std.specs.FinMap as finite
 use Rattle.swp08_messages.specs.declared.point.Point.{Point}
 use Rattle.swp08_messages.specs.declared.message.Message.{Message}
-use Rattle.swp08_messages.specs.declared.message.Message.TheVariants.{Interrogate, Connect, Tally, Connected, ProtectAsk, ProtectConnect, ProtectDisconnect, ProtectTally, ProtectConnected, ProtectDisconnected, DumpAsk, Store, Stored, Go, GoDone, EntryAsk}
-use Rattle.swp08_messages.specs.declared.go_status.GoStatus.TheVariants.{Made, Protected}
+use Rattle.swp08_messages.specs.declared.message.Message.TheVariants.{Interrogate, Connect, ProtectConnect, ProtectDisconnect, ProtectTally, ProtectConnected, ProtectDisconnected, Store, Stored, Go}
 use Rattle.plant_config.specs.declared.records.Change.{Change}
 use Rattle.crosspoint_state.specs.Crosspoints.{Crosspoints, source_of, is_idle, NamesOnce}
 use Rattle.crosspoint_state.specs.Applied.{applied}
 use Rattle.protects.specs.Owners.{Owners, allows, may_lift, taken, lifted}
 use Rattle.salvo_groups.specs.Groups.{Group, group_of, may_store, with_store}
-use Rattle.change_boards.specs.Board.{Board}
 use Rattle.change_boards.specs.declared.sort.Sort.TheVariants.{Source, Protect}
 use Rattle.history_lock.specs.Step.{Stepped}
 use Rattle.plant_core.specs.declared.request.Request.TheVariants.{Told}
 use Rattle.plant_core.specs.declared.answer.Answer.{Answer}
-use Rattle.plant_core.specs.State.{State, IsValid, standing, device_of, is_master}
+use Rattle.plant_core.specs.State.{State, IsValid, device_of, is_master}
 use Rattle.plant_core.specs.Noticed.{marked_for_others, all_marked}
-use Rattle.plant_core.specs.Connects.{says, says_nothing, change_of, are_permitted, changed, connected}
+use Rattle.plant_core.specs.Connects.{says, says_nothing, change_of, connected}
 use Rattle.plant_core.specs.Protecting.{owner_told, has_same_owner, with_owners, protected, unprotected}
-use Rattle.plant_core.specs.Salvos.{stored_in, emptied, moved, all_changed, taken_whole, cleared, gone}
+use Rattle.plant_core.specs.Salvos.{stored_in, moved, taken_whole, cleared}
 use Rattle.plant_core.specs.Step.{step, dest_of}
 use Rattle.plant_core.proofs.Outcomes.{by_made, by_taken}
 use Rattle.plant_core.proofs.Changes.{source_same, source_of-one, source-idle, is_moved}

@@ -1,8 +1,7 @@
 -- Groups are taken whole or not at all, and entries are read back.
-use Rattle.std.proofs.Common.{◌≡◌, ◌≢◌, ◌⊎◌, ℕ, ◌<◌, Bool, true, false, cond, List, [], ◌∷◌, length, set, All, Option, Some, None, IfSome, inl, inr, refl, sym, ap, subst, ◌∙◌, arith}
+use Rattle.std.proofs.Common.{◌≡◌, ◌≢◌, ◌⊎◌, ℕ, ◌<◌, Bool, true, false, cond, List, [], ◌∷◌, set, Option, Some, None, IfSome, inl, inr, refl, sym, ap, subst, ◌∙◌, arith}
 use Rattle.std.specs.Prelude.{slice_get}
-use Rattle.std.specs.List.{Any}
-use Rattle.std.specs.Option.{option_map, option_and_then, unwrap_or}
+use Rattle.std.specs.Option.{option_map, unwrap_or}
 use Rattle.std.proofs.lemmas.Bool.{false_from_ne_true}
 use Rattle.std.proofs.lemmas.List.{get_or-set_same, get_or-set_other}
 use Rattle.swp08_messages.specs.declared.point.Point.{Point}
@@ -11,7 +10,7 @@ use Rattle.swp08_messages.specs.declared.go_status.GoStatus.TheVariants.{Made, C
 use Rattle.swp08_messages.specs.declared.validity.Validity.TheVariants.{NoEntry}
 use Rattle.plant_config.specs.Plant.{PlantData}
 use Rattle.plant_config.specs.IsPlant.{IsPlant}
-use Rattle.plant_config.specs.Sites.{dest_at, point_of, source_number_of}
+use Rattle.plant_config.specs.Sites.{dest_at}
 use Rattle.plant_config.specs.declared.records.Point as places
 use Rattle.plant_config.specs.declared.records.Change.{Change}
 use Rattle.plant_config.proofs.SiteLemmas.{dest_at-point_of}
@@ -24,7 +23,7 @@ use Rattle.plant_core.specs.declared.answer.Answer.{Answer}
 use Rattle.plant_core.specs.declared.answer.Answer.TheVariants.{Say}
 use Rattle.plant_core.specs.State.{State, IsValid, device_of}
 use Rattle.plant_core.specs.Connects.{says, says_nothing, change_of, are_permitted}
-use Rattle.plant_core.specs.Salvos.{stored_in, emptied, all_changed, taken_by_ties, taken_whole, cleared, gone, message_place, no_place, told_place, validity_at, entry_told}
+use Rattle.plant_core.specs.Salvos.{stored_in, emptied, all_changed, taken_by_ties, taken_whole, cleared, message_place, no_place, told_place, validity_at, entry_told}
 use Rattle.plant_core.specs.Step.{step}
 use Rattle.plant_core.specs.SalvoLaws.{IsTakenWhole, HasForeign, HasTies, OtherGroupsStay, IsGone, IsCleared, IsStoredNow}
 use Rattle.plant_core.proofs.Validity.{change_of-is}

@@ -3,7 +3,7 @@ use Rattle.std.proofs.Common.{◌≡◌, ℕ, Bool, true, false, cond, List, [],
 use Rattle.std.specs.FinMap as finite
 use Rattle.swp08_messages.specs.declared.point.Point.{Point}
 use Rattle.swp08_messages.specs.declared.message.Message.{Message}
-use Rattle.swp08_messages.specs.declared.message.Message.TheVariants.{Interrogate, Connect, Tally, Connected, ProtectAsk, ProtectConnect, ProtectDisconnect, ProtectTally, ProtectConnected, ProtectDisconnected, DumpAsk, Store, Stored, Go, GoDone, EntryAsk}
+use Rattle.swp08_messages.specs.declared.message.Message.TheVariants.{Interrogate, Connect, Tally, Connected, ProtectConnect, ProtectDisconnect, ProtectTally, ProtectConnected, ProtectDisconnected, Store, Stored, Go, GoDone}
 use Rattle.swp08_messages.specs.declared.go_status.GoStatus.TheVariants.{Made, Protected, NoTie}
 use Rattle.plant_config.specs.declared.records.Change.{Change}
 use Rattle.crosspoint_state.specs.Applied.{are_enough}
@@ -16,7 +16,7 @@ use Rattle.plant_core.specs.declared.answer.Answer.{Answer}
 use Rattle.plant_core.specs.State.{State, standing, device_of, is_master}
 use Rattle.plant_core.specs.Connects.{says, says_nothing, change_of, are_permitted, changed, may_make, connected}
 use Rattle.plant_core.specs.Protecting.{owner_told, with_owners, protected, unprotected}
-use Rattle.plant_core.specs.Salvos.{stored_in, emptied, all_changed, taken_by_ties, taken_whole, cleared, gone}
+use Rattle.plant_core.specs.Salvos.{stored_in, emptied, all_changed, taken_by_ties, taken_whole, cleared}
 use Rattle.plant_core.specs.Step.{step, dest_of}
 
 -- two steps are answered, and change all but the notices, alike

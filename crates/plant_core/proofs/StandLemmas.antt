@@ -1,45 +1,35 @@
 -- How long notices stand.
-use Rattle.std.proofs.Common.{◌≡◌, ◌≢◌, ◌⊎◌, ℕ, ◌<◌, Bool, true, false, cond, List, [], ◌∷◌, length, set, All, Option, Some, None, IsSome, IfSome, suc, inl, inr, refl, sym, ap, subst, ◌∙◌, arith, is_some}
-use Rattle.std.proofs.lemmas.Bool.{cases_eq, cases_lt, both_ways}
-use Rattle.std.proofs.lemmas.List.{set-get_or}
-use Rattle.std.specs.Option.{option_map, option_and_then, unwrap_or}
-use Rattle.std.specs.Ordering.{nat_cmp}
+use Rattle.std.proofs.Common.{◌≡◌, ◌≢◌, ◌⊎◌, ℕ, Bool, true, false, cond, List, [], ◌∷◌, All, Option, Some, None, suc, inl, inr, refl, sym, ap, subst, ◌∙◌, arith}
+use Rattle.std.proofs.lemmas.Bool.{cases_eq}
 use Rattle.std.specs.FinMap as finite
-use Rattle.std.specs.FinSet.{contains, contains-empty}
 use Rattle.swp08_messages.specs.declared.point.Point.{Point}
 use Rattle.swp08_messages.specs.declared.message.Message.{Message}
-use Rattle.swp08_messages.specs.declared.message.Message.TheVariants.{Interrogate, Connect, Tally, Connected, ProtectAsk, ProtectConnect, ProtectDisconnect, ProtectTally, ProtectConnected, ProtectDisconnected, DumpAsk, Store, Stored, Go, GoDone, EntryAsk}
-use Rattle.swp08_messages.specs.declared.go_status.GoStatus.TheVariants.{Made, Protected}
-use Rattle.plant_config.specs.declared.records.Point as places
+use Rattle.swp08_messages.specs.declared.message.Message.TheVariants.{Interrogate, Connect, ProtectConnect, ProtectDisconnect, ProtectTally, ProtectConnected, ProtectDisconnected, Store, Go}
 use Rattle.plant_config.specs.declared.records.Change.{Change}
-use Rattle.plant_config.specs.Plant.{PlantData, dest_numbers, destinations_of}
-use Rattle.plant_config.specs.IsPlant.{IsPlant}
-use Rattle.plant_config.specs.Sites.{Site, site_of, dest_at, point_of}
-use Rattle.plant_config.proofs.SiteLemmas.{dests_are, site_of-number_at, IsSome-site_of}
 use Rattle.crosspoint_state.specs.Crosspoints.{is_idle}
 use Rattle.protects.specs.Owners.{allows, may_lift, taken, lifted}
-use Rattle.salvo_groups.specs.Groups.{Group, group_of, may_store, with_store}
+use Rattle.salvo_groups.specs.Groups.{Group, group_of}
 use Rattle.change_boards.specs.declared.sort.Sort.{Sort}
 use Rattle.change_boards.specs.declared.sort.Sort.TheVariants.{Source, Protect}
-use Rattle.change_boards.specs.Board.{Board, IsEmpty, blank, abandoned, has_notice, next, without, taken as taken_board}
-use Rattle.change_boards.specs.Notices.{board_of, has, with_take}
-use Rattle.change_boards.proofs.OneNotice.{board_other, next-IsNext, with_take-Takes}
-use Rattle.change_boards.proofs.NextLemmas.{next-None}
+use Rattle.change_boards.specs.Board.{Board, abandoned, has_notice, taken as taken_board}
+use Rattle.change_boards.specs.Notices.{board_of, has}
+use Rattle.change_boards.proofs.OneNotice.{board_other}
 use Rattle.history_lock.specs.Step.{Stepped}
 use Rattle.plant_core.specs.declared.request.Request.{Request}
-use Rattle.plant_core.specs.declared.request.Request.TheVariants.{Told, Poll, Leave}
+use Rattle.plant_core.specs.declared.request.Request.TheVariants.{Told, Poll, Leave, DisplayPoll}
 use Rattle.plant_core.specs.declared.answer.Answer.{Answer}
-use Rattle.plant_core.specs.State.{State, IsValid, standing, owner_at, device_of, is_master}
+use Rattle.plant_core.specs.State.{State, IsValid, device_of, is_master}
 use Rattle.plant_core.specs.Noticed.{marked_for_others}
-use Rattle.plant_core.specs.Connects.{says, says_nothing, change_of, are_permitted, changed, connected}
+use Rattle.plant_core.specs.Connects.{says, change_of, connected}
 use Rattle.plant_core.specs.Protecting.{owner_told, has_same_owner, with_owners, protected, unprotected}
-use Rattle.plant_core.specs.Salvos.{stored_in, emptied, moved, all_changed, taken_whole, cleared, gone, message_place, no_place, told_place}
-use Rattle.plant_core.specs.Step.{step, dest_of, told_owner, told_for, notice_of}
+use Rattle.plant_core.specs.Salvos.{moved, taken_whole}
+use Rattle.plant_core.specs.Step.{step, dest_of}
 use Rattle.plant_core.specs.Laws.{after}
-use Rattle.plant_core.specs.NoticeLaws.{Tells, IsTold, PollTells, IsToldAmong, IsNoPollOrLeave}
-use Rattle.plant_core.proofs.Noticed.{past_none, others_keep, marked_keeps, same_notice}
+use Rattle.plant_core.specs.NoticeLaws.{PollTells, IsToldAmong, IsNoPollOrLeave}
+use Rattle.plant_core.proofs.Noticed.{others_keep, marked_keeps, same_notice}
 use Rattle.plant_core.proofs.TellLemmas.{poll-IsTold}
 use Rattle.plant_core.proofs.Outcomes.{by_made, by_taken}
+use Rattle.plant_core.proofs.Shows.{display_polled-is}
 use Rattle.plant_core.proofs.StepValidity.{IsValid-step}
 use Rattle.plant_core.proofs.QuietLemmas.{store-quiet, clear-quiet}
 
@@ -101,6 +91,7 @@ module _ (state : State) (panel dest : ℕ) (sort : Sort) (stands : has state.bo
   keeps_notice (Leave p) of =
       let other : panel ≢ p = λ same. of.1 (ap Leave (sym same)) in
       ap (λ b. has_notice b dest sort) (board_other state.boards p panel abandoned other) ∙ stands
+  keeps_notice (DisplayPoll screen refresh) of = ap (λ (state : State). has state.boards panel dest sort) (display_polled-is state screen refresh) ∙ stands
 
 -- a request is of others, or it is a poll of the panel
 whose : (panel : ℕ) (request : Request) → ¬ (request ≡ Leave panel) → IsNoPollOrLeave panel request ⊎ ((item : ℕ) × (turn : ℕ) × (request ≡ Poll panel item turn))
@@ -110,6 +101,7 @@ whose panel (Poll p item turn) stays = elim (cases_eq p panel) [
   | inr other ↦ inl (λ i t e. other cc, stays)
 ]
 whose panel (Leave p) stays = inl (λ i t e. absurd cc, stays)
+whose panel (DisplayPoll screen refresh) stays = inl (λ i t e. absurd cc, stays)
 
 later_told : (state : State) (panel dest : ℕ) (sort : Sort) (request : Request) (later : List Request) → IsToldAmong (step state request).state panel dest sort later → IsToldAmong state panel dest sort (request ∷ later)
 later_told state panel dest sort request later told = record {

@@ -1,40 +1,32 @@
 -- What steps leave as it was.
-use Rattle.std.proofs.Common.{◌≡◌, ◌≢◌, ℕ, ◌<◌, Bool, true, false, cond, List, [], ◌∷◌, All, Option, Some, None, IsSome, IsNone, IfSome, suc, refl, sym, ap, subst, ◌∙◌, arith}
+use Rattle.std.proofs.Common.{◌≡◌, ◌≢◌, ℕ, Bool, true, false, cond, List, [], ◌∷◌, All, Option, Some, None, IsNone, suc, refl, sym, ap, subst, ◌∙◌, arith}
 use Rattle.std.specs.Option.{option_map, option_and_then}
 use Rattle.std.specs.FinMap as finite
 use Rattle.std.specs.Ordering.{nat_cmp}
-use Rattle.std.proofs.lemmas.List.Elements.{All-nil, All-push}
 use Rattle.swp08_messages.specs.declared.point.Point.{Point}
 use Rattle.swp08_messages.specs.declared.message.Message.{Message}
-use Rattle.swp08_messages.specs.declared.message.Message.TheVariants.{Interrogate, Connect, Tally, Connected, ProtectAsk, ProtectConnect, ProtectDisconnect, ProtectTally, ProtectConnected, ProtectDisconnected, DumpAsk, Store, Stored, Go, GoDone, EntryAsk}
-use Rattle.swp08_messages.specs.declared.go_status.GoStatus.TheVariants.{Made, Protected}
-use Rattle.plant_config.specs.declared.records.Point as places
+use Rattle.swp08_messages.specs.declared.message.Message.TheVariants.{Interrogate, Connect, ProtectAsk, ProtectConnect, ProtectDisconnect, ProtectTally, ProtectConnected, ProtectDisconnected, DumpAsk, Store, Stored, Go, EntryAsk}
 use Rattle.plant_config.specs.declared.records.Change.{Change}
-use Rattle.plant_config.specs.Plant.{PlantData, destinations_of}
-use Rattle.plant_config.specs.IsPlant.{IsPlant}
-use Rattle.plant_config.specs.Sites.{dest_at, source_at, source_number_of}
-use Rattle.plant_config.proofs.SiteLemmas.{dest_at-point_of, source_at-source_number_of}
+use Rattle.plant_config.specs.Plant.{PlantData}
+use Rattle.plant_config.specs.Sites.{dest_at, source_number_of}
 use Rattle.crosspoint_state.specs.Crosspoints.{Crosspoints, source_of}
 use Rattle.crosspoint_state.specs.declared.spot.Spot.{Spot}
-use Rattle.protects.specs.Owners.{Owners, allows, may_lift, taken, lifted}
+use Rattle.protects.specs.Owners.{allows, may_lift, taken, lifted}
 use Rattle.salvo_groups.specs.Groups.{Group, group_of, may_store, with_store}
-use Rattle.change_boards.specs.declared.sort.Sort.TheVariants.{Source, Protect}
 use Rattle.history_lock.specs.Step.{Stepped}
 use Rattle.plant_core.specs.declared.request.Request.{Request}
-use Rattle.plant_core.specs.declared.request.Request.TheVariants.{Told, Poll, Leave}
+use Rattle.plant_core.specs.declared.request.Request.TheVariants.{Told, Poll, Leave, DisplayPoll}
 use Rattle.plant_core.specs.declared.answer.Answer.{Answer}
-use Rattle.plant_core.specs.declared.answer.Answer.TheVariants.{Say}
-use Rattle.plant_core.specs.State.{State, IsValid, IsChangeOf, AreOwners, standing, owner_at, device_of, is_master, start}
-use Rattle.plant_core.specs.Noticed.{marked_for_others}
-use Rattle.plant_core.specs.Connects.{says, says_nothing, wanted, change_of, are_permitted, changed, may_make, connected}
-use Rattle.plant_core.specs.Protecting.{owner_told, has_same_owner, with_owners, protected, unprotected}
-use Rattle.plant_core.specs.Salvos.{stored_in, emptied, moved, all_changed, taken_whole, cleared, gone}
+use Rattle.plant_core.specs.State.{State, IsValid, standing, device_of, is_master, start}
+use Rattle.plant_core.specs.Connects.{says, says_nothing, change_of, connected}
+use Rattle.plant_core.specs.Protecting.{owner_told, with_owners, protected, unprotected}
+use Rattle.plant_core.specs.Salvos.{stored_in, taken_whole, cleared}
 use Rattle.plant_core.specs.Step.{step, dest_of}
-use Rattle.plant_core.specs.Laws.{AnswersWith, IsConnectable, IsFree, MayConnect, IsMade, IsNotMade, LeavesAlone, OnlyAsks, after}
+use Rattle.plant_core.specs.Laws.{AnswersWith, LeavesAlone, OnlyAsks, after}
+use Rattle.plant_core.proofs.Shows.{display_polled-is}
 use Rattle.plant_core.proofs.StepValidity.{IsValid-step}
 use Rattle.plant_core.proofs.Outcomes.{by_made, by_taken}
 use Rattle.plant_core.proofs.Steps.{made, stands-answers, answers-stands}
-use Rattle.plant_core.proofs.Validity.{IsValid-applied, IsValid-owners, IsValid-others, IsValid-marked, IsValid-take, IsValid-leave, IsValid-store, IsValid-clear, AreOwners-taken, AreOwners-lifted, device-within, change_of-is, change_of-IsChangeOf, found-below}
 
 -- no step changes the plant
 connected-plant : (state : State) (panel : ℕ) (at : Point) (source : Option ℕ) (change : Option Change) → (connected state panel at source change).state.plant ≡ state.plant
@@ -108,6 +100,7 @@ plant-step state (Told panel item (Go false salvo)) = whole-plant state panel sa
 plant-step state (Told panel item message) = refl
 plant-step state (Poll panel item turn) = refl
 plant-step state (Leave panel) = refl
+plant-step state (DisplayPoll screen refresh) = ap (λ (state : State). state.plant) (display_polled-is state screen refresh)
 
 -- what leaves the sources leaves what stands
 standing-left : (old new : State) (place : Point) → LeavesSources old new → standing new place ≡ standing old place
@@ -146,6 +139,8 @@ keeps : (state : State) (place : Point) (request : Request) (stands : Option ℕ
 keeps state place (Told panel item message) stands valid alone answers = keeps-told state place panel item message stands valid alone answers
 keeps state place (Poll panel item turn) stands valid alone answers = answers
 keeps state place (Leave panel) stands valid alone answers = answers
+keeps state place (DisplayPoll screen refresh) stands valid alone answers =
+    subst (λ state. AnswersWith state place stands) (sym (display_polled-is state screen refresh)) answers
 
 pub keep : (state : State) (place : Point) (later : List Request) (stands : Option ℕ) → IsValid state → All (LeavesAlone place) later → AnswersWith state place stands → AnswersWith (after state later) place stands
 keep state place [] stands valid alone answers = answers

@@ -1,44 +1,35 @@
 -- Every step leaves a valid state.
-use Rattle.std.proofs.Common.{◌≡◌, ◌≢◌, ℕ, ◌<◌, Bool, true, false, cond, List, [], ◌∷◌, All, Option, Some, None, IsSome, IsNone, IfSome, suc, refl, sym, ap, subst, ◌∙◌, arith, length, get_or, inl, inr}
-use Rattle.std.specs.Option.{option_map, option_and_then}
+use Rattle.std.proofs.Common.{◌≡◌, ℕ, ◌<◌, Bool, true, false, cond, [], ◌∷◌, All, Option, Some, None, IfSome, refl, sym, subst, ◌∙◌, length, get_or, inl, inr}
 use Rattle.std.specs.FinMap as finite
-use Rattle.std.specs.Ordering.{nat_cmp}
 use Rattle.std.specs.Prelude.{slice_get}
 use Rattle.std.proofs.lemmas.Bool.{cases_lt}
 use Rattle.std.proofs.lemmas.Option.{slice_get_past, slice_get-get_or}
 use Rattle.std.proofs.lemmas.List.Elements.{All-nil, All-push}
 use Rattle.swp08_messages.specs.declared.point.Point.{Point}
-use Rattle.swp08_messages.specs.declared.message.Message.{Message}
-use Rattle.swp08_messages.specs.declared.message.Message.TheVariants.{Interrogate, Connect, Tally, Connected, ProtectAsk, ProtectConnect, ProtectDisconnect, ProtectTally, ProtectConnected, ProtectDisconnected, DumpAsk, Store, Stored, Go, GoDone, EntryAsk}
-use Rattle.swp08_messages.specs.declared.go_status.GoStatus.TheVariants.{Made, Protected}
-use Rattle.plant_config.specs.declared.records.Point as places
+use Rattle.swp08_messages.specs.declared.message.Message.TheVariants.{Interrogate, Connect, ProtectConnect, ProtectDisconnect, ProtectTally, ProtectConnected, ProtectDisconnected, Store, Stored, Go}
 use Rattle.plant_config.specs.declared.records.Change.{Change}
-use Rattle.plant_config.specs.Plant.{PlantData, destinations_of}
-use Rattle.plant_config.specs.IsPlant.{IsPlant}
-use Rattle.plant_config.specs.Sites.{dest_at, source_at, source_number_of}
-use Rattle.plant_config.proofs.SiteLemmas.{dest_at-point_of, source_at-source_number_of}
-use Rattle.crosspoint_state.specs.Crosspoints.{Crosspoints, source_of, is_idle, NamesOnce}
+use Rattle.plant_config.specs.Plant.{destinations_of}
+use Rattle.crosspoint_state.specs.Crosspoints.{is_idle, NamesOnce}
 use Rattle.crosspoint_state.specs.Applied.{applied, are_enough}
 use Rattle.crosspoint_state.specs.Laws.{AreInside}
-use Rattle.crosspoint_state.specs.declared.spot.Spot.{Spot}
 use Rattle.protects.specs.Owners.{Owners, allows, may_lift, taken, lifted}
 use Rattle.salvo_groups.specs.Groups.{Group, group_of, may_store, with_store}
 use Rattle.change_boards.specs.declared.sort.Sort.TheVariants.{Source, Protect}
 use Rattle.history_lock.specs.Step.{Stepped}
 use Rattle.plant_core.specs.declared.request.Request.{Request}
-use Rattle.plant_core.specs.declared.request.Request.TheVariants.{Told, Poll, Leave}
+use Rattle.plant_core.specs.declared.request.Request.TheVariants.{Told, Poll, Leave, DisplayPoll}
 use Rattle.plant_core.specs.declared.answer.Answer.{Answer}
-use Rattle.plant_core.specs.declared.answer.Answer.TheVariants.{Say}
-use Rattle.plant_core.specs.State.{State, IsValid, IsChangeOf, AreOwners, standing, owner_at, device_of, is_master, start}
+use Rattle.plant_core.specs.State.{State, IsValid, IsChangeOf, AreOwners, device_of, is_master}
 use Rattle.plant_core.specs.Noticed.{marked_for_others}
-use Rattle.plant_core.specs.Connects.{says, says_nothing, wanted, change_of, are_permitted, changed, may_make, connected}
+use Rattle.plant_core.specs.Connects.{says, says_nothing, change_of, changed, connected}
 use Rattle.plant_core.specs.Protecting.{owner_told, has_same_owner, with_owners, protected, unprotected}
-use Rattle.plant_core.specs.Salvos.{stored_in, emptied, moved, all_changed, taken_whole, cleared, gone}
+use Rattle.plant_core.specs.Salvos.{stored_in, emptied, moved, all_changed, cleared, gone}
 use Rattle.plant_core.specs.Step.{step, dest_of}
-use Rattle.plant_core.specs.Laws.{AnswersWith, IsConnectable, IsFree, MayConnect, IsMade, IsNotMade, LeavesAlone, after}
-use Rattle.plant_core.proofs.Validity.{IsValid-applied, IsValid-owners, IsValid-others, IsValid-marked, IsValid-take, IsValid-leave, IsValid-store, IsValid-clear, AreOwners-taken, AreOwners-lifted, device-within, change_of-is, change_of-IsChangeOf, found-below}
+use Rattle.plant_core.proofs.Validity.{IsValid-applied, IsValid-owners, IsValid-others, IsValid-marked, IsValid-take, IsValid-leave, IsValid-shown, AreOwners-taken, AreOwners-lifted, device-within, change_of-IsChangeOf, found-below}
+use Rattle.plant_core.proofs.GroupValidity.{IsValid-store, IsValid-clear}
 use Rattle.plant_core.proofs.Changes.{applied-idle, once-one, moved-within}
-use Rattle.plant_core.proofs.Outcomes.{MayTake, by_made, by_taken, made-enough}
+use Rattle.plant_core.proofs.Shows.{shown_behind, display_polled-is, length-shown_behind}
+use Rattle.plant_core.proofs.Outcomes.{by_made, by_taken, made-enough}
 
 -- a panel's connect leaves a valid state
 pub IsValid-one : (state : State) (change : Change) → IsValid state → IsChangeOf state.plant change → are_enough state.plant state.crosspoints (change ∷ []) ≡ true →
@@ -151,6 +142,9 @@ IsValid-step state (Told panel item (Go clear salvo)) valid = IsValid-gone state
 IsValid-step state (Told panel item message) valid = valid
 IsValid-step state (Poll panel item turn) valid = IsValid-take state panel valid
 IsValid-step state (Leave panel) valid = IsValid-leave state panel valid
+IsValid-step state (DisplayPoll screen refresh) valid =
+    subst IsValid (sym (display_polled-is state screen refresh))
+    (IsValid-shown state (shown_behind state screen refresh) valid (length-shown_behind state screen refresh))
 
 -- a change that isn't idle is made, and the others hear of it; an idle one leaves all as it was
 pub changed-busy : (state : State) (asker : ℕ) (change : Change) → is_idle state.crosspoints change ≡ false →

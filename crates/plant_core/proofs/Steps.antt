@@ -1,39 +1,27 @@
 -- Which connects are made, and how they are answered.
-use Rattle.std.proofs.Common.{◌≡◌, ◌≢◌, ℕ, ◌<◌, Bool, true, false, cond, List, [], ◌∷◌, All, Option, Some, None, IsSome, IsNone, IfSome, suc, refl, sym, ap, subst, ◌∙◌, arith}
+use Rattle.std.proofs.Common.{◌≡◌, ◌≢◌, ℕ, true, cond, [], ◌∷◌, Option, Some, None, IsSome, IfSome, refl, sym, ap, subst, ◌∙◌}
 use Rattle.std.specs.Option.{option_map, option_and_then}
 use Rattle.std.specs.FinMap as finite
-use Rattle.std.specs.Ordering.{nat_cmp}
-use Rattle.std.proofs.lemmas.List.Elements.{All-nil, All-push}
 use Rattle.swp08_messages.specs.declared.point.Point.{Point}
-use Rattle.swp08_messages.specs.declared.message.Message.{Message}
-use Rattle.swp08_messages.specs.declared.message.Message.TheVariants.{Interrogate, Connect, Tally, Connected, ProtectAsk, ProtectConnect, ProtectDisconnect, ProtectTally, ProtectConnected, ProtectDisconnected, DumpAsk, Store, Stored, Go, GoDone, EntryAsk}
-use Rattle.swp08_messages.specs.declared.go_status.GoStatus.TheVariants.{Made, Protected}
+use Rattle.swp08_messages.specs.declared.message.Message.TheVariants.{Connect, Tally, Connected}
 use Rattle.plant_config.specs.declared.records.Point as places
 use Rattle.plant_config.specs.declared.records.Change.{Change}
-use Rattle.plant_config.specs.Plant.{PlantData, destinations_of}
+use Rattle.plant_config.specs.Plant.{PlantData}
 use Rattle.plant_config.specs.IsPlant.{IsPlant}
 use Rattle.plant_config.specs.Sites.{dest_at, source_at, source_number_of}
 use Rattle.plant_config.proofs.SiteLemmas.{dest_at-point_of, source_at-source_number_of}
-use Rattle.crosspoint_state.specs.Crosspoints.{Crosspoints, source_of, is_idle}
+use Rattle.crosspoint_state.specs.Crosspoints.{source_of}
 use Rattle.crosspoint_state.specs.Applied.{applied, are_enough}
 use Rattle.crosspoint_state.specs.declared.spot.Spot.{Spot}
-use Rattle.protects.specs.Owners.{Owners, allows, may_lift, taken, lifted}
-use Rattle.salvo_groups.specs.Groups.{Group, group_of, may_store, with_store}
-use Rattle.change_boards.specs.declared.sort.Sort.TheVariants.{Source, Protect}
-use Rattle.history_lock.specs.Step.{Stepped}
-use Rattle.plant_core.specs.declared.request.Request.{Request}
-use Rattle.plant_core.specs.declared.request.Request.TheVariants.{Told, Poll, Leave}
-use Rattle.plant_core.specs.declared.answer.Answer.{Answer}
+use Rattle.protects.specs.Owners.{allows}
+use Rattle.plant_core.specs.declared.request.Request.TheVariants.{Told}
 use Rattle.plant_core.specs.declared.answer.Answer.TheVariants.{Say}
-use Rattle.plant_core.specs.State.{State, IsValid, IsChangeOf, AreOwners, standing, owner_at, device_of, is_master, start}
-use Rattle.plant_core.specs.Noticed.{marked_for_others}
-use Rattle.plant_core.specs.Connects.{says, says_nothing, wanted, change_of, are_permitted, changed, may_make, connected}
-use Rattle.plant_core.specs.Protecting.{owner_told, has_same_owner, with_owners, protected, unprotected}
-use Rattle.plant_core.specs.Salvos.{stored_in, emptied, moved, all_changed, taken_whole, cleared, gone}
+use Rattle.plant_core.specs.State.{State, IsValid, standing, owner_at, device_of}
+use Rattle.plant_core.specs.Connects.{says, wanted, change_of, changed, may_make, connected}
 use Rattle.plant_core.specs.Step.{step, dest_of}
-use Rattle.plant_core.specs.Laws.{AnswersWith, IsConnectable, IsFree, MayConnect, IsMade, IsNotMade, LeavesAlone, after}
-use Rattle.plant_core.proofs.Validity.{IsValid-applied, IsValid-owners, IsValid-others, IsValid-marked, IsValid-take, IsValid-leave, IsValid-store, IsValid-clear, AreOwners-taken, AreOwners-lifted, device-within, change_of-is, change_of-IsChangeOf, found-below}
-use Rattle.plant_core.proofs.Changes.{allows-free, free-allows, permitted-one, source_of-one, get-one_other, moved-within}
+use Rattle.plant_core.specs.Laws.{AnswersWith, IsConnectable, IsFree, MayConnect, IsMade, IsNotMade}
+use Rattle.plant_core.proofs.Validity.{change_of-is}
+use Rattle.plant_core.proofs.Changes.{allows-free, free-allows, permitted-one, source_of-one, get-one_other}
 use Rattle.plant_core.proofs.Outcomes.{by_made, may-both, made-permitted, made-enough}
 
 -- what a destination was to carry, read as a number of its level, is what was asked for

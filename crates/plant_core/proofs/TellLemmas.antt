@@ -1,43 +1,29 @@
 -- What polls tell, and how long notices stand.
-use Rattle.std.proofs.Common.{◌≡◌, ◌≢◌, ◌⊎◌, ℕ, ◌<◌, Bool, true, false, cond, List, [], ◌∷◌, length, set, All, Option, Some, None, IsSome, IfSome, suc, inl, inr, refl, sym, ap, subst, ◌∙◌, arith, is_some}
-use Rattle.std.proofs.lemmas.Bool.{cases_eq, cases_lt, both_ways}
+use Rattle.std.proofs.Common.{◌≡◌, ◌⊎◌, ℕ, ◌<◌, true, false, List, [], length, set, Option, Some, None, IsSome, IfSome, inl, inr, refl, sym, ap, subst, ◌∙◌, is_some}
+use Rattle.std.proofs.lemmas.Bool.{cases_lt, both_ways}
 use Rattle.std.proofs.lemmas.List.{set-get_or}
 use Rattle.std.specs.Option.{option_map, option_and_then, unwrap_or}
 use Rattle.std.specs.Ordering.{nat_cmp}
 use Rattle.std.specs.FinMap as finite
 use Rattle.std.specs.FinSet.{contains, contains-empty}
 use Rattle.swp08_messages.specs.declared.point.Point.{Point}
-use Rattle.swp08_messages.specs.declared.message.Message.{Message}
-use Rattle.swp08_messages.specs.declared.message.Message.TheVariants.{Interrogate, Connect, Tally, Connected, ProtectAsk, ProtectConnect, ProtectDisconnect, ProtectTally, ProtectConnected, ProtectDisconnected, DumpAsk, Store, Stored, Go, GoDone, EntryAsk}
-use Rattle.swp08_messages.specs.declared.go_status.GoStatus.TheVariants.{Made, Protected}
 use Rattle.plant_config.specs.declared.records.Point as places
-use Rattle.plant_config.specs.declared.records.Change.{Change}
 use Rattle.plant_config.specs.Plant.{PlantData, dest_numbers, destinations_of}
 use Rattle.plant_config.specs.IsPlant.{IsPlant}
-use Rattle.plant_config.specs.Sites.{Site, site_of, dest_at, point_of}
+use Rattle.plant_config.specs.Sites.{Site, site_of, dest_at}
 use Rattle.plant_config.proofs.SiteLemmas.{dests_are, site_of-number_at, IsSome-site_of}
-use Rattle.protects.specs.Owners.{allows, may_lift, taken, lifted}
-use Rattle.salvo_groups.specs.Groups.{Group, group_of, may_store, with_store}
 use Rattle.change_boards.specs.declared.sort.Sort.{Sort}
 use Rattle.change_boards.specs.declared.sort.Sort.TheVariants.{Source, Protect}
-use Rattle.change_boards.specs.Board.{Board, IsEmpty, blank, abandoned, has_notice, next, without, taken as taken_board}
+use Rattle.change_boards.specs.Board.{Board, IsEmpty, blank, has_notice, next, without}
 use Rattle.change_boards.specs.Notices.{board_of, has, with_take}
-use Rattle.change_boards.proofs.OneNotice.{board_other, next-IsNext, with_take-Takes}
+use Rattle.change_boards.proofs.OneNotice.{next-IsNext, with_take-Takes}
 use Rattle.change_boards.proofs.NextLemmas.{next-None}
-use Rattle.plant_core.specs.declared.request.Request.{Request}
-use Rattle.plant_core.specs.declared.request.Request.TheVariants.{Told, Poll, Leave}
-use Rattle.plant_core.specs.declared.answer.Answer.{Answer}
-use Rattle.plant_core.specs.State.{State, IsValid, standing, owner_at, device_of, is_master}
-use Rattle.plant_core.specs.Noticed.{marked_for_others}
-use Rattle.plant_core.specs.Connects.{says, says_nothing, change_of, are_permitted, changed, connected}
-use Rattle.plant_core.specs.Protecting.{owner_told, has_same_owner, with_owners, protected, unprotected}
-use Rattle.plant_core.specs.Salvos.{stored_in, emptied, moved, all_changed, taken_whole, cleared, gone, message_place, no_place, told_place}
+use Rattle.plant_core.specs.declared.request.Request.TheVariants.{Poll}
+use Rattle.plant_core.specs.State.{State, IsValid}
+use Rattle.plant_core.specs.Salvos.{message_place, no_place, told_place}
 use Rattle.plant_core.specs.Step.{step, dest_of, told_owner, told_for, notice_of}
-use Rattle.plant_core.specs.Laws.{after}
-use Rattle.plant_core.specs.NoticeLaws.{Tells, IsTold, PollTells, IsToldAmong, IsNoPollOrLeave}
-use Rattle.plant_core.proofs.Noticed.{past_none, others_keep, marked_keeps, same_notice}
-use Rattle.plant_core.proofs.StepValidity.{IsValid-step}
-use Rattle.plant_core.proofs.QuietLemmas.{store-quiet, clear-quiet}
+use Rattle.plant_core.specs.NoticeLaws.{Tells, PollTells}
+use Rattle.plant_core.proofs.Noticed.{past_none}
 
 -- a panel that has a notice is in the plant
 within_has : (boards : List Board) (panel dest : ℕ) (sort : Sort) → has boards panel dest sort ≡ true → panel < length boards

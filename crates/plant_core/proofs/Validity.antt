@@ -1,16 +1,14 @@
 -- Which states are valid, and what that says of the sources in them.
-use Rattle.std.proofs.Common.{◌≡◌, ◌≢◌, ℕ, ◌<◌, ◌≤◌, Bool, true, false, not, cond, List, [], ◌∷◌, ◌++◌, length, map, set, get_or, All, filter, Option, Some, None, IfSome, suc, inl, inr, refl, sym, ap, subst, ◌∙◌, arith}
-use Rattle.std.specs.Prelude.{◌==◌, slice_get}
+use Rattle.std.proofs.Common.{◌≡◌, ℕ, ◌<◌, ◌≤◌, Bool, true, false, not, cond, List, [], ◌∷◌, length, All, filter, Option, Some, None, IfSome, suc, inl, inr, refl, sym, ap, subst, ◌∙◌, arith}
 use Rattle.std.specs.Option.{option_map, option_map_or, option_and_then}
 use Rattle.std.specs.Ordering.{nat_cmp, eq_by_cmp}
 use Rattle.std.specs.Cmp.{nat_cmp_total, unsigned_tied}
 use Rattle.std.specs.FinMap as finite
-use Rattle.std.proofs.lemmas.Bool.{eqb-true, cases_eq, cases_lt}
-use Rattle.std.proofs.lemmas.List.{get_or-set_same, get_or-set_other, get_or_past, length-set, length-replicate, get_or-replicate}
+use Rattle.std.proofs.lemmas.Bool.{eqb-true, cases_lt}
+use Rattle.std.proofs.lemmas.List.{get_or_past, length-replicate, get_or-replicate}
 use Rattle.std.proofs.lemmas.Option.{slice_get_past, slice_get-get_or}
-use Rattle.std.proofs.lemmas.List.Elements.{All-nil, All-push, All-filter, All-map}
+use Rattle.std.proofs.lemmas.List.Elements.{All-nil, All-filter}
 use Rattle.swp08_messages.specs.declared.point.Point.{Point}
-use Rattle.swp08_messages.specs.declared.message.Message.TheVariants.{Store}
 use Rattle.plant_config.specs.Limits.{last_device}
 use Rattle.plant_config.specs.Plant.{PlantData, destinations_of, sources_of}
 use Rattle.plant_config.specs.IsPlant.{IsPlant}
@@ -28,9 +26,10 @@ use Rattle.protects.specs.Owners.{Owners, allows, may_lift, taken, lifted}
 use Rattle.salvo_groups.specs.Limits.{salvo_limit}
 use Rattle.salvo_groups.specs.Groups as salvos
 use Rattle.salvo_groups.specs.Groups.{Group, AreGroups, group_of, has_entry, may_store, with_changed, stored, with_store, with_clear}
-use Rattle.salvo_groups.proofs.AllGroups.{AreGroups-start, AreGroups-store, AreGroups-clear}
+use Rattle.salvo_groups.proofs.AllGroups.{AreGroups-start}
 use Rattle.change_boards.specs.Board.{Board}
 use Rattle.change_boards.specs.Notices.{with_take, with_leave}
+use Rattle.change_boards.specs.Shown.{Shown}
 use Rattle.change_boards.specs.Laws.{AreBoards}
 use Rattle.change_boards.specs.declared.sort.Sort.{Sort}
 use Rattle.change_boards.proofs.StayBoards.{AreBoards-start, AreBoards-take, AreBoards-leave}
@@ -48,6 +47,7 @@ IsValid-start plant is = record {
   groups = AreGroups-start;
   changes = λ number. none_stored number;
   boards = AreBoards-start (length plant.panels) (destinations_of plant);
+  shown = length-replicate (length plant.displays) None;
 }
   where
     none_stored : (number : ℕ) → All (IsChangeOf plant) (group_of salvos.start number)
@@ -120,17 +120,21 @@ module _ (plant : PlantData) (P : ℕ → ℕ → Type 0) where
       let busy : List Change = filter (λ (change : Change). not (is_idle crosspoints change)) changes in
       holds-all_given (released crosspoints busy) busy (holds-released crosspoints busy holds) (All-filter _ Gives changes all)
 
+pub AreCrosspoints-applied : (plant : PlantData) (crosspoints : Crosspoints) (changes : List Change) → AreCrosspoints plant crosspoints → All (IsChangeOf plant) changes → AreCrosspoints plant (applied plant crosspoints changes)
+AreCrosspoints-applied plant crosspoints changes are all = holds-applied plant (IsCrosspoint plant) crosspoints changes are (λ k d below. (all k d below).source)
+
 -- one part of a valid state is replaced
 pub IsValid-applied : (state : State) (changes : List Change) → IsValid state → All (IsChangeOf state.plant) changes → NamesOnce changes → are_enough state.plant state.crosspoints changes ≡ true →
     IsValid (record state { crosspoints = applied state.plant state.crosspoints changes })
 IsValid-applied state changes valid all once enough = record {
   is_plant = valid.is_plant;
-  is_crosspoint = holds-applied state.plant (IsCrosspoint state.plant) state.crosspoints changes valid.is_crosspoint (λ k d below. (all k d below).source);
+  is_crosspoint = AreCrosspoints-applied state.plant state.crosspoints changes valid.is_crosspoint all;
   ties = TiesStayValid-applied state.plant state.crosspoints changes once (λ k d below. (all k d below).dest) valid.is_plant valid.ties enough;
   owners = valid.owners;
   groups = valid.groups;
   changes = valid.changes;
   boards = valid.boards;
+  shown = valid.shown;
 }
 
 pub IsValid-boards : (state : State) (boards : List Board) → IsValid state → AreBoards boards (length state.plant.panels) (destinations_of state.plant) → IsValid (record state { boards = boards })
@@ -142,6 +146,7 @@ IsValid-boards state boards valid are = record {
   groups = valid.groups;
   changes = valid.changes;
   boards = are;
+  shown = valid.shown;
 }
 
 pub IsValid-owners : (state : State) (owners : Owners) → IsValid state → AreOwners state.plant owners → IsValid (record state { owners = owners })
@@ -153,9 +158,10 @@ IsValid-owners state owners valid are = record {
   groups = valid.groups;
   changes = valid.changes;
   boards = valid.boards;
+  shown = valid.shown;
 }
 
-IsValid-groups : (state : State) (groups : List Group) → IsValid state → AreGroups groups → ((number : ℕ) → All (IsChangeOf state.plant) (group_of groups number)) → IsValid (record state { groups = groups })
+pub IsValid-groups : (state : State) (groups : List Group) → IsValid state → AreGroups groups → ((number : ℕ) → All (IsChangeOf state.plant) (group_of groups number)) → IsValid (record state { groups = groups })
 IsValid-groups state groups valid are changes = record {
   is_plant = valid.is_plant;
   is_crosspoint = valid.is_crosspoint;
@@ -164,6 +170,19 @@ IsValid-groups state groups valid are changes = record {
   groups = are;
   changes = changes;
   boards = valid.boards;
+  shown = valid.shown;
+}
+
+pub IsValid-shown : (state : State) (values : Shown) → IsValid state → length values ≡ length state.shown → IsValid (record state { shown = values })
+IsValid-shown state values valid same = record {
+  is_plant = valid.is_plant;
+  is_crosspoint = valid.is_crosspoint;
+  ties = valid.ties;
+  owners = valid.owners;
+  groups = valid.groups;
+  changes = valid.changes;
+  boards = valid.boards;
+  shown = same ∙ valid.shown;
 }
 
 -- marks, polls and leaves keep a state valid
@@ -205,42 +224,6 @@ AreOwners-lifted plant owners device master dest are =
       | true ↦ values-remove (λ dest device. (dest < destinations_of plant) × (device ≤ last_device)) owners dest are
       | false ↦ are
     ]
-
--- a group is replaced: what holds of each group, and of the new one, holds of each
-each_group : (P : Group → Type 0) (groups : List Group) (number : ℕ) (group : Group) → P [] → ((n : ℕ) → P (group_of groups n)) → P group → (n : ℕ) → P (group_of (set groups number group) n)
-each_group P groups number group none all new n = elim (cases_eq n number) [
-  | inl here ↦ elim (cases_lt number (length groups)) [
-    | inl within ↦ subst P (sym (ap (group_of (set groups number group)) here ∙ get_or-set_same groups number group [] within)) new
-    | inr past ↦ subst P (sym (get_or_past (set groups number group) n [] (omega (arith, here, past, length-set groups number group)))) none
-  ]
-  | inr other ↦ subst P (sym (get_or-set_other groups number n group [] other)) (all n)
-]
-
--- a stored change is of the plant as the others are
-All-stored : (P : Change → Type 0) (group : Group) (change : Change) → All P group → P change → All P (stored group change)
-All-stored P group change all new =
-    elim (has_entry group change.dest) as (λ b. All P (cond b (with_changed group change) (group ++ change ∷ []))) [
-      | true ↦ All-map P (λ (entry : Change). cond (entry.dest == change.dest) change entry) group (λ k d below. one (get_or group k d) (all k d below))
-      | false ↦ All-push P group change all new
-    ]
-  where
-    one : (entry : Change) → P entry → P (cond (entry.dest == change.dest) change entry)
-    one entry is = elim (entry.dest == change.dest) as (λ b. P (cond b change entry)) [ true ↦ new | false ↦ is ]
-
-pub IsValid-store : (state : State) (salvo : ℕ) (change : Change) → IsValid state → IsChangeOf state.plant change → IsValid (record state { groups = with_store state.groups salvo change })
-IsValid-store state salvo change valid is =
-    IsValid-groups state (with_store state.groups salvo change) valid (AreGroups-store state.groups salvo change valid.groups)
-    (elim (may_store (group_of state.groups salvo) change) as (λ b. (n : ℕ) → All (IsChangeOf state.plant) (group_of (cond b (set state.groups salvo (stored (group_of state.groups salvo) change)) state.groups) n)) [
-      | true ↦
-          each_group (All (IsChangeOf state.plant)) state.groups salvo (stored (group_of state.groups salvo) change) (All-nil (IsChangeOf state.plant)) valid.changes
-          (All-stored (IsChangeOf state.plant) (group_of state.groups salvo) change (valid.changes salvo) is)
-      | false ↦ valid.changes
-    ])
-
-pub IsValid-clear : (state : State) (salvo : ℕ) → IsValid state → IsValid (record state { groups = with_clear state.groups salvo })
-IsValid-clear state salvo valid =
-    IsValid-groups state (with_clear state.groups salvo) valid (AreGroups-clear state.groups salvo valid.groups)
-    (each_group (All (IsChangeOf state.plant)) state.groups salvo [] (All-nil (IsChangeOf state.plant)) valid.changes (All-nil (IsChangeOf state.plant)))
 
 -- what a connect asks for is of the level of its destination
 wanted-IfSome : (plant : PlantData) (at : Point) (source carried : Option ℕ) (dest : ℕ) → dest_at plant at.matrix at.level at.dest ≡ Some dest → wanted plant at source ≡ Some carried → IfSome carried (IsCrosspoint plant dest)

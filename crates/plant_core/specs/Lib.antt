@@ -17,9 +17,12 @@ pub mod Noticed
 pub mod Connects
 pub mod Protecting
 pub mod Salvos
+pub mod Displays
+pub mod DisplaysInside
 pub mod Step
 pub mod AnswerInside
 pub mod Laws
 pub mod ProtectLaws
 pub mod SalvoLaws
 pub mod NoticeLaws
+pub mod DisplayLaws

@@ -1,5 +1,5 @@
 -- What is true of protects in every valid state, said by places and answers.
-use Rattle.std.specs.Prelude.{◌≡◌, ◌≢◌, ◌⊎◌, ℕ, true, false, Bool, [], ◌∷◌, Option, Some, None, IsSome, IsNone}
+use Rattle.std.specs.Prelude.{◌≡◌, ◌≢◌, ◌⊎◌, ℕ, true, false, Bool, [], ◌∷◌, Option, Some, None, IsSome, IsNone, IfSome}
 use Rattle.std.specs.FinMap.{get}
 use Rattle.swp08_messages.specs.declared.point.Point.{Point}
 use Rattle.swp08_messages.specs.declared.message.Message.{Message}
@@ -8,7 +8,7 @@ use Rattle.plant_config.specs.Plant.{PlantData}
 use Rattle.plant_config.specs.Sites.{dest_at}
 use Rattle.history_lock.specs.Step.{Stepped}
 use Rattle.plant_core.specs.declared.request.Request.{Request}
-use Rattle.plant_core.specs.declared.request.Request.TheVariants.{Told, Poll, Leave}
+use Rattle.plant_core.specs.declared.request.Request.TheVariants.{Told, Poll, Leave, DisplayPoll}
 use Rattle.plant_core.specs.declared.answer.Answer.{Answer}
 use Rattle.plant_core.specs.declared.answer.Answer.TheVariants.{Say}
 use Rattle.plant_core.specs.State.{State, IsValid, device_of, is_master, owner_at, start}
@@ -88,25 +88,35 @@ OtherLiftsAreRefused = (state : State) (panel item device : ℕ) (at : Point)
     → ¬ MayLift state panel at
     → IsRefused state at (step state (Told panel item (ProtectDisconnect at device)))
 
--- The panel of which a request is.
-abbrev pub panel_of : Request → ℕ
-panel_of (Told panel item message) = panel
-panel_of (Poll panel item turn) = panel
-panel_of (Leave panel) = panel
+-- the panel of which a request is, none where a screen is polled
+abbrev pub asker_of : Request → Option ℕ
+asker_of (Told panel item message) = Some panel
+asker_of (Poll panel item turn) = Some panel
+asker_of (Leave panel) = Some panel
+asker_of (DisplayPoll screen refresh) = None
+
+-- A request is of no panel of this device, and of no master.
+abbrev pub IsOfOtherDevice : State → Request → ℕ → Type 0
+IsOfOtherDevice state request device =
+    IfSome (asker_of request) (λ panel. device ≢ device_of state.plant panel)
+
+abbrev pub IsOfNoMaster : State → Request → Type 0
+IsOfNoMaster state request =
+    IfSome (asker_of request) (λ panel. is_master state.plant panel ≡ false)
 
 -- a destination that another device protects carries what it carried, whatever a panel asks, be it a master
 abbrev pub ProtectedSourcesStay : Type 0
 ProtectedSourcesStay = (state : State) (request : Request) (dest device : ℕ)
     → get state.owners dest ≡ Some device
-    → device ≢ device_of state.plant (panel_of request)
+    → IsOfOtherDevice state request device
     → get (step state request).state.crosspoints dest ≡ get state.crosspoints dest
 
 -- and it stays that device's, unless the panel is a master
 abbrev pub ProtectsStay : Type 0
 ProtectsStay = (state : State) (request : Request) (dest device : ℕ)
     → get state.owners dest ≡ Some device
-    → device ≢ device_of state.plant (panel_of request)
-    → is_master state.plant (panel_of request) ≡ false
+    → IsOfOtherDevice state request device
+    → IsOfNoMaster state request
     → get (step state request).state.owners dest ≡ Some device
 
 -- at the start of a plant no place is protected, and a place that the plant doesn't have never is

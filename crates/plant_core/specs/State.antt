@@ -1,5 +1,5 @@
 -- The state of a plant, as plain data, and what is true of it.
-use Rattle.std.specs.Prelude.{◌≡◌, ℕ, ◌<◌, ◌≤◌, length, slice_get, Bool, false, List, All, Option, Some, None, IfSome}
+use Rattle.std.specs.Prelude.{◌≡◌, ℕ, ◌<◌, ◌≤◌, length, slice_get, Bool, true, false, List, All, Option, Some, IfSome}
 use Rattle.std.specs.Option.{option_map_or, option_and_then}
 use Rattle.std.specs.FinMap.{empty, get}
 use Rattle.swp08_messages.specs.declared.point.Point.{Point}
@@ -21,20 +21,23 @@ use Rattle.salvo_groups.specs.Groups.{Group, group_of, AreGroups}
 use Rattle.change_boards.specs.Board.{Board}
 use Rattle.change_boards.specs.Notices as notices
 use Rattle.change_boards.specs.Laws.{AreBoards}
+use Rattle.change_boards.specs.Screens.{has_screen}
+use Rattle.change_boards.specs.Shown as displays
 use Rattle.plant_core.specs.declared.request.Request.{Request}
-use Rattle.plant_core.specs.declared.request.Request.TheVariants.{Told, Poll, Leave}
+use Rattle.plant_core.specs.declared.request.Request.TheVariants.{Told, Poll, Leave, DisplayPoll}
 
 -- a plant, which no step changes; what its destinations carry, and which device protects each; the salvo groups, which all
--- panels have in common; and what each panel has yet to hear of
+-- panels have in common; what each panel has yet to hear of; and what each display was last shown
 pub record State : Type 0 where
   pub plant : PlantData
   pub crosspoints : Crosspoints
   pub owners : Owners
   pub groups : List Group
   pub boards : List Board
+  pub shown : displays.Shown
 
--- the state at the start: every destination is parked and unprotected, every group is empty, there are no notices, and no
--- panel has left
+-- the state at the start: every destination is parked and unprotected, every group is empty, there are no notices, no panel
+-- has left, and no display was shown a value
 abbrev pub start : PlantData → State
 start plant = record {
   plant = plant;
@@ -42,6 +45,7 @@ start plant = record {
   owners = empty;
   groups = salvos.start;
   boards = notices.start (length plant.panels);
+  shown = displays.never_shown (length plant.displays);
 }
 
 -- the tie that brings a destination its source, none where it is parked or its source is local
@@ -96,7 +100,8 @@ pub record IsChangeOf (plant : PlantData) (change : Change) : Type 0 where
 
 -- A state is valid where its plant is, each destination carries a source of its own level, and the ties are valid, so that no
 -- tie carries two sources. Only destinations of the plant are protected. There are 128 groups, each of changes of the plant.
--- Each panel of the plant has a board, with notices of the plant's destinations, none where the panel has left.
+-- Each panel of the plant has a board, with notices of the plant's destinations, none where the panel has left. Of each
+-- display it is kept what it was last shown.
 pub record IsValid (state : State) : Type 0 where
   pub is_plant : IsPlant state.plant
   pub is_crosspoint : AreCrosspoints state.plant state.crosspoints
@@ -105,16 +110,19 @@ pub record IsValid (state : State) : Type 0 where
   pub groups : AreGroups state.groups
   pub changes : (number : ℕ) → All (IsChangeOf state.plant) (group_of state.groups number)
   pub boards : AreBoards state.boards (length state.plant.panels) (destinations_of state.plant)
+  pub shown : length state.shown ≡ length state.plant.displays
 
 -- A message is for the plant where it asks something of it, and is in its ranges.
 abbrev pub IsForPlant : Message → Type 0
 IsForPlant message = (kind_of message ≡ Plant) × InRange message
 
--- A request fits a plant where its panel is in it, and a message that is told is for the plant.
+-- A request fits a plant where its panel is in it, a message that is told is for the plant, and the screen that is polled
+-- is one that a display of the plant is on.
 abbrev pub FitsPlant : PlantData → Request → Type 0
 FitsPlant plant (Told panel item message) = (panel < length plant.panels) × IsForPlant message
 FitsPlant plant (Poll panel item turn) = panel < length plant.panels
 FitsPlant plant (Leave panel) = panel < length plant.panels
+FitsPlant plant (DisplayPoll screen refresh) = has_screen plant screen ≡ true
 
 -- What stands in a state doesn't matter for what fits.
 abbrev pub Fits : State → Request → Type 0

@@ -14,12 +14,13 @@ use Rattle.change_boards.specs.declared.sort.Sort.{Sort}
 use Rattle.change_boards.specs.declared.sort.Sort.TheVariants.{Source, Protect}
 use Rattle.history_lock.specs.Step.{Stepped}
 use Rattle.plant_core.specs.declared.request.Request.{Request}
-use Rattle.plant_core.specs.declared.request.Request.TheVariants.{Told, Poll, Leave}
+use Rattle.plant_core.specs.declared.request.Request.TheVariants.{Told, Poll, Leave, DisplayPoll}
 use Rattle.plant_core.specs.declared.answer.Answer.{Answer}
 use Rattle.plant_core.specs.declared.answer.Answer.TheVariants.{Say, Dumped}
 use Rattle.plant_core.specs.State.{State, standing, owner_at}
 use Rattle.plant_core.specs.Connects.{says, says_nothing, change_of, connected}
 use Rattle.plant_core.specs.Protecting.{owner_told, protected, unprotected}
+use Rattle.plant_core.specs.Displays.{display_polled}
 use Rattle.plant_core.specs.Salvos.{stored_in, gone, entry_answer, told_place}
 
 -- how many destinations a level has, none where the plant has no such level
@@ -80,7 +81,8 @@ notice_of state (Some (dest, sort)) = told_for state dest sort ∷ []
 abbrev pub poll_answers : State → ℕ → List Answer
 poll_answers state panel = notice_of state (next (board_of state.boards panel))
 
--- What an event does. A poll takes the next notice of its panel, and a panel that leaves loses its notices.
+-- What an event does. A poll takes the next notice of its panel, a panel that leaves loses its notices, and a display poll
+-- shows displays their values.
 abbrev pub step : State → Request → Stepped State Answer
 step state (Told panel item message) = answered state panel message
 step state (Poll panel item turn) = record {
@@ -89,3 +91,4 @@ step state (Poll panel item turn) = record {
 }
 step state (Leave panel) =
     record { state = record state { boards = with_leave state.boards panel }; answers = [] }
+step state (DisplayPoll screen refresh) = display_polled state screen refresh

@@ -1,5 +1,10 @@
 //! How a plant answers.
 
+ghost use Rattle.std.specs.Prelude.{◌≡◌, ◌<◌, ◌∷◌, ◌++◌, [], length};
+
+use change_boards::Value;
+use history_lock::OutBox;
+use plant_config::DisplayId;
 use swp08_messages::Message;
 
 /// One answer to an event.
@@ -15,4 +20,24 @@ pub enum Answer {
         dest: u16,
         source: Option<u16>,
     },
+    /// This display of the screen that was polled is shown this value.
+    Lamp {
+        display: DisplayId,
+        value: Value,
+    },
+    /// No display of any screen differs from what it shows, and all panels have left.
+    Finished,
+}
+
+// Puts an answer behind the others. The arm for lamps is there for the check: it names the types of what a lamp has, which a
+// function must do that calls a generic one with an answer.
+pub(crate) fn put(answer: Answer, out: &mut OutBox<Answer>)
+    requires { length out.old.items < out.old.places }
+    ensures items { out.new.items ≡ out.old.items ++ answer ∷ [] }
+    ensures places { out.new.places ≡ out.old.places }
+{
+    match answer {
+        Answer::Lamp { display, value } => out.put(Answer::Lamp { display, value }),
+        answer => out.put(answer),
+    }
 }

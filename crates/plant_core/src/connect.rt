@@ -86,8 +86,10 @@ impl PlantState {
         ensures exhausted { IfErr result
             (λ _. are_enough self.old.plant self.old.crosspoints (change.now ∷ []) ≡ false) }
     {
-        self.ties
-            .plan(&self.plant, &self.crosspoints, slice::from_ref(change))
+        let changes = slice::from_ref(change);
+        self.tables
+            .ties
+            .plan(&self.plant, &self.crosspoints, changes)
     }
 
     // Makes a panel's change, for which the ties are enough, and gives notice of it to the others, unless it is idle.
@@ -114,8 +116,8 @@ impl PlantState {
         } }
     {
         let changes = slice::from_ref(change);
-        self.ties
-            .commit(&self.plant, &mut self.crosspoints, planned, changes);
+        self.tables
+            .make(&self.plant, &mut self.crosspoints, planned, changes);
     }
 }
 

@@ -5,7 +5,7 @@ ghost use Rattle.plant_core.specs.State.{IsValid};
 ghost use Rattle.plant_core.specs.Step.{dest_count, dumped, dumped_at};
 ghost use Rattle.plant_core.specs.Answer.{room_of};
 
-use crate::answer::Answer;
+use crate::answer::{Answer, put};
 use crate::state::PlantState;
 use history_lock::OutBox;
 use swp08_messages::Point;
@@ -36,12 +36,13 @@ impl PlantState {
         ensures places { out.new.places ≡ out.old.places }
     {
         let source = self.standing(at);
-        out.put(Answer::Dumped {
+        let told = Answer::Dumped {
             matrix: at.matrix,
             level: at.level,
             dest: at.dest,
             source,
-        });
+        };
+        put(told, out);
     }
 
     // How many destinations a level has, none where the plant has no such level.

@@ -17,7 +17,7 @@ fn one_panel_connects_and_another_hears_of_it(rt: HostRuntime) -> Result<(), Fai
         dest: 5,
     };
     let source = Some(3);
-    let made = Answer::Say(Message::Connected { at, source });
+    let made = Message::Connected { at, source };
 
     let connect = Request::Told {
         panel: PanelNo::of(1),
@@ -25,7 +25,7 @@ fn one_panel_connects_and_another_hears_of_it(rt: HostRuntime) -> Result<(), Fai
         message: Message::Connect { at, source },
     };
     state.step(&connect, &mut out);
-    assert_eq!(rt; out.items(), [made].as_slice());
+    assert_eq!(rt; out.items(), [Answer::Say(made)].as_slice());
 
     let poll = Request::Poll {
         panel: PanelNo::of(0),
@@ -34,9 +34,9 @@ fn one_panel_connects_and_another_hears_of_it(rt: HostRuntime) -> Result<(), Fai
     };
     out.clear();
     state.step(&poll, &mut out);
-    assert_eq!(rt; out.items(), [made].as_slice());
+    assert_eq!(rt; out.items(), [Answer::Say(made)].as_slice());
     out.clear();
     state.step(&poll, &mut out);
-    assert_eq!(rt; out.items(), [].as_slice());
+    assert!(rt; out.items().is_empty());
     Ok(())
 }

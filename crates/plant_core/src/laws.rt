@@ -46,8 +46,9 @@ pub fn dumps_tell_what_stands()
 {}
 
 /// A message that asks for a dump has an answer for each destination of its level, the store of an entry at most one, any
-/// other that asks something has one, a poll at most one, and a leave none. From a valid state each answer can be spelled.
-/// No request has more answers than there has to be room for, and no plant asks for room for more than 1,024.
+/// other that asks something has one, a poll at most one, a leave none, and a display poll at most 64. From a valid state
+/// each answer can be spelled. No request has more answers than there has to be room for, and no plant asks for room for
+/// more than 1,024.
 pub fn answers_are_few()
     ensures count { AnswersAreFew }
     ensures sayable { AnswersAreSayable }

@@ -1,10 +1,12 @@
 //! The one-thread plant: a machine whose state is plain data, and which each event of a panel steps. What an event does
 //! and how it is answered is a function of the state and the event, by which all that is promised above is said. Each
-//! panel has yet to hear of what the others changed, and is told of it by its polls.
+//! panel is told by its polls of what the others changed, and each screen by polls of its own of what its displays show.
 #![tactic(auto)]
 
 mod answer;
 mod connect;
+mod display;
+mod display_laws;
 mod dump;
 #[cfg(test)]
 mod example;
@@ -20,10 +22,15 @@ mod request;
 mod salvo;
 mod salvo_laws;
 mod state;
+mod tables;
 #[cfg(test)]
 mod tests;
 
 pub use answer::Answer;
+pub use display_laws::{
+    a_refresh_tells_all, only_changes_move_lamps, polls_are_quiet_where_nothing_differs,
+    polls_tell_each_once,
+};
 pub use laws::{
     answers_are_few, connects_are_made, connects_stand, dumps_tell_what_stands,
     numbers_have_no_effect, questions_only_ask, states_stay_valid,

@@ -32,6 +32,7 @@ impl Machine for PlantState {
                 panel.get() < panels && message.kind() == MessageKind::Plant && message.in_range()
             }
             Request::Poll { panel, .. } | Request::Leave { panel } => panel.get() < panels,
+            Request::DisplayPoll { screen, .. } => self.has_screen(*screen),
         }
     }
 

@@ -23,4 +23,9 @@ pub enum Request {
     Leave {
         panel: PanelNo,
     },
+    /// A screen, 0 to 65534, may be shown what changed of its displays, or with a refresh what all of them show.
+    DisplayPoll {
+        screen: u16,
+        refresh: bool,
+    },
 }

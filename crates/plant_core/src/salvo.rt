@@ -115,7 +115,9 @@ impl PlantState {
             (group_of self.old.groups salvo) ≡ false) }
     {
         let entries = self.groups.entries(salvo);
-        self.ties.plan(&self.plant, &self.crosspoints, entries)
+        self.tables
+            .ties
+            .plan(&self.plant, &self.crosspoints, entries)
     }
 
     // Makes all changes of a group as one, for which the ties are enough, gives notice of the sources that it changes to all
@@ -130,8 +132,8 @@ impl PlantState {
         let panels = self.panel_count();
         let entries = self.groups.entries(salvo);
         notify_moved(&mut self.notices, panels, &self.crosspoints, entries);
-        self.ties
-            .commit(&self.plant, &mut self.crosspoints, planned, entries);
+        self.tables
+            .make(&self.plant, &mut self.crosspoints, planned, entries);
         self.groups.clear(salvo);
     }
 

@@ -8,34 +8,40 @@ ghost use Rattle.swp08_messages.specs.declared.message.MessageKind.TheVariants a
 ghost use Rattle.plant_config.specs.Plant.{destinations_of};
 ghost use Rattle.plant_config.specs.Limits.{last_device};
 ghost use Rattle.crosspoint_state.specs.Crosspoints.{source_of};
+ghost use Rattle.mixer_effects.specs.Live.{is_live};
+ghost use Rattle.tally.specs.Tally.{roots_of};
 ghost use Rattle.plant_core.specs.State.{start, tie_of, standing, device_of, Fits, IsValid};
 ghost use Rattle.plant_core.specs.Step.{step, answered, dest_of};
 ghost use Rattle.plant_core.specs.Answer.{IsSayable, IsAnswerCount, room_of};
 ghost use Rattle.plant_core.specs.AnswerInside.{AsksOne, SaysAtMost};
 
-use crate::answer::Answer;
+use crate::answer::{Answer, put};
 use crate::place::place_of;
 use crate::request::Request;
-use change_boards::Notices;
+use crate::tables::Tables;
+use change_boards::{Notices, Shown};
 use crosspoint_state::Crosspoints;
 use history_lock::OutBox;
+use mixer_effects::Graph;
 use plant_config::{DestId, PanelNo, Plant, SourceId, TieNo};
 use protects::Protects;
 use salvo_groups::Groups;
 use std::alloc::{AllocError, Global};
 use std::marker::Model;
 use swp08_messages::{Message, Point};
-use tie_pools::Ties;
+use tally::Roots;
 
 /// A plant and what stands in it.
 #[derive(Debug, Drop)]
 pub struct PlantState {
     pub(crate) plant: Plant,
     pub(crate) crosspoints: Crosspoints,
-    pub(crate) ties: Ties,
     pub(crate) protects: Protects,
     pub(crate) groups: Groups,
     pub(crate) notices: Notices,
+    pub(crate) shown: Shown,
+    // Behind one pointer: a state is moved and let go in few steps.
+    pub(crate) tables: Box<Tables>,
 }
 
 impl Model for PlantState {
@@ -44,6 +50,7 @@ impl Model for PlantState {
     ghost use Rattle.protects.specs.Owners as owned;
     ghost use Rattle.salvo_groups.specs.Groups as salvos;
     ghost use Rattle.change_boards.specs.Board as board;
+    ghost use Rattle.change_boards.specs.Shown as displays;
     ghost use Rattle.plant_core.specs.State.{State};
     ghost use Rattle.plant_core.specs.StateInside.{state_of, IsKept};
 
@@ -52,37 +59,40 @@ impl Model for PlantState {
     ghost coded = { Prim.hlevel (
       codes,
       board.code,
+      displays.shown_code,
       salvos.code,
       owned.owners_code,
       points.crosspoints_code,
     ) };
 
     ghost view = { λ state. state_of state.plant state.crosspoints state.protects state.groups
-        state.notices };
+        state.notices state.shown };
 
     ghost invariant = { λ state. IsKept (state_of state.plant state.crosspoints state.protects
-        state.groups state.notices) state.ties };
+        state.groups state.notices state.shown) state.tables.value };
 }
 
 impl PlantState {
-    /// The state at the start: every destination is parked and unprotected, every group is empty, and nobody has notices or
-    /// has left. It keeps a copy of the plant, and has room for all that may stand in it.
+    /// The state at the start: every destination is parked and unprotected, every group is empty, nobody has notices or has
+    /// left, and no display was shown a value. It keeps a copy of the plant, and has room for all that may stand in it.
     pub fn start(alloc: Global, plant: &Plant) -> Result<PlantState, AllocError>
         ensures { IfOk result (λ state. state ≡ start plant.now) }
     {
         let crosspoints = Crosspoints::new(alloc)?;
-        let ties = Ties::new(alloc, plant)?;
         let protects = Protects::new(alloc)?;
         let groups = Groups::new(alloc)?;
         let notices = Notices::new(alloc, plant)?;
+        let shown = Shown::new(alloc, plant)?;
+        let tables = Box::new(alloc, Tables::new(alloc, plant)?)?;
         let plant = plant.copy(alloc)?;
         Ok(PlantState {
             plant,
             crosspoints,
-            ties,
             protects,
             groups,
             notices,
+            shown,
+            tables,
         })
     }
 
@@ -108,6 +118,21 @@ impl PlantState {
         ensures valid { IsValid self.now }
     {
         self.crosspoints.at(dest)?.tie
+    }
+
+    /// Whether a destination is live for the air roots, or for the preview roots: it is one of these, or a bus that is on of a
+    /// mixer that feeds a live destination.
+    pub fn is_live(&self, roots: Roots, dest: DestId) -> bool
+        ensures live { result ≡ is_live self.now.plant self.now.crosspoints
+            (roots_of self.now.plant roots) dest }
+        ensures valid { IsValid self.now }
+    {
+        let graph = Graph {
+            plant: &self.plant,
+            mixers: &self.tables.mixers,
+            points: &self.crosspoints,
+        };
+        self.tables.tally.is_live(&graph, roots, dest)
     }
 
     /// The device that protects a destination, 0 to 1023, `None` where it is unprotected.
@@ -192,10 +217,11 @@ impl PlantState {
             Request::Told { panel, message, .. } => self.answer(panel, message, out),
             Request::Poll { panel, .. } => {
                 if let Some(answer) = self.poll(panel) {
-                    out.put(answer);
+                    put(answer, out);
                 }
             }
             Request::Leave { panel } => self.leave(panel),
+            Request::DisplayPoll { screen, refresh } => self.poll_display(screen, refresh, out),
         }
     }
 
@@ -215,7 +241,7 @@ impl PlantState {
             return self.dump(matrix, level, out);
         }
         if let Some(message) = self.say(panel, message) {
-            out.put(Answer::Say(message));
+            put(Answer::Say(message), out);
         }
     }
 

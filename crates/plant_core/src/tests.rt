@@ -3,6 +3,7 @@
 ghost use Rattle.std.specs.Prelude.{◌≤◌};
 ghost use Rattle.plant_core.specs.Answer.{room_of};
 
+mod displays;
 mod dumps;
 mod protecting;
 mod salvos;
@@ -87,6 +88,14 @@ fn leaves(panel: u32) -> Row {
     (Request::Leave { panel }, None)
 }
 
+// The message that is the first answer, `None` where that is none.
+fn said(out: &OutBox<Answer>) -> Option<Message> {
+    match out.items().first() {
+        Some(Answer::Say(message)) => Some(*message),
+        _ => None,
+    }
+}
+
 // The events have these answers, one after the other.
 fn are_answered(rt: &impl Abort, state: &mut PlantState, out: &mut OutBox<Answer>, rows: &[Row])
     requires { room_of state.old.plant ≤ out.old.places }
@@ -96,7 +105,8 @@ fn are_answered(rt: &impl Abort, state: &mut PlantState, out: &mut OutBox<Answer
         assert!(rt; state.fits(&request));
         out.clear();
         state.step(&request, out);
-        assert_eq!(rt; out.items().first().copied(), answer.map(Answer::Say));
+        assert_eq!(rt; out.items().len(), usize::from(answer.is_some()));
+        assert_eq!(rt; said(out), answer);
     }
 }
 

@@ -1,6 +1,6 @@
 //! A tiny machine of the plant's requests.
 
-ghost use Rattle.std.specs.Prelude.{◌≡◌, ◌<◌, ◌≤◌, [], length, All};
+ghost use Rattle.std.specs.Prelude.{◌≡◌, ◌<◌, ◌≤◌, [], ◌∷◌, ◌++◌, length, All};
 ghost use Rattle.plant_core.specs.Answer.{IsSayable};
 
 use history_lock::OutBox;
@@ -89,13 +89,25 @@ impl Board {
             }
             Request::Told { panel, message, .. } => self.told(panel.get() as usize, message),
             Request::Poll { panel, .. } => self.poll(panel.get() as usize),
-            Request::Leave { .. } => None,
+            Request::Leave { .. } | Request::DisplayPoll { .. } => None,
         };
         if let Some(message) = answer {
             if message.in_range() && out.items().is_empty() {
-                out.put(Answer::Say(message));
+                put(Answer::Say(message), out);
             }
         }
+    }
+}
+
+// Puts an answer behind the others. The arm of a lamp names the types that a lamp is made of, which a proof of `put` asks for.
+pub(super) fn put(answer: Answer, out: &mut OutBox<Answer>)
+    requires { length out.old.items < out.old.places }
+    ensures items { out.new.items ≡ out.old.items ++ answer ∷ [] }
+    ensures places { out.new.places ≡ out.old.places }
+{
+    match answer {
+        Answer::Lamp { display, value } => out.put(Answer::Lamp { display, value }),
+        other => out.put(other),
     }
 }
 
@@ -108,11 +120,12 @@ fn dump(level: u8, out: &mut OutBox<Answer>)
 {
     let count = if level == 2 { 130 } else { 4 };
     for dest in 0..count {
-        out.put(Answer::Dumped {
+        let told = Answer::Dumped {
             matrix: 0,
             level: level % 16,
             dest,
             source: None,
-        });
+        };
+        put(told, out);
     }
 }

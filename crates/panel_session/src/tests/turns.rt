@@ -6,7 +6,9 @@ ghost use Rattle.std.proofs.lemmas.List.{append-nil};
 ghost use Rattle.swp08_messages.specs.declared.message.Message.TheVariants.{Tally};
 ghost use Rattle.plant_core.specs.declared.answer.Answer.TheVariants.{Say};
 ghost use Rattle.plant_core.specs.declared.request.Request.TheVariants.{Told, Poll, Leave};
+ghost use Rattle.plant_core.specs.declared.request.Request.TheVariants.{DisplayPoll};
 
+use super::board::put;
 use crate::{Outlet, Session, run_turn};
 use history_lock::{Machine, OutBox};
 use plant_config::{PanelNo, Plant};
@@ -31,6 +33,7 @@ impl Machine for Parked {
             Say (Tally (record { matrix = 0; level = 0; dest = 5 }) None) ∷ []
         | (Poll panel item turn) ↦ []
         | (Leave panel) ↦ []
+        | (DisplayPoll screen refresh) ↦ []
       ];
     } };
 
@@ -48,15 +51,15 @@ impl Machine for Parked {
 
     fn step(&mut self, request: &Request, out: &mut OutBox<Answer>) {
         match request {
-            Request::Told { .. } => out.put(Answer::Say(Message::Tally {
-                at: Point {
+            Request::Told { .. } => {
+                let at = Point {
                     matrix: 0,
                     level: 0,
                     dest: 5,
-                },
-                source: None,
-            })),
-            Request::Poll { .. } | Request::Leave { .. } => {}
+                };
+                put(Answer::Say(Message::Tally { at, source: None }), out);
+            }
+            Request::Poll { .. } | Request::Leave { .. } | Request::DisplayPoll { .. } => {}
         }
     }
 }

@@ -1,4 +1,4 @@
-use Rattle.std.proofs.Common.{◌≡◌, ◌≢◌, ◌+◌, ◌≤◌, ◌<◌, None, Some, sym, ap, ◌∙◌, subst, arith}
+use Rattle.std.proofs.Common.{◌≡◌, ◌≢◌, None, Some, sym, ap, ◌∙◌, subst, arith}
 use Rattle.plant_names.specs.declared.paged.Paged.TheVariants.{Nothing, Last, More}
 use Rattle.panel_session.specs.NamePagesInside.{AddsNames, GoesOnWith, end_of}
 use Rattle.panel_session.specs.declared.name_page.NamePage.{NamePage}

@@ -1,4 +1,4 @@
-use Rattle.std.proofs.Common.{◌≢◌, List, [], sym, subst}
+use Rattle.std.proofs.Common.{◌≢◌, [], sym, subst}
 use Rattle.dle_framing.specs.Numbers.{ack}
 use Rattle.panel_session.specs.declared.asked.Asked.{Asked}
 use Rattle.panel_session.specs.NamePages.{name_frames}

@@ -1,6 +1,6 @@
 use Rattle.std.proofs.Common.{refl, arith, rules}
 use Rattle.dle_framing.specs.Items.{reading}
-use Rattle.plant_core.specs.declared.request.Request.TheVariants.{Told, Poll, Leave}
+use Rattle.plant_core.specs.declared.request.Request.TheVariants.{Told, Poll, Leave, DisplayPoll}
 use Rattle.panel_session.specs.SoFar.{nothing_yet}
 use Rattle.panel_session.proofs.tests.turns.an_outlet_is_given_what_a_turn_sends.Goals as goal
 
@@ -20,6 +20,7 @@ run_turn-requires g c = record {
         | (Told panel item message) ↦ search rules
         | (Poll panel item turn) ↦ search rules
         | (Leave panel) ↦ search rules
+        | (DisplayPoll screen refresh) ↦ search rules
       ];
       within = omega arith;
     };

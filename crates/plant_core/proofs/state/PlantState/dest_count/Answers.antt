@@ -1,4 +1,4 @@
-use Rattle.std.proofs.Common.{◌∙◌, ap, arith}
+use Rattle.std.proofs.Common.{arith}
 use Rattle.plant_core.proofs.CountLemmas.{room_within}
 use Rattle.plant_core.proofs.DumpLemmas.{level_within}
 use Rattle.plant_core.proofs.state.PlantState.dest_count.Goals as goal

@@ -5,6 +5,6 @@ use Rattle.plant_core.proofs.state.PlantState.disown.Goals as goal
 pub invariant_of-self : goal.invariant_of-self
 invariant_of-self c =
     record {
-      valid = rw c.lift.ensures.owners (IsValid-owners (state_of c.self.inside.plant c.self.inside.crosspoints c.self.inside.protects c.self.inside.groups c.self.inside.notices) _ c.self.invariant.valid (AreOwners-lifted c.self.inside.plant c.self.inside.protects c.args.device c.args.master c.args.dest c.self.invariant.valid.owners));
-      counted = c.self.invariant.counted;
+      valid = rw c.lift.ensures.owners (IsValid-owners (state_of c.self.inside.plant c.self.inside.crosspoints c.self.inside.protects c.self.inside.groups c.self.inside.notices c.self.inside.shown) _ c.self.invariant.valid (AreOwners-lifted c.self.inside.plant c.self.inside.protects c.args.device c.args.master c.args.dest c.self.invariant.valid.owners));
+      beside = c.self.invariant.beside;
     }

@@ -1,10 +1,7 @@
-use Rattle.std.proofs.Common.{◌≡◌, ℕ, ◌<◌, List, All, Option, Some, None, IfSome, refl, sym, ap, subst, ◌∙◌, arith}
-use Rattle.std.specs.Prelude.{slice_get}
+use Rattle.std.proofs.Common.{ℕ, ◌<◌, Option, Some, None, IfSome, sym}
 use Rattle.plant_config.specs.Plant.{PlantData, sources_of}
 use Rattle.plant_config.specs.IsPlant.{IsPlant}
-use Rattle.plant_config.specs.declared.records.Change.{Change}
-use Rattle.salvo_groups.specs.Groups.{group_of}
-use Rattle.plant_core.specs.State.{State, IsValid, IsChangeOf, IsCrosspoint}
+use Rattle.plant_core.specs.State.{State, IsChangeOf, IsCrosspoint}
 use Rattle.plant_core.specs.StateInside.{state_of}
 use Rattle.plant_core.proofs.Validity.{IsCrosspoint-below}
 use Rattle.plant_core.proofs.StepValidity.{entry-IsChangeOf}
@@ -16,6 +13,6 @@ source-below plant dest (Some source) is of = IsCrosspoint-below plant dest sour
 
 pub number_of-requires : goal.number_of-requires
 number_of-requires c =
-    let state : State = state_of c.self.inside.plant c.self.inside.crosspoints c.self.inside.protects c.self.inside.groups c.self.inside.notices in
+    let state : State = state_of c.self.inside.plant c.self.inside.crosspoints c.self.inside.protects c.self.inside.groups c.self.inside.notices c.self.inside.shown in
     let is : IsChangeOf state.plant c.in-Some.entry = entry-IsChangeOf state c.args.salvo _ c.in-Some.entry c.self.invariant.valid (sym c.in-Some.ensures.entry) in
     rw (← c.self.view_is) (source-below state.plant c.in-Some.entry.dest c.in-Some.entry.source c.self.invariant.valid.is_plant is.source)

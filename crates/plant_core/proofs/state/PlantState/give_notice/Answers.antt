@@ -6,6 +6,6 @@ pub invariant_of-self : goal.invariant_of-self
 invariant_of-self c =
     let within = rw (← c.self.view_is) at c.requires in
     record {
-      valid = rw c.notify_others.ensures (IsValid-others (state_of c.self.inside.plant c.self.inside.crosspoints c.self.inside.protects c.self.inside.groups c.self.inside.notices) c.args.asker c.args.dest c.args.sort within c.self.invariant.valid);
-      counted = c.self.invariant.counted;
+      valid = rw c.notify_others.ensures (IsValid-others (state_of c.self.inside.plant c.self.inside.crosspoints c.self.inside.protects c.self.inside.groups c.self.inside.notices c.self.inside.shown) c.args.asker c.args.dest c.args.sort within c.self.invariant.valid);
+      beside = c.self.invariant.beside;
     }

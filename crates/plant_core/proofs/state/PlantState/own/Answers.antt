@@ -6,6 +6,6 @@ pub invariant_of-self : goal.invariant_of-self
 invariant_of-self c =
     let within = rw (← c.self.view_is) at c.requires.dest in
     record {
-      valid = rw c.take.ensures.owners (IsValid-owners (state_of c.self.inside.plant c.self.inside.crosspoints c.self.inside.protects c.self.inside.groups c.self.inside.notices) _ c.self.invariant.valid (AreOwners-taken c.self.inside.plant c.self.inside.protects c.args.device c.args.dest within c.requires.device c.self.invariant.valid.owners));
-      counted = c.self.invariant.counted;
+      valid = rw c.take.ensures.owners (IsValid-owners (state_of c.self.inside.plant c.self.inside.crosspoints c.self.inside.protects c.self.inside.groups c.self.inside.notices c.self.inside.shown) _ c.self.invariant.valid (AreOwners-taken c.self.inside.plant c.self.inside.protects c.args.device c.args.dest within c.requires.device c.self.invariant.valid.owners));
+      beside = c.self.invariant.beside;
     }

@@ -10,14 +10,14 @@ pub plan-requires : goal.plan-requires
 plan-requires c =
     let is = rw (← c.self.view_is) at c.requires in
     record {
-      dests = rw c.from_ref.ensures.value (inside-one c.self.inside.plant c.args.change.now is.dest);
-      once = rw c.from_ref.ensures.value (once-one c.args.change.now);
-      counts = c.self.invariant.counted;
+      dests = rw c.from_ref-changes.ensures.value (inside-one c.self.inside.plant c.args.change.now is.dest);
+      once = rw c.from_ref-changes.ensures.value (once-one c.args.change.now);
+      counts = rw c.deref_mut.ensures.value c.self.invariant.beside.counted;
     }
 
 pub returns-clause-exhausted : goal.returns-clause-exhausted
 returns-clause-exhausted c =
-    let short = rw c.from_ref.ensures.value at c.plan.ensures.exhausted in
+    let short = rw c.from_ref-changes.ensures.value at c.plan.ensures.exhausted in
     rw (← c.self.view_is)
     (IfErr-weaker c.plan.result (IsExhausted c.self.inside.plant c.self.inside.crosspoints (c.args.change.now ∷ [])) (λ fault. are_enough c.self.inside.plant c.self.inside.crosspoints (c.args.change.now ∷ []) ≡ false)
     (too_few c.self.inside.plant c.self.inside.crosspoints (c.args.change.now ∷ [])) short)

@@ -10,9 +10,9 @@ use Rattle.plant_core.proofs.state.PlantState.plan_group.Goals as goal
 
 pub plan-requires : goal.plan-requires
 plan-requires c = record {
-  dests = rw c.entries-entries.ensures.entries (entries-inside (state_of c.self.inside.plant c.self.inside.crosspoints c.self.inside.protects c.self.inside.groups c.self.inside.notices) c.args.salvo c.self.invariant.valid);
+  dests = rw c.entries-entries.ensures.entries (entries-inside (state_of c.self.inside.plant c.self.inside.crosspoints c.self.inside.protects c.self.inside.groups c.self.inside.notices c.self.inside.shown) c.args.salvo c.self.invariant.valid);
   once = c.entries-entries.ensures.group.distinct;
-  counts = c.self.invariant.counted;
+  counts = rw c.deref_mut.ensures.value c.self.invariant.beside.counted;
 }
 
 pub returns-clause-exhausted : goal.returns-clause-exhausted

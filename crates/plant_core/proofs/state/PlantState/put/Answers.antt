@@ -1,11 +1,11 @@
 use Rattle.plant_core.specs.StateInside.{state_of}
-use Rattle.plant_core.proofs.Validity.{IsValid-store}
+use Rattle.plant_core.proofs.GroupValidity.{IsValid-store}
 use Rattle.plant_core.proofs.state.PlantState.put.Goals as goal
 
 pub invariant_of-self : goal.invariant_of-self
 invariant_of-self c =
     let is = rw (← c.self.view_is) at c.requires.change in
     record {
-      valid = rw c.store.ensures.groups (IsValid-store (state_of c.self.inside.plant c.self.inside.crosspoints c.self.inside.protects c.self.inside.groups c.self.inside.notices) c.args.salvo c.args.change c.self.invariant.valid is);
-      counted = c.self.invariant.counted;
+      valid = rw c.store.ensures.groups (IsValid-store (state_of c.self.inside.plant c.self.inside.crosspoints c.self.inside.protects c.self.inside.groups c.self.inside.notices c.self.inside.shown) c.args.salvo c.args.change c.self.invariant.valid is);
+      beside = c.self.invariant.beside;
     }

@@ -1,7 +1,7 @@
 use Rattle.std.proofs.Common.{◌≡◌, [], ◌∷◌, ◌++◌, List, All, ap, length, sym, subst, ◌∙◌}
 use Rattle.plant_core.specs.declared.answer.Answer.{Answer}
 use Rattle.plant_core.specs.declared.request.Request.{Request}
-use Rattle.plant_core.specs.declared.request.Request.TheVariants.{Told, Poll}
+use Rattle.plant_core.specs.declared.request.Request.TheVariants.{Told, Poll, DisplayPoll}
 use Rattle.plant_core.specs.State.{State, Fits, IsValid}
 use Rattle.plant_core.specs.Step.{step}
 use Rattle.plant_core.specs.Answer.{IsSayable, IsAnswerCount}
@@ -30,3 +30,15 @@ returns-in-Some-clause-sayable c =
     let fits = subst (Fits c.args.self.now) c.in-Poll.is c.requires.fits in
     sayable_items c.args.self.now (Poll c.in-Poll.panel c.in-Poll.at c.in-Poll.turn) _ c.poll.ensures.valid fits
     (c.put.ensures.items ∙ ap (λ items. items ++ c.in-Some.answer ∷ []) c.requires.empty ∙ c.in-Some.ensures.answer)
+
+pub returns-in-DisplayPoll-clause-count : goal.returns-in-DisplayPoll-clause-count
+returns-in-DisplayPoll-clause-count c =
+    let poll : Request = DisplayPoll c.in-DisplayPoll.screen c.in-DisplayPoll.refresh in
+    let fits = subst (Fits c.args.self.now) c.in-DisplayPoll.is c.requires.fits in
+    subst (λ (request : Request). IsAnswerCount c.args.self.now.plant request (length c.poll_display.new.out.items)) (sym c.in-DisplayPoll.is)
+    (subst (λ (items : List Answer). IsAnswerCount c.args.self.now.plant poll (length items)) (sym c.poll_display.ensures.answers) (answer_count c.args.self.now poll fits))
+
+pub returns-in-DisplayPoll-clause-sayable : goal.returns-in-DisplayPoll-clause-sayable
+returns-in-DisplayPoll-clause-sayable c =
+    let fits = subst (Fits c.args.self.now) c.in-DisplayPoll.is c.requires.fits in
+    sayable_items c.args.self.now (DisplayPoll c.in-DisplayPoll.screen c.in-DisplayPoll.refresh) _ c.poll_display.ensures.valid fits c.poll_display.ensures.answers

@@ -9,11 +9,11 @@ use Rattle.plant_core.proofs.state.PlantState.take_notice.Goals as goal
 pub invariant_of-self : goal.invariant_of-self
 invariant_of-self c =
     record {
-      valid = rw c.take_lowest.ensures.taken (IsValid-take (state_of c.self.inside.plant c.self.inside.crosspoints c.self.inside.protects c.self.inside.groups c.self.inside.notices) c.args.panel c.self.invariant.valid);
-      counted = c.self.invariant.counted;
+      valid = rw c.take_lowest.ensures.taken (IsValid-take (state_of c.self.inside.plant c.self.inside.crosspoints c.self.inside.protects c.self.inside.groups c.self.inside.notices c.self.inside.shown) c.args.panel c.self.invariant.valid);
+      beside = c.self.invariant.beside;
     }
 
 pub returns-clause-dest : goal.returns-clause-dest
 returns-clause-dest c =
     subst (λ (state : State). IfSome c.take_lowest.result (λ notice. notice.0 < destinations_of state.plant)) c.self.view_is
-    (next-below (state_of c.self.inside.plant c.self.inside.crosspoints c.self.inside.protects c.self.inside.groups c.self.inside.notices) c.args.panel c.take_lowest.result c.self.invariant.valid c.take_lowest.ensures.next)
+    (next-below (state_of c.self.inside.plant c.self.inside.crosspoints c.self.inside.protects c.self.inside.groups c.self.inside.notices c.self.inside.shown) c.args.panel c.take_lowest.result c.self.invariant.valid c.take_lowest.ensures.next)

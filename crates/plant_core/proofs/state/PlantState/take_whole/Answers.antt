@@ -1,5 +1,5 @@
 use Rattle.plant_core.specs.StateInside.{state_of}
-use Rattle.plant_core.proofs.StepValidity.{IsValid-taken_whole, entries-inside}
+use Rattle.plant_core.proofs.StepValidity.{IsValid-taken_whole}
 use Rattle.plant_core.proofs.state.PlantState.take_whole.Goals as goal
 
 pub invariant_of-self : goal.invariant_of-self
@@ -7,18 +7,20 @@ invariant_of-self c =
     let enough = rw (← c.self.view_is) at c.requires.enough in
     record {
       valid =
-          rw (c.clear.ensures, c.commit.ensures.made, c.notify_moved.ensures, c.entries-entries.ensures.entries)
-          (IsValid-taken_whole (state_of c.self.inside.plant c.self.inside.crosspoints c.self.inside.protects c.self.inside.groups c.self.inside.notices) c.args.salvo c.self.invariant.valid enough);
-      counted = c.commit.ensures.counts;
+          rw (c.clear.ensures, c.make.ensures.made, c.notify_moved.ensures, c.entries-entries.ensures.entries)
+          (IsValid-taken_whole (state_of c.self.inside.plant c.self.inside.crosspoints c.self.inside.protects c.self.inside.groups c.self.inside.notices c.self.inside.shown) c.args.salvo c.self.invariant.valid enough);
+      beside = c.make.ensures.tables;
     }
 
-pub commit-requires : goal.commit-requires
-commit-requires c =
+pub make-requires : goal.make-requires
+make-requires c =
     let enough = rw (← c.self.view_is) at c.requires.enough in
     record {
-      dests = rw c.entries-entries.ensures.entries (entries-inside (state_of c.self.inside.plant c.self.inside.crosspoints c.self.inside.protects c.self.inside.groups c.self.inside.notices) c.args.salvo c.self.invariant.valid);
+      plant = c.self.invariant.valid.is_plant;
+      points = c.self.invariant.valid.is_crosspoint;
+      ties = c.self.invariant.valid.ties;
+      tables = rw c.deref_mut.ensures.value c.self.invariant.beside;
+      changes = rw c.entries-entries.ensures.entries (c.self.invariant.valid.changes c.args.salvo);
       once = c.entries-entries.ensures.group.distinct;
-      counts = c.self.invariant.counted;
-      valid = c.self.invariant.valid.ties;
       enough = rw c.entries-entries.ensures.entries enough;
     }

@@ -1,0 +1,60 @@
+use Rattle.std.proofs.Common.{◌≡◌, ℕ, nat_eq, length, take, sym, ap, subst, ◌∙◌}
+use Rattle.std.specs.List.{IsDistinct}
+use Rattle.change_boards.specs.Screens.{displays_of, displays_at}
+use Rattle.change_boards.specs.Shown.{Shown}
+use Rattle.change_boards.specs.declared.value.Value.{Value}
+use Rattle.plant_core.specs.declared.tables.Tables.{Tables}
+use Rattle.plant_core.specs.State.{State}
+use Rattle.plant_core.specs.StateInside.{state_of}
+use Rattle.plant_core.specs.Displays.{lamp_limit, differing}
+use Rattle.plant_core.specs.DisplaysInside.{value_in, first_differing, shown_all, lamps_of, AreBelow, lit_first}
+use Rattle.plant_core.proofs.Validity.{IsValid-shown}
+use Rattle.plant_core.proofs.ScreenLemmas.{displays-below, displays-once}
+use Rattle.plant_core.proofs.DisplayLemmas.{carried, all_shown-are, length-shown_all}
+use Rattle.plant_core.proofs.state.PlantState.show_first.Goals as goal
+
+pub show_first-requires-clause-carried : goal.show_first-requires-clause-carried
+show_first-requires-clause-carried c = carried c.self.inside.plant c.self.inside.crosspoints c.self.invariant.valid.is_plant c.self.invariant.valid.is_crosspoint
+
+pub show_first-requires-clause-below : goal.show_first-requires-clause-below
+show_first-requires-clause-below c =
+    let are : c.displays.result.now ≡ displays_of c.self.inside.plant c.args.screen =
+    c.displays.ensures ∙ ap (λ (tables : Tables). displays_at tables.screens c.args.screen) c.deref-2.ensures ∙ c.self.invariant.beside.screened c.args.screen in
+    subst (AreBelow (length c.self.inside.plant.displays)) (sym are) (displays-below c.self.inside.plant c.args.screen)
+
+pub show_first-requires-clause-once : goal.show_first-requires-clause-once
+show_first-requires-clause-once c =
+    let are : c.displays.result.now ≡ displays_of c.self.inside.plant c.args.screen =
+    c.displays.ensures ∙ ap (λ (tables : Tables). displays_at tables.screens c.args.screen) c.deref-2.ensures ∙ c.self.invariant.beside.screened c.args.screen in
+    subst (IsDistinct nat_eq) (sym are) (displays-once c.self.inside.plant c.args.screen)
+
+pub invariant_of-self : goal.invariant_of-self
+invariant_of-self c =
+    let values : ℕ → Value = value_in c.self.inside.plant c.self.inside.crosspoints in
+    record {
+      valid =
+          IsValid-shown (state_of c.self.inside.plant c.self.inside.crosspoints c.self.inside.protects c.self.inside.groups c.self.inside.notices c.self.inside.shown) c.show_first.new.shown c.self.invariant.valid
+          (ap length c.show_first.ensures.shown ∙ length-shown_all (first_differing values c.self.inside.shown c.displays.result.now) values c.self.inside.shown);
+      beside = c.self.invariant.beside;
+    }
+
+pub returns-clause-state : goal.returns-clause-state
+returns-clause-state c =
+    let before : State = state_of c.self.inside.plant c.self.inside.crosspoints c.self.inside.protects c.self.inside.groups c.self.inside.notices c.self.inside.shown in
+    let values : ℕ → Value = value_in c.self.inside.plant c.self.inside.crosspoints in
+    let are : c.displays.result.now ≡ displays_of c.self.inside.plant c.args.screen =
+    c.displays.ensures ∙ ap (λ (tables : Tables). displays_at tables.screens c.args.screen) c.deref-2.ensures ∙ c.self.invariant.beside.screened c.args.screen in
+    ap (λ (shown : Shown). record before { shown = shown })
+    (c.show_first.ensures.shown
+    ∙ ap (λ displays. shown_all values (first_differing values c.self.inside.shown displays) c.self.inside.shown) are
+    ∙ sym (all_shown-are (take lamp_limit (differing before c.args.screen)) before c.self.inside.shown))
+    ∙ ap (λ (state : State). (lit_first state c.args.screen).state) c.self.view_is
+
+pub returns-clause-answers : goal.returns-clause-answers
+returns-clause-answers c =
+    let values : ℕ → Value = value_in c.self.inside.plant c.self.inside.crosspoints in
+    let are : c.displays.result.now ≡ displays_of c.self.inside.plant c.args.screen =
+    c.displays.ensures ∙ ap (λ (tables : Tables). displays_at tables.screens c.args.screen) c.deref-2.ensures ∙ c.self.invariant.beside.screened c.args.screen in
+    c.show_first.ensures.answers
+    ∙ ap (λ displays. lamps_of values (first_differing values c.self.inside.shown displays)) are
+    ∙ ap (λ (state : State). (lit_first state c.args.screen).answers) c.self.view_is

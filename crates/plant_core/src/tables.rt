@@ -1,0 +1,67 @@
+//! What is kept beside the state of a plant, so that nothing is looked for in it.
+
+ghost use Rattle.std.specs.Prelude.{◌≡◌, true, All, IfOk};
+ghost use Rattle.std.specs.FinMap.{empty};
+ghost use Rattle.plant_config.specs.IsPlant.{IsPlant};
+ghost use Rattle.crosspoint_state.specs.Crosspoints.{NamesOnce};
+ghost use Rattle.crosspoint_state.specs.Ties.{HaveValidTies};
+ghost use Rattle.crosspoint_state.specs.Applied.{applied, are_enough};
+ghost use Rattle.plant_core.specs.State.{AreCrosspoints, IsChangeOf};
+ghost use Rattle.plant_core.specs.StateInside.{AreTablesOf};
+
+use change_boards::Screens;
+use crosspoint_state::Crosspoints;
+use mixer_effects::Mixers;
+use plant_config::{Change, Plant};
+use std::alloc::{AllocError, Global};
+use tally::Tally;
+use tie_pools::{Planned, Ties};
+
+/// The tables of a plant and its crosspoints.
+#[derive(Debug, Drop)]
+pub(crate) struct Tables {
+    pub(crate) ties: Ties,
+    pub(crate) mixers: Mixers,
+    pub(crate) tally: Tally,
+    pub(crate) screens: Screens,
+}
+
+impl Tables {
+    // The tables of a plant of which all destinations are parked.
+    pub(crate) fn new(alloc: Global, plant: &Plant) -> Result<Tables, AllocError>
+        ensures { IfOk result (AreTablesOf plant.now empty) }
+    {
+        let ties = Ties::new(alloc, plant)?;
+        let mixers = Mixers::new(alloc, plant)?;
+        let tally = Tally::new(alloc, plant)?;
+        let screens = Screens::new(alloc, plant)?;
+        Ok(Tables {
+            ties,
+            mixers,
+            tally,
+            screens,
+        })
+    }
+
+    // Makes changes for which the ties are enough, and finds the tally anew.
+    pub(crate) fn make(
+        &mut self,
+        plant: &Plant,
+        points: &mut Crosspoints,
+        planned: Planned,
+        changes: &[Change],
+    )
+        requires plant { IsPlant plant.now }
+        requires points { AreCrosspoints plant.now points.old }
+        requires ties { HaveValidTies plant.now points.old }
+        requires tables { AreTablesOf plant.now points.old self.old }
+        requires changes { All (IsChangeOf plant.now) changes.now }
+        requires once { NamesOnce changes.now }
+        requires enough { are_enough plant.now points.old changes.now ≡ true }
+        ensures made { points.new ≡ applied plant.now points.old changes.now }
+        ensures tables { AreTablesOf plant.now points.new self.new }
+    {
+        self.ties.commit(plant, points, planned, changes);
+        self.tally.find(plant, points);
+    }
+}
