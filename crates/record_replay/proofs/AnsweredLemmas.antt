@@ -1,7 +1,7 @@
 -- What a session sends for its items, one after the other.
 use Rattle.std.proofs.Common.{◌≡◌, ℕ, ◌+◌, ◌⊎◌, inl, inr, true, false, if◌then◌else◌, nat_lt, List, [], ◌∷◌, ◌++◌, length, Option, Some, None, refl, sym, ap, ◌∙◌, subst, arith, append_assoc, append-nil}
 use Rattle.std.specs.Prelude.{IsSome, ◌==◌}
-use Rattle.std.specs.List.{AllByRecursion, flat_map, range_with_len}
+use Rattle.std.specs.List.{AllByRecursion, range_with_len}
 use Rattle.std.specs.Prelude.{map}
 use Rattle.std.proofs.lemmas.Bool.{false≢true}
 use Rattle.dle_framing.specs.Numbers.{ack, nak}
@@ -17,7 +17,7 @@ use Rattle.plant_names.specs.Pages as pages
 use Rattle.plant_names.specs.Pages.{page_names, names_of_sources, names_of_dests, source_page_command, dest_page_command}
 use Rattle.panel_session.specs.NamePages.{page_count, page_first, page_from, one_page, all_pages, name_frames}
 use Rattle.plant_core.specs.declared.answer.Answer.{Answer}
-use Rattle.plant_core.specs.declared.answer.Answer.TheVariants.{Say, Dumped}
+use Rattle.plant_core.specs.declared.answer.Answer.TheVariants.{Say, Dumped, Lamp, Finished}
 use Rattle.panel_session.specs.Asked.{GoodAsks, Asks, AllAsk}
 use Rattle.panel_session.specs.Entry.{PlantEntry}
 use Rattle.panel_session.specs.StandsInside.{IsTold, AllTold}
@@ -56,6 +56,8 @@ frames_behind-tell page (Dumped matrix level dest source ∷ others) =
       | true ↦ frames_behind-tell (with_source source page) others
       | false ↦ all_tell-append (page_frames page) anew (page-tells page) (frames_behind-tell (with_source source (page_at matrix level dest)) others)
     ]
+frames_behind-tell page (Lamp display value ∷ others) = frames_behind-tell page others
+frames_behind-tell page (Finished ∷ others) = frames_behind-tell page others
 
 frames-tell : (answers : List Answer) → AllTell (frames_of answers)
 frames-tell answers = frames_behind-tell no_page answers

@@ -9,28 +9,31 @@ use Rattle.dle_framing.proofs.Readings.{reading-by_start}
 use Rattle.history_lock.specs.History.{run, IsLegal}
 use Rattle.history_lock.proofs.HistoryLemmas.{run-append, legal-append}
 use Rattle.plant_config.specs.Plant.{PlantData}
-use Rattle.plant_core.specs.State.{State, Fits, start}
+use Rattle.change_boards.specs.Screens.{has_screen}
+use Rattle.plant_core.specs.State.{State, Fits, FitsPlant, start}
 use Rattle.plant_core.specs.Step.{step}
+use Rattle.plant_core.specs.declared.request.Request.{Request}
 use Rattle.plant_core.specs.declared.request.Request.TheVariants as requests
 use Rattle.panel_session.specs.Asked.{AllAsk}
 use Rattle.panel_session.specs.Entry.{PlantEntry}
 use Rattle.panel_session.specs.Run.{turned}
 use Rattle.panel_session.specs.Turns.{entries_in}
-use Rattle.panel_session.proofs.NoLeaves.{turn-no_leaves}
-use Rattle.record_replay.specs.Script.{Work, Read, Leave, panel_of, lines, worked, LinesSpell}
-use Rattle.record_replay.specs.Replay.{Stand, begun, behind_turn, Works, AllWork, IsReplay}
+use Rattle.panel_session.proofs.SessionRequests.{turn-of_session}
+use Rattle.record_replay.specs.Script.{Work, Read, Leave, Show, IsOfPlant, lines, worked, LinesSpell}
+use Rattle.record_replay.specs.Replay.{Stand, begun, behind_turn, behind_step, Works, AllWork, IsReplay}
 use Rattle.record_replay.specs.StandInside.{IsSettled}
 use Rattle.record_replay.specs.Answered.{AnswersItems}
-use Rattle.record_replay.specs.Laws.{Deed, Turned, Left, work_of, line_of, entries_by, history_of, IsSeated, piece_in, sent_in, pieces_of, sent_of, session_in, AreSessions, IsHistory}
-use Rattle.record_replay.proofs.WorksLemmas.{fits-run, settled-begun, settled-leave}
+use Rattle.record_replay.specs.Laws.{Deed, Turned, Left, Polled, work_of, line_of, entries_by, history_of, IsSeated, piece_in, sent_in, pieces_of, sent_of, session_in, AreSessions, IsHistory}
+use Rattle.record_replay.proofs.WorksLemmas.{fits-run, settled-begun, settled-step}
 use Rattle.record_replay.proofs.WorkAnswers.{work_settled, work_answers}
-use Rattle.record_replay.proofs.IsReplayLemmas.{have_panels}
-use Rattle.record_replay.proofs.SessionsLemmas.{flat_map-push, session-append, session-own, session-other, session-leave, swapped, stays-no_leave, IsBy, IsPast, past-as, past-bytes, past-session, past-turn}
+use Rattle.record_replay.proofs.IsReplayLemmas.{of_plant}
+use Rattle.record_replay.proofs.SessionsLemmas.{flat_map-push, session-append, session-own, session-other, session-leave, session-polled, swapped, stays-of_session, IsBy, IsPast, past-as, past-bytes, past-session, past-turn}
 
--- What is sent in a turn behind these deeds answers the items that end in its piece. A leave answers nothing.
+-- What is sent in a turn behind these deeds answers the items that end in its piece. The other deeds answer none.
 abbrev pub IsAnswer : List Deed → Deed → Type 0
 IsAnswer before (Turned panel piece entries sent) = AnswersItems (flat_map (λ piece. piece) (pieces_of panel before)) piece sent
 IsAnswer before (Left panel) = Unit {0}
+IsAnswer before (Polled screen refresh answers) = Unit {0}
 
 module _ (plant : PlantData) where
   -- Deeds lead to a stand: their history to its state, and what each session did in them is what it has done, all its turns
@@ -84,18 +87,36 @@ module _ (plant : PlantData) where
   record Does (deeds : List Deed) (work : Work) (line : List ℕ) (next : Stand) : Type 0 where
     deed : Deed
     work_is : work_of deed ≡ work
-    line_is : line ≡ line_of deed
+    line_is : line ≡ line_of plant deed
     seated : IsSeated deed
     answer : IsAnswer deeds deed
     lead : LeadTo (deeds ++ deed ∷ []) next
+
+  -- A request that fits the plant fits behind deeds.
+  fits-behind : (deeds : List Deed) (request : Request) (stand : Stand) → LeadTo deeds stand → FitsPlant plant request → Fits stand.state request
+  fits-behind deeds request stand lead fits =
+      let FitsAt : State → Type 0 = λ state. Fits state request in
+      subst FitsAt (sym lead.state_is) (fits-run plant (start plant) (history_of deeds) request refl fits)
+
+  -- A deed of one step that is no session's leads on.
+  lead-step : (deeds : List Deed) (deed : Deed) (request : Request) (stand : Stand) → LeadTo deeds stand → IsLegal step Fits stand.state (entries_by deed)
+      → (step stand.state request).state ≡ run step stand.state (entries_by deed)
+      → ((panel : ℕ) → (piece_in panel deed ≡ []) × (session_in panel (entries_by deed) ≡ []) × (sent_in panel deed ≡ []))
+      → LeadTo (deeds ++ deed ∷ []) (behind_step request stand)
+  lead-step deeds deed request stand lead legal state_is none =
+      lead-push deeds deed stand (behind_step request stand) lead legal state_is
+      (λ other. past-as plant other _ _ _ _ _ _ (stand.pasts other)
+      (sym (ap (λ (l : List (List ℕ)). pieces_of other deeds ++ l) (none other).0 ∙ append-nil _))
+      (sym (ap (λ (l : List PlantEntry). session_in other (history_of deeds) ++ l) (none other).1 ∙ append-nil _))
+      (sym (ap (λ (l : List ℕ). sent_of other deeds ++ l) (none other).2 ∙ append-nil _))
+      (lead.each other))
+      (settled-step plant request stand lead.settled)
 
   -- A leave is a deed,
   does-leave : (deeds : List Deed) (panel : ℕ) (line : List ℕ) (stand next : Stand) → LeadTo deeds stand → panel < length plant.panels → Works plant (Leave panel) stand line next
       → Does deeds (Leave panel) line next
   does-leave deeds panel line stand next lead has done =
-      let FitsAt : State → Type 0 = λ state. Fits state (requests.Leave panel) in
-      let fits : FitsAt stand.state = subst FitsAt (sym lead.state_is) (fits-run plant (start plant) (history_of deeds) (requests.Leave panel) refl has) in
-      let left : Stand = record stand { state = (step stand.state (requests.Leave panel)).state } in
+      let leave = requests.Leave panel in
       let Leads : Stand → Type 0 = λ next. LeadTo (deeds ++ Left panel ∷ []) next in
       record {
         deed = Left panel;
@@ -104,17 +125,31 @@ module _ (plant : PlantData) where
         seated = tt;
         answer = tt;
         lead = subst Leads (sym done.1)
-            (lead-push deeds (Left panel) stand left lead (fits, refl, tt) refl
-            (λ other. past-as plant other _ _ _ _ _ _ (stand.pasts other) (sym (append-nil _))
-            (sym (ap (λ (l : List PlantEntry). session_in other (history_of deeds) ++ l) (session-leave other panel) ∙ append-nil _)) (sym (append-nil _)) (lead.each other))
-            (settled-leave plant panel stand lead.settled));
+            (lead-step deeds (Left panel) leave stand lead (fits-behind deeds leave stand lead has, refl, tt) refl (λ other. (refl, session-leave other panel, refl)));
+      }
+
+  -- so is a display poll,
+  does-show : (deeds : List Deed) (screen : ℕ) (refresh : Bool) (line : List ℕ) (stand next : Stand) → LeadTo deeds stand → has_screen plant screen ≡ true
+      → Works plant (Show screen refresh) stand line next → Does deeds (Show screen refresh) line next
+  does-show deeds screen refresh line stand next lead has done =
+      let poll = requests.DisplayPoll screen refresh in
+      let deed : Deed = Polled screen refresh (step stand.state poll).answers in
+      let Leads : Stand → Type 0 = λ next. LeadTo (deeds ++ deed ∷ []) next in
+      record {
+        deed = deed;
+        work_is = refl;
+        line_is = done.0;
+        seated = tt;
+        answer = tt;
+        lead = subst Leads (sym done.1)
+            (lead-step deeds deed poll stand lead (fits-behind deeds poll stand lead has, refl, tt) refl (λ other. (refl, session-polled other screen refresh _, refl)));
       }
 
   -- and so is a turn:
   does-turn : (deeds : List Deed) (panel : ℕ) (piece line : List ℕ) (stand next : Stand) → LeadTo deeds stand → panel < length plant.panels → Works plant (Read panel piece) stand line next
       → Does deeds (Read panel piece) line next
   does-turn deeds panel piece line stand next lead has done =
-      let by : All (IsBy panel) (entries_in done.0) = λ k d below. (done.3.seats k d below, stays-no_leave _ (turn-no_leaves panel _ done.0 done.3.is_turn k d below)) in
+      let by : All (IsBy panel) (entries_in done.0) = λ k d below. (done.3.seats k d below, stays-of_session _ (turn-of_session panel _ done.0 done.3.is_turn k d below)) in
       let deed : Deed = Turned panel piece (entries_in done.0) done.1 in
       let Leads : Stand → Type 0 = λ next. LeadTo (deeds ++ deed ∷ []) next in
       let Answers : List ℕ → Type 0 = λ read. AnswersItems read piece done.1 in
@@ -146,10 +181,11 @@ module _ (plant : PlantData) where
       }
 
   -- each work is done by a deed.
-  does : (deeds : List Deed) (work : Work) (line : List ℕ) (stand next : Stand) → LeadTo deeds stand → panel_of work < length plant.panels → Works plant work stand line next
+  does : (deeds : List Deed) (work : Work) (line : List ℕ) (stand next : Stand) → LeadTo deeds stand → IsOfPlant plant work → Works plant work stand line next
       → Does deeds work line next
   does deeds (Read panel piece) line stand next lead has done = does-turn deeds panel piece line stand next lead has done
   does deeds (Leave panel) line stand next lead has done = does-leave deeds panel line stand next lead has done
+  does deeds (Show screen refresh) line stand next lead has done = does-show deeds screen refresh line stand next lead has done
 
   -- Behind such deeds the session of each panel is one.
   lead-sessions : (deeds : List Deed) (stand : Stand) → LeadTo deeds stand → AreSessions plant deeds
@@ -159,7 +195,7 @@ module _ (plant : PlantData) where
   record DoesAll (deeds : List Deed) (works : List Work) (output : List ℕ) : Type 0 where
     more : List Deed
     works_are : map work_of more ≡ works
-    shown : output ≡ flat_map line_of more
+    shown : output ≡ flat_map (line_of plant) more
     seated : All IsSeated more
     legal : IsLegal step Fits (start plant) (history_of (deeds ++ more))
     each : (before after : List Deed) → more ≡ before ++ after → AreSessions plant (deeds ++ before)
@@ -217,11 +253,11 @@ module _ (plant : PlantData) where
           subst Behind (append_assoc deeds (one.deed ∷ []) before ∙ ap (λ (first : Deed). deeds ++ first ∷ before) head) (later.answers before after deed tail)
 
   -- So all works are done by deeds,
-  does_all : (works : List Work) (deeds : List Deed) (output : List ℕ) (stand last : Stand) → LeadTo deeds stand → All (λ work. panel_of work < length plant.panels) works
+  does_all : (works : List Work) (deeds : List Deed) (output : List ℕ) (stand last : Stand) → LeadTo deeds stand → All (IsOfPlant plant) works
       → AllWork plant works stand output last → DoesAll deeds works output
   does_all [] deeds output stand last lead has done = does_none deeds output stand lead done.0
   does_all (work ∷ works) deeds output stand last lead has done =
-      let Has : Work → Type 0 = λ work. panel_of work < length plant.panels in
+      let Has : Work → Type 0 = IsOfPlant plant in
       let one : Does deeds work done.1 done.0 = does deeds work done.1 stand done.0 lead (All-head Has work works has) done.3 in
       does_first deeds work works done.1 done.2 output stand done.0 lead one
       (does_all works (deeds ++ one.deed ∷ []) done.2 done.0 last one.lead (All-tail Has work works has) done.4) done.5
@@ -230,7 +266,7 @@ module _ (plant : PlantData) where
   pub history_answers : (script output : List ℕ) → IsReplay plant script output
       → (deeds : List Deed) × IsHistory plant script output deeds × ((before after : List Deed) (deed : Deed) → deeds ≡ before ++ deed ∷ after → IsAnswer before deed)
   history_answers script output replay =
-      let has = All-from_recursion (λ (work : Work). panel_of work < length plant.panels) replay.works (have_panels plant (worked (lines script)) replay.works replay.spelled) in
+      let has = All-from_recursion (IsOfPlant plant) replay.works (of_plant plant (worked (lines script)) replay.works replay.spelled) in
       let all : DoesAll [] replay.works output = does_all replay.works [] output (begun plant) replay.last lead-begun has replay.all_work in (
         all.more,
         record {

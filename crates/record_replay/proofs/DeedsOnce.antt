@@ -10,6 +10,7 @@ use Rattle.history_lock.proofs.HistoryLemmas.{legal_front}
 use Rattle.plant_config.specs.Plant.{PlantData}
 use Rattle.plant_core.specs.State.{State, Fits, start}
 use Rattle.plant_core.specs.Step.{step}
+use Rattle.plant_core.specs.declared.request.Request.TheVariants as requests
 use Rattle.panel_session.specs.Entry.{PlantEntry}
 use Rattle.panel_session.specs.Run.{IsWorked}
 use Rattle.panel_session.specs.SoFar.{Past, unread}
@@ -18,7 +19,7 @@ use Rattle.panel_session.proofs.TurnOnce.{legal_later, one_turn_lem}
 use Rattle.panel_session.proofs.TurnsOnce.{next_turn}
 use Rattle.record_replay.specs.Script.{lines, worked}
 use Rattle.record_replay.specs.Replay.{IsReplay}
-use Rattle.record_replay.specs.Laws.{Deed, Turned, Left, work_of, line_of, entries_by, history_of, IsSeated, piece_in, sent_in, pieces_of, sent_of, session_in, AreSessions, IsHistory}
+use Rattle.record_replay.specs.Laws.{Deed, Turned, Left, Polled, work_of, line_of, entries_by, history_of, IsSeated, piece_in, sent_in, pieces_of, sent_of, session_in, AreSessions, IsHistory}
 use Rattle.record_replay.proofs.IsReplayLemmas.{one_spelling, none_bad, always}
 use Rattle.record_replay.proofs.SessionsLemmas.{flat_map-push, session-append, session-own, IsBy, text-as}
 use Rattle.record_replay.proofs.DeedsLemmas.{history_exists}
@@ -81,14 +82,18 @@ module _ (plant : PlantData) where
       → IsLegal step Fits state (entries_by deed) → IsLegal step Fits state (entries_by other)
       → AreSessions plant (front ++ deed ∷ []) → AreSessions plant (front ++ other ∷ []) → deed ≡ other
   one_deed front state (Left panel) (Left leaver) same sessions seated seated' legal legal' sessions_then sessions_then' = let here : panel ≡ leaver = cc in ap Left here
-  one_deed front state (Left panel) (Turned reader piece entries sent) same sessions seated seated' legal legal' sessions_then sessions_then' = absurd cc
-  one_deed front state (Turned panel piece entries sent) (Left leaver) same sessions seated seated' legal legal' sessions_then sessions_then' = absurd cc
+  one_deed front state (Polled screen refresh answers) (Polled other again others) same sessions seated seated' legal legal' sessions_then sessions_then' =
+      let here : screen ≡ other = cc in
+      let way : refresh ≡ again = cc in
+      let told : answers ≡ others = legal.1 ∙ (λ i. (step state (requests.DisplayPoll (here i) (way i))).answers) ∙ sym legal'.1 in
+      λ i. Polled (here i) (way i) (told i)
   one_deed front state (Turned panel piece entries sent) (Turned reader other others more) same sessions seated seated' legal legal' sessions_then sessions_then' =
       let here : reader ≡ panel = cc in
       let read : other ≡ piece = cc in
       let turned : Turned reader other others more ≡ Turned panel piece others more = λ i. Turned (here i) (read i) others more in
       let Behind : Deed → Type 0 = λ deed. AreSessions plant (front ++ deed ∷ []) in
       one_entries front state panel piece sent more entries others sessions seated (subst IsSeated turned seated') legal legal' sessions_then (subst Behind turned sessions_then') ∙ sym turned
+  one_deed front state deed other same sessions seated seated' legal legal' sessions_then sessions_then' = absurd cc
 
   -- The same works are done by the same deeds.
   one_deeds : (deeds others front : List Deed) (state : State) → map work_of deeds ≡ map work_of others → All IsSeated deeds → All IsSeated others
@@ -125,6 +130,6 @@ module _ (plant : PlantData) where
     | inl made ↦
         let has = history_exists plant script made.0 made.1 in
         let same = one_history script made.0 output has.0 deeds has.1 history in
-        subst (IsReplay plant script) (has.1.shown ∙ ap (flat_map line_of) same ∙ sym history.shown) made.1
+        subst (IsReplay plant script) (has.1.shown ∙ ap (flat_map (line_of plant)) same ∙ sym history.shown) made.1
     | inr bad ↦ absurd (none_bad plant script (map work_of deeds) bad.0 history.spelled bad.1)
   ]

@@ -1,12 +1,13 @@
 -- A script has one replay text or one first bad line.
-use Rattle.std.proofs.Common.{◌≡◌, ℕ, suc, ◌+◌, ◌<◌, ◌⊎◌, inl, inr, Bool, true, false, List, [], ◌∷◌, ◌++◌, length, refl, sym, ◌∙◌, ap, subst}
+use Rattle.std.proofs.Common.{◌≡◌, ℕ, suc, ◌+◌, ◌⊎◌, inl, inr, Bool, true, false, List, [], ◌∷◌, ◌++◌, length, refl, sym, ◌∙◌, ap, subst}
 use Rattle.std.specs.Prelude.{not, if◌then◌else◌}
 use Rattle.std.specs.List.{AllByRecursion}
 use Rattle.std.proofs.lemmas.List.Elements.{All-from_recursion}
 use Rattle.plant_config.specs.Plant.{PlantData}
-use Rattle.record_replay.specs.Script.{Work, panel_of, lines, is_skipped, worked, LineSpells, LinesSpell, IsFirstBad}
+use Rattle.record_replay.specs.Script.{Work, IsOfPlant, lines, is_skipped, worked, LineSpells, LinesSpell, IsFirstBad}
 use Rattle.record_replay.specs.Replay.{IsReplay, begun}
-use Rattle.record_replay.proofs.LineSpellsLemmas.{one_work, spelled_line}
+use Rattle.record_replay.proofs.LineSpellsLemmas.{one_work}
+use Rattle.record_replay.proofs.SpelledLines.{spelled_line}
 use Rattle.record_replay.proofs.LinesSpellLemmas.{worked-append}
 use Rattle.record_replay.proofs.WorksLemmas.{settled-begun, works_exist, one_output}
 
@@ -28,12 +29,12 @@ module _ (plant : PlantData) where
   one_spelling (l ∷ ls) (m ∷ ms) (n ∷ ns) spelled_ms spelled_ns =
       λ i. one_work plant l m n spelled_ms.0 spelled_ns.0 i ∷ one_spelling ls ms ns spelled_ms.1 spelled_ns.1 i
 
-  -- The works that lines spell are of the plant's panels.
-  pub have_panels : (ls : List (List ℕ)) (works : List Work) → LinesSpell plant ls works → AllByRecursion (λ work. panel_of work < length plant.panels) works
-  have_panels [] [] spelled = tt
-  have_panels [] (first ∷ works) spelled = absurd spelled
-  have_panels (front ∷ ls) [] spelled = absurd spelled
-  have_panels (front ∷ ls) (first ∷ works) spelled = (spelled.0.has_panel, have_panels ls works spelled.1)
+  -- The works that lines spell are of the plant.
+  pub of_plant : (ls : List (List ℕ)) (works : List Work) → LinesSpell plant ls works → AllByRecursion (IsOfPlant plant) works
+  of_plant [] [] spelled = tt
+  of_plant [] (first ∷ works) spelled = absurd spelled
+  of_plant (front ∷ ls) [] spelled = absurd spelled
+  of_plant (front ∷ ls) (first ∷ works) spelled = (spelled.0.of_plant, of_plant ls works spelled.1)
 
   -- A script has one replay text,
   pub one_text : (script a b : List ℕ) → IsReplay plant script a → IsReplay plant script b → a ≡ b
@@ -164,7 +165,7 @@ module _ (plant : PlantData) where
   pub always : (script : List ℕ) → ((output : List ℕ) × IsReplay plant script output) ⊎ ((number : ℕ) × IsFirstBad plant script number)
   always script = elim (first_bad (lines script)) [
     | inl all ↦
-        let done = works_exist plant all.0 (begun plant) (settled-begun plant) (All-from_recursion _ all.0 (have_panels (worked (lines script)) all.0 all.1)) in
+        let done = works_exist plant all.0 (begun plant) (settled-begun plant) (All-from_recursion _ all.0 (of_plant (worked (lines script)) all.0 all.1)) in
         inl (done.0, record { works = all.0; spelled = all.1; last = done.1; all_work = done.2 })
     | inr bad ↦ inr (
       length bad.before + 1,

@@ -4,7 +4,9 @@ pub mod LineInsideLemmas
 pub mod MessageFrames
 pub mod TakeLemmas
 pub mod ConnectLemmas
+pub mod LineKinds
 pub mod LineSpellsLemmas
+pub mod SpelledLines
 pub mod LinesSpellLemmas
 pub mod WorksLemmas
 pub mod IsReplayLemmas

@@ -1,26 +1,26 @@
 -- What a line spells.
-use Rattle.std.proofs.Common.{◌≡◌, ℕ, ◌<◌, ◌≤◌, ◌≢◌, ◌⊎◌, inl, inr, Bool, true, false, List, [], ◌∷◌, ◌++◌, length, get_or, take, drop, All, refl, sym, ◌∙◌, ap, subst, append_assoc, arith}
+use Rattle.std.proofs.Common.{◌≡◌, ℕ, ◌<◌, ◌≤◌, ◌≢◌, ◌⊎◌, inl, inr, true, false, List, [], ◌∷◌, ◌++◌, length, get_or, take, drop, All, sym, ◌∙◌, ap, subst, append_assoc, arith}
 use Rattle.std.specs.Prelude.{codes}
 use Rattle.std.specs.Str.{bytes_eq}
 use Rattle.std.proofs.Math.ListN.{take-append-drop}
 use Rattle.std.proofs.Math.Seq.{take-append_seam}
-use Rattle.std.proofs.lemmas.Bool.{cases_lt}
 use Rattle.std.proofs.lemmas.Bool.Decides.{nat_tests}
 use Rattle.std.proofs.lemmas.Slice.Eq.{bytes_eq-Decides}
 use Rattle.hex.proofs.HexLemmas.{decode_of-same}
 use Rattle.plant_config.specs.Plant.{PlantData}
 use Rattle.record_replay.specs.Take.{message_frame}
-use Rattle.record_replay.specs.Script.{Work, Read, Leave, space, tab, hash, longest_line, is_skipped, IsDigit, NumberSpells, HexSpells, Sends, Takes, LineSpells}
-use Rattle.record_replay.specs.LineInside.{IsTurn, IsNoTurn, IsTake, IsNoTake}
-use Rattle.record_replay.proofs.NumberSpellsLemmas.{NoPanel, one_number, panel_of_digits}
-use Rattle.record_replay.proofs.LineInsideLemmas.{no_space-digits, no_tab-digits, one_cut, turn_of}
-use Rattle.record_replay.proofs.TakeLemmas.{one_take, take_of}
+use Rattle.record_replay.specs.Script.{Work, Read, Leave, Show, space, hash, longest_line, is_skipped, IsDigit, NumberSpells, HexSpells, Sends, Takes, LineSpells}
+use Rattle.record_replay.specs.LineInside.{IsTurn, IsNoTurn, IsTake, IsNoTake, SpellsNoPanel, SpellsNoScreen}
+use Rattle.record_replay.proofs.NumberSpellsLemmas.{one_number}
+use Rattle.record_replay.proofs.LineInsideLemmas.{no_space-digits, no_tab-digits, one_cut}
+use Rattle.record_replay.proofs.LineKinds.{kind_of, kind_is, turn_kind, show_kind}
+use Rattle.record_replay.proofs.TakeLemmas.{one_take}
 
 -- the line of a turn with these digits
-abbrev turn : List ℕ → List ℕ → List ℕ
+abbrev pub turn : List ℕ → List ℕ → List ℕ
 turn digits hex = codes "> " ++ digits ++ codes " " ++ hex
 
-turn-cut : (digits hex : List ℕ) → turn digits hex ≡ 62 ∷ 32 ∷ (digits ++ space ∷ hex)
+pub turn-cut : (digits hex : List ℕ) → turn digits hex ≡ 62 ∷ 32 ∷ (digits ++ space ∷ hex)
 turn-cut digits hex = ap (λ (l : List ℕ). 62 ∷ 32 ∷ l) (append_assoc digits (space ∷ []) hex)
 
 -- two turns that one line spells
@@ -55,20 +55,9 @@ take_behind plant line digits piece panel number has_panel takes = record {
 first_is : (line : List ℕ) (byte : ℕ) (more : List ℕ) → line ≡ byte ∷ more → get_or line 0 0 ≡ byte
 first_is line byte more is = ap (λ (l : List ℕ). get_or l 0 0) is
 
--- A line has the form of a turn with bytes, and what its first byte is then.
-abbrev Fills : PlantData → List ℕ → List ℕ → List ℕ → Type 0
+-- A line has the form of a turn with bytes.
+abbrev pub Fills : PlantData → List ℕ → List ℕ → List ℕ → Type 0
 Fills plant line digits piece = Sends line digits piece ⊎ Takes plant line digits piece
-
-first_filled : (plant : PlantData) (line digits piece : List ℕ) → Fills plant line digits piece → (get_or line 0 0 ≡ 62) ⊎ (get_or line 0 0 ≡ 116)
-first_filled plant line digits piece (inl sends) = inl (first_is line 62 _ sends.1)
-first_filled plant line digits piece (inr takes) = inr (first_is line 116 _ takes.place)
-
--- No line of a turn with bytes begins with this byte.
-filled_apart : (plant : PlantData) (line digits piece : List ℕ) (byte : ℕ) → Fills plant line digits piece → get_or line 0 0 ≡ byte → 100 ≤ byte → byte ≤ 115 → ⊥
-filled_apart plant line digits piece byte fills is least most = elim (first_filled plant line digits piece fills) [
-  | inl turn ↦ omega (arith, turn, is, least)
-  | inr take ↦ omega (arith, take, is, most)
-]
 
 -- a line spells one turn with bytes
 one_filled : (plant : PlantData) (line digits others : List ℕ) (m n : ℕ) (piece other : List ℕ) → NumberSpells digits m → NumberSpells others n → m < length plant.panels → n < length plant.panels
@@ -81,21 +70,28 @@ one_filled plant line digits others m n piece other number_m number_n has_m has_
 one_filled plant line digits others m n piece other number_m number_n has_m has_n (inr a) (inr b) =
     one_take plant (drop 5 line) m n piece other (take_behind plant line digits piece m number_m has_m a) (take_behind plant line others other n number_n has_n b)
 
--- a line spells one piece of work
+-- A line spells one piece of work.
 pub one_work : (plant : PlantData) (line : List ℕ) (a b : Work) → LineSpells plant line a → LineSpells plant line b → a ≡ b
 one_work plant line (Read m []) (Read n []) a b =
     ap (λ (panel : ℕ). Read panel []) (one_number a.digits b.digits m n (ap (drop 5) (sym a.form ∙ b.form)) a.number b.number)
-one_work plant line (Read m []) (Read n (byte ∷ bytes)) a b = absurd (filled_apart plant line b.digits (byte ∷ bytes) 112 b.form (first_is line 112 _ a.form) (omega arith) (omega arith))
-one_work plant line (Read m []) (Leave n) a b = absurd (omega (arith, first_is line 112 _ a.form, first_is line 108 _ b.form))
-one_work plant line (Read m (byte ∷ bytes)) (Read n []) a b = absurd (filled_apart plant line a.digits (byte ∷ bytes) 112 a.form (first_is line 112 _ b.form) (omega arith) (omega arith))
 one_work plant line (Read m (byte ∷ bytes)) (Read n (other ∷ others)) a b =
-    let same = one_filled plant line a.digits b.digits m n (byte ∷ bytes) (other ∷ others) a.number b.number a.has_panel b.has_panel a.form b.form in
+    let same = one_filled plant line a.digits b.digits m n (byte ∷ bytes) (other ∷ others) a.number b.number a.of_plant b.of_plant a.form b.form in
     λ i. Read (same.0 i) (same.1 i)
-one_work plant line (Read m (byte ∷ bytes)) (Leave n) a b = absurd (filled_apart plant line a.digits (byte ∷ bytes) 108 a.form (first_is line 108 _ b.form) (omega arith) (omega arith))
-one_work plant line (Leave m) (Read n []) a b = absurd (omega (arith, first_is line 108 _ a.form, first_is line 112 _ b.form))
-one_work plant line (Leave m) (Read n (byte ∷ bytes)) a b = absurd (filled_apart plant line b.digits (byte ∷ bytes) 108 b.form (first_is line 108 _ a.form) (omega arith) (omega arith))
 one_work plant line (Leave m) (Leave n) a b =
     ap (λ (panel : ℕ). Leave panel) (one_number a.digits b.digits m n (ap (drop 6) (sym a.form ∙ b.form)) a.number b.number)
+one_work plant line (Show m false) (Show n false) a b =
+    ap (λ (screen : ℕ). Show screen false) (one_number a.digits b.digits m n (ap (drop 5) (sym a.form ∙ b.form)) a.number b.number)
+one_work plant line (Show m true) (Show n true) a b =
+    ap (λ (screen : ℕ). Show screen true) (one_number a.digits b.digits m n (ap (drop 8) (sym a.form ∙ b.form)) a.number b.number)
+one_work plant line (Read m piece) (Leave n) a b = absurd (omega (arith, turn_kind m piece, kind_is plant line (Read m piece) a, kind_is plant line (Leave n) b))
+one_work plant line (Leave m) (Read n piece) a b = absurd (omega (arith, turn_kind n piece, kind_is plant line (Leave m) a, kind_is plant line (Read n piece) b))
+one_work plant line (Read m piece) (Show n refresh) a b =
+    absurd (omega (arith, turn_kind m piece, show_kind n refresh, kind_is plant line (Read m piece) a, kind_is plant line (Show n refresh) b))
+one_work plant line (Show m refresh) (Read n piece) a b =
+    absurd (omega (arith, turn_kind n piece, show_kind m refresh, kind_is plant line (Show m refresh) a, kind_is plant line (Read n piece) b))
+one_work plant line (Leave m) (Show n refresh) a b = absurd (omega (arith, show_kind n refresh, kind_is plant line (Leave m) a, kind_is plant line (Show n refresh) b))
+one_work plant line (Show m refresh) (Leave n) a b = absurd (omega (arith, show_kind m refresh, kind_is plant line (Show m refresh) a, kind_is plant line (Leave n) b))
+one_work plant line one other a b = absurd (omega (arith, kind_is plant line one a, kind_is plant line other b))
 
 -- a line that isn't empty and doesn't begin with `#` isn't skipped
 pub not_skipped : (line : List ℕ) → 1 ≤ length line → get_or line 0 0 ≢ hash → is_skipped line ≡ false
@@ -109,20 +105,20 @@ with_front front line behind is cut =
     ∙ ap (λ (l : List ℕ). front ++ l) (sym cut)
 
 -- The line hasn't this front.
-abbrev HasNoFront : List ℕ → List ℕ → Type 0
+abbrev pub HasNoFront : List ℕ → List ℕ → Type 0
 HasNoFront line front = (behind : List ℕ) → line ≡ front ++ behind → ⊥
 
-without_front : (front line : List ℕ) → bytes_eq (take (length front) line) front ≡ false → HasNoFront line front
+pub without_front : (front line : List ℕ) → bytes_eq (take (length front) line) front ≡ false → HasNoFront line front
 without_front front line isnt behind form =
     let is = (bytes_eq-Decides (take (length front) line) front).1 (ap (take (length front)) form ∙ take-append_seam front behind) in cc
 
 -- a turn by what stands behind its front
-turn_spells : (plant : PlantData) (line behind : List ℕ) (panel : ℕ) (piece : List ℕ) → length line ≤ longest_line → line ≡ codes "> " ++ behind → IsTurn plant behind panel piece → LineSpells plant line (Read panel piece)
+pub turn_spells : (plant : PlantData) (line behind : List ℕ) (panel : ℕ) (piece : List ℕ) → length line ≤ longest_line → line ≡ codes "> " ++ behind → IsTurn plant behind panel piece → LineSpells plant line (Read panel piece)
 turn_spells plant line behind panel [] within front found = let some = found.some in absurd (omega arith)
 turn_spells plant line behind panel (byte ∷ bytes) within front found = record {
   digits = found.digits;
   number = found.number;
-  has_panel = found.has_panel;
+  of_plant = found.has_panel;
   form = inl (found.hex, front ∙ ap (λ (l : List ℕ). codes "> " ++ l) found.place ∙ sym (turn-cut found.digits found.hex), found.spelled);
   within = within;
 }
@@ -135,7 +131,7 @@ take_spells plant line behind panel [] within front found =
 take_spells plant line behind panel (byte ∷ bytes) within front found = record {
   digits = found.digits;
   number = found.number;
-  has_panel = found.has_panel;
+  of_plant = found.has_panel;
   form = inr (record {
     matrix = found.matrix;
     level = found.level;
@@ -164,9 +160,9 @@ no_sends plant line behind panel digits piece front none number has_panel some (
 no_sends plant line behind panel digits piece front none number has_panel some (inr takes) = omega (arith, first_is line 62 _ front, first_is line 116 _ takes.place)
 
 pub no_turn : (plant : PlantData) (line behind : List ℕ) → line ≡ codes "> " ++ behind → IsNoTurn plant behind → (work : Work) → LineSpells plant line work → ⊥
-no_turn plant line behind front none (Read panel []) spells = absurd (omega (arith, first_is line 62 _ front, first_is line 112 _ spells.form))
-no_turn plant line behind front none (Read panel (byte ∷ bytes)) spells = no_sends plant line behind panel spells.digits (byte ∷ bytes) front none spells.number spells.has_panel (omega arith) spells.form
-no_turn plant line behind front none (Leave panel) spells = absurd (omega (arith, first_is line 62 _ front, first_is line 108 _ spells.form))
+no_turn plant line behind front none (Read panel (byte ∷ bytes)) spells = no_sends plant line behind panel spells.digits (byte ∷ bytes) front none spells.number spells.of_plant (omega arith) spells.form
+no_turn plant line behind front none (Show screen refresh) spells = absurd (omega (arith, show_kind screen refresh, kind_is plant line (Show screen refresh) spells, ap kind_of front))
+no_turn plant line behind front none work spells = absurd (omega (arith, kind_is plant line work spells, ap kind_of front))
 
 no_takes : (plant : PlantData) (line behind : List ℕ) (panel : ℕ) (digits piece : List ℕ) → line ≡ codes "take " ++ behind → IsNoTake plant behind → NumberSpells digits panel → panel < length plant.panels
     → Fills plant line digits piece → ⊥
@@ -175,85 +171,30 @@ no_takes plant line behind panel digits piece front none number has_panel (inr t
     none panel piece (subst (λ (text : List ℕ). IsTake plant text panel piece) (ap (drop 5) front) (take_behind plant line digits piece panel number has_panel takes))
 
 pub no_take : (plant : PlantData) (line behind : List ℕ) → line ≡ codes "take " ++ behind → IsNoTake plant behind → (work : Work) → LineSpells plant line work → ⊥
-no_take plant line behind front none (Read panel []) spells = absurd (omega (arith, first_is line 116 _ front, first_is line 112 _ spells.form))
-no_take plant line behind front none (Read panel (byte ∷ bytes)) spells = no_takes plant line behind panel spells.digits (byte ∷ bytes) front none spells.number spells.has_panel spells.form
-no_take plant line behind front none (Leave panel) spells = absurd (omega (arith, first_is line 116 _ front, first_is line 108 _ spells.form))
+no_take plant line behind front none (Read panel (byte ∷ bytes)) spells = no_takes plant line behind panel spells.digits (byte ∷ bytes) front none spells.number spells.of_plant spells.form
+no_take plant line behind front none (Show screen refresh) spells = absurd (omega (arith, show_kind screen refresh, kind_is plant line (Show screen refresh) spells, ap kind_of front))
+no_take plant line behind front none work spells = absurd (omega (arith, kind_is plant line work spells, ap kind_of front))
 
-pub no_poll : (plant : PlantData) (line digits : List ℕ) → line ≡ codes "poll " ++ digits → NoPanel digits (length plant.panels) → (work : Work) → LineSpells plant line work → ⊥
+pub no_poll : (plant : PlantData) (line digits : List ℕ) → line ≡ codes "poll " ++ digits → SpellsNoPanel plant digits → (work : Work) → LineSpells plant line work → ⊥
 no_poll plant line digits form none (Read panel []) spells =
-    none panel (subst (λ (d : List ℕ). NumberSpells d panel) (ap (drop 5) (sym spells.form ∙ form)) spells.number) spells.has_panel
-no_poll plant line digits form none (Read panel (byte ∷ bytes)) spells = filled_apart plant line spells.digits (byte ∷ bytes) 112 spells.form (first_is line 112 _ form) (omega arith) (omega arith)
-no_poll plant line digits form none (Leave panel) spells = absurd (omega (arith, first_is line 112 _ form, first_is line 108 _ spells.form))
+    none panel (subst (λ (d : List ℕ). NumberSpells d panel) (ap (drop 5) (sym spells.form ∙ form)) spells.number) spells.of_plant
+no_poll plant line digits form none (Show screen refresh) spells = absurd (omega (arith, show_kind screen refresh, kind_is plant line (Show screen refresh) spells, ap kind_of form))
+no_poll plant line digits form none work spells = absurd (omega (arith, kind_is plant line work spells, ap kind_of form))
 
-pub no_leave : (plant : PlantData) (line digits : List ℕ) → line ≡ codes "leave " ++ digits → NoPanel digits (length plant.panels) → (work : Work) → LineSpells plant line work → ⊥
-no_leave plant line digits form none (Read panel []) spells = absurd (omega (arith, first_is line 108 _ form, first_is line 112 _ spells.form))
-no_leave plant line digits form none (Read panel (byte ∷ bytes)) spells = filled_apart plant line spells.digits (byte ∷ bytes) 108 spells.form (first_is line 108 _ form) (omega arith) (omega arith)
+pub no_leave : (plant : PlantData) (line digits : List ℕ) → line ≡ codes "leave " ++ digits → SpellsNoPanel plant digits → (work : Work) → LineSpells plant line work → ⊥
 no_leave plant line digits form none (Leave panel) spells =
-    none panel (subst (λ (d : List ℕ). NumberSpells d panel) (ap (drop 6) (sym spells.form ∙ form)) spells.number) spells.has_panel
+    none panel (subst (λ (d : List ℕ). NumberSpells d panel) (ap (drop 6) (sym spells.form ∙ form)) spells.number) spells.of_plant
+no_leave plant line digits form none (Read panel piece) spells = absurd (omega (arith, turn_kind panel piece, kind_is plant line (Read panel piece) spells, ap kind_of form))
+no_leave plant line digits form none (Show screen refresh) spells = absurd (omega (arith, show_kind screen refresh, kind_is plant line (Show screen refresh) spells, ap kind_of form))
 
-no_filled : (plant : PlantData) (line digits piece : List ℕ) → HasNoFront line (codes "> ") → HasNoFront line (codes "take ") → Fills plant line digits piece → ⊥
-no_filled plant line digits piece no_turn no_take (inl sends) = no_turn (digits ++ space ∷ sends.0) (sends.1 ∙ turn-cut digits sends.0)
-no_filled plant line digits piece no_turn no_take (inr takes) = no_take (digits ++ space ∷ (takes.matrix ++ space ∷ (takes.level ++ tab ∷ (takes.dest ++ tab ∷ takes.source)))) takes.place
+pub no_show : (plant : PlantData) (line digits : List ℕ) → line ≡ codes "show " ++ digits → SpellsNoScreen plant digits → (work : Work) → LineSpells plant line work → ⊥
+no_show plant line digits form none (Show screen false) spells =
+    none screen (subst (λ (d : List ℕ). NumberSpells d screen) (ap (drop 5) (sym spells.form ∙ form)) spells.number) spells.of_plant
+no_show plant line digits form none (Read panel piece) spells = absurd (omega (arith, turn_kind panel piece, kind_is plant line (Read panel piece) spells, ap kind_of form))
+no_show plant line digits form none work spells = absurd (omega (arith, kind_is plant line work spells, ap kind_of form))
 
-no_form : (plant : PlantData) (line : List ℕ) → HasNoFront line (codes "> ") → HasNoFront line (codes "take ") → HasNoFront line (codes "poll ") → HasNoFront line (codes "leave ") → (work : Work) → LineSpells plant line work → ⊥
-no_form plant line no_turn no_take no_poll no_leave (Read panel []) spells = no_poll spells.digits spells.form
-no_form plant line no_turn no_take no_poll no_leave (Read panel (byte ∷ bytes)) spells = no_filled plant line spells.digits (byte ∷ bytes) no_turn no_take spells.form
-no_form plant line no_turn no_take no_poll no_leave (Leave panel) spells = no_leave spells.digits spells.form
-
--- a line has a front or not
-front_of : (front line : List ℕ) → ((behind : List ℕ) × (line ≡ front ++ behind)) ⊎ HasNoFront line front
-front_of front line = decided (bytes_eq (take (length front) line) front) refl
-  where
-    decided : (is : Bool) → bytes_eq (take (length front) line) front ≡ is → ((behind : List ℕ) × (line ≡ front ++ behind)) ⊎ HasNoFront line front
-    decided true is = inl (drop (length front) line, with_front front line (drop (length front) line) is refl)
-    decided false isnt = inr (without_front front line isnt)
-
--- A line spells a piece of work of the plant.
-abbrev pub IsSpelled : PlantData → List ℕ → Type 0
-IsSpelled plant line = (work : Work) × LineSpells plant line work
-
-spelled_turn : (plant : PlantData) (line behind : List ℕ) → length line ≤ longest_line → line ≡ codes "> " ++ behind → IsSpelled plant line ⊎ ¬ IsSpelled plant line
-spelled_turn plant line behind within form = elim (turn_of plant behind) [
-  | inl turn ↦ inl (Read turn.0 turn.1, turn_spells plant line behind turn.0 turn.1 within form turn.2)
-  | inr none ↦ inr (λ spelled. no_turn plant line behind form none spelled.0 spelled.1)
-]
-
-spelled_take : (plant : PlantData) (line behind : List ℕ) → length line ≤ longest_line → line ≡ codes "take " ++ behind → IsSpelled plant line ⊎ ¬ IsSpelled plant line
-spelled_take plant line behind within form = elim (take_of plant behind) [
-  | inl take ↦ inl (Read take.0 take.1, take_spells plant line behind take.0 take.1 within form take.2)
-  | inr none ↦ inr (λ spelled. no_take plant line behind form none spelled.0 spelled.1)
-]
-
-spelled_poll : (plant : PlantData) (line digits : List ℕ) → length line ≤ longest_line → line ≡ codes "poll " ++ digits → IsSpelled plant line ⊎ ¬ IsSpelled plant line
-spelled_poll plant line digits within form = elim (panel_of_digits digits (length plant.panels)) [
-  | inl panel ↦ inl (Read panel.0 [], record { digits = digits; number = panel.1; has_panel = panel.2; form = form; within = within })
-  | inr none ↦ inr (λ spelled. no_poll plant line digits form none spelled.0 spelled.1)
-]
-
-spelled_leave : (plant : PlantData) (line digits : List ℕ) → length line ≤ longest_line → line ≡ codes "leave " ++ digits → IsSpelled plant line ⊎ ¬ IsSpelled plant line
-spelled_leave plant line digits within form = elim (panel_of_digits digits (length plant.panels)) [
-  | inl panel ↦ inl (Leave panel.0, record { digits = digits; number = panel.1; has_panel = panel.2; form = form; within = within })
-  | inr none ↦ inr (λ spelled. no_leave plant line digits form none spelled.0 spelled.1)
-]
-
-spelled_within : (plant : PlantData) (line : List ℕ) → length line ≤ longest_line → IsSpelled plant line ⊎ ¬ IsSpelled plant line
-spelled_within plant line within = elim (front_of (codes "> ") line) [
-  | inl turn ↦ spelled_turn plant line turn.0 within turn.1
-  | inr isnt_turn ↦ elim (front_of (codes "take ") line) [
-    | inl take ↦ spelled_take plant line take.0 within take.1
-    | inr isnt_take ↦ elim (front_of (codes "poll ") line) [
-      | inl poll ↦ spelled_poll plant line poll.0 within poll.1
-      | inr isnt_poll ↦ elim (front_of (codes "leave ") line) [
-        | inl leave ↦ spelled_leave plant line leave.0 within leave.1
-        | inr isnt_leave ↦ inr (λ spelled. no_form plant line isnt_turn isnt_take isnt_poll isnt_leave spelled.0 spelled.1)
-      ]
-    ]
-  ]
-]
-
--- a line spells a piece of work or none
-pub spelled_line : (plant : PlantData) (line : List ℕ) → IsSpelled plant line ⊎ ¬ IsSpelled plant line
-spelled_line plant line = elim (cases_lt longest_line (length line)) [
-  | inl long ↦ inr (λ spelled. absurd (omega (arith, spelled.1.within)))
-  | inr within ↦ spelled_within plant line within
-]
+pub no_refresh : (plant : PlantData) (line digits : List ℕ) → line ≡ codes "refresh " ++ digits → SpellsNoScreen plant digits → (work : Work) → LineSpells plant line work → ⊥
+no_refresh plant line digits form none (Show screen true) spells =
+    none screen (subst (λ (d : List ℕ). NumberSpells d screen) (ap (drop 8) (sym spells.form ∙ form)) spells.number) spells.of_plant
+no_refresh plant line digits form none (Read panel piece) spells = absurd (omega (arith, turn_kind panel piece, kind_is plant line (Read panel piece) spells, ap kind_of form))
+no_refresh plant line digits form none work spells = absurd (omega (arith, kind_is plant line work spells, ap kind_of form))

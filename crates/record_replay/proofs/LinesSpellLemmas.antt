@@ -5,7 +5,7 @@ use Rattle.std.proofs.lemmas.List.Elements.{filter-append}
 use Rattle.plant_config.specs.Plant.{PlantData}
 use Rattle.record_replay.specs.declared.line.Line as code
 use Rattle.record_replay.specs.declared.line.Line.TheVariants as found
-use Rattle.record_replay.specs.Script.{Work, Read, Leave, lines, is_skipped, worked, LineSpells, LinesSpell}
+use Rattle.record_replay.specs.Script.{Work, Read, Leave, Show, lines, is_skipped, worked, LineSpells, LinesSpell}
 use Rattle.record_replay.specs.LineInside.{IsBad, IsFound}
 
 pub LinesSpell-append : (plant : PlantData) (before after : List (List ℕ)) (works more : List Work) → LinesSpell plant before works → LinesSpell plant after more → LinesSpell plant (before ++ after) (works ++ more)
@@ -52,6 +52,8 @@ so_far-found plant script rest line after bytes number (found.Read panel) so_far
     so_far-more plant script rest line after number (Read panel bytes ∷ []) so_far split (worked-work plant line (Read panel bytes) is.0 is.1)
 so_far-found plant script rest line after bytes number (found.Leave panel) so_far split is =
     so_far-more plant script rest line after number (Leave panel ∷ []) so_far split (worked-work plant line (Leave panel) is.0 is.1)
+so_far-found plant script rest line after bytes number (found.Show screen refresh) so_far split is =
+    so_far-more plant script rest line after number (Show screen refresh ∷ []) so_far split (worked-work plant line (Show screen refresh) is.0 is.1)
 
 -- the next line has a form
 pub so_far-some : (plant : PlantData) (script rest line after bytes : List ℕ) (number : ℕ) (read : Option code.Line) → SoFar plant script rest number → lines rest ≡ line ∷ lines after

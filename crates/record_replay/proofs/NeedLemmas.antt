@@ -15,7 +15,7 @@ use Rattle.hex.proofs.HexLemmas.{decode_of-ok}
 use Rattle.plant_config.specs.Plant.{PlantData}
 use Rattle.record_replay.specs.Take.{message_frame}
 use Rattle.record_replay.specs.Take.{dest_number, carried, connect_named}
-use Rattle.record_replay.specs.Script.{Work, Read, Leave, space, tab, HexSpells, Sends, Takes, LineSpells}
+use Rattle.record_replay.specs.Script.{Work, Read, Leave, Show, space, tab, HexSpells, Sends, Takes, LineSpells}
 use Rattle.record_replay.specs.StageInside.{ends_in, at_least_one, need_of}
 use Rattle.record_replay.proofs.ItemsFew.{ends_in-append, ends_in-length, ends_in-doubled}
 
@@ -90,3 +90,4 @@ need_within plant line (Read panel []) spells =
     omega (arith, ap length spells.form)
 need_within plant line (Read panel (byte ∷ bytes)) spells = filled_need plant line spells.digits (byte ∷ bytes) spells.number.some (omega arith) spells.form
 need_within plant line (Leave panel) spells = omega arith
+need_within plant line (Show screen refresh) spells = omega arith

@@ -1,10 +1,17 @@
 -- The number that digits spell.
-use Rattle.std.proofs.Common.{◌≡◌, ℕ, ◌+◌, ◌-◌, ◌*◌, ◌<◌, ◌⊎◌, inl, inr, List, ◌∷◌, [], length, get_or, take, All, refl, sym, ◌∙◌, ap, arith}
-use Rattle.std.proofs.lemmas.Bool.{cases_lt}
+use Rattle.std.proofs.Common.{◌≡◌, ◌≢◌, ℕ, suc, ◌+◌, ◌-◌, ◌*◌, ◌<◌, ◌⊎◌, inl, inr, Bool, true, false, List, ◌∷◌, [], length, get_or, take, All, refl, sym, ◌∙◌, ap, arith}
+use Rattle.std.specs.Prelude.{◌==◌, ◌||◌}
+use Rattle.std.specs.List.{list_any}
+use Rattle.std.proofs.lemmas.Bool.{cases_lt, true≢false, ne_eqb}
 use Rattle.std.proofs.lemmas.List.{take_more}
 use Rattle.std.proofs.lemmas.List.Elements.{All-nil, All-cons, All-head, All-tail, All-push}
+use Rattle.std.proofs.lemmas.List.Folds.{list_any_more}
 use Rattle.std.proofs.lemmas.List.Sums.{fold_more}
+use Rattle.plant_config.specs.declared.records.Display.{Display}
+use Rattle.plant_config.specs.Plant.{PlantData}
+use Rattle.change_boards.specs.Screens.{has_screen}
 use Rattle.record_replay.specs.Script.{IsDigit, number_of, NumberSpells}
+use Rattle.record_replay.specs.LineInside.{SpellsNoScreen}
 
 pub number_more : (digits : List ℕ) (i : ℕ) → i < length digits → number_of (take (i + 1) digits) ≡ 10 * number_of (take i digits) + (get_or digits i 0 - 48)
 number_more digits i below = fold_more (λ number digit. 10 * number + (digit - 48)) 0 digits i 0 below
@@ -59,3 +66,32 @@ panel_of_digits text count = elim (cases_lt 0 (length text)) [
     ]
   ]
 ]
+
+-- a text spells a number or none
+pub number_or : (text : List ℕ) → ((number : ℕ) × NumberSpells text number) ⊎ ((number : ℕ) → NumberSpells text number → ⊥)
+number_or text = elim (panel_of_digits text (suc (number_of text))) [
+  | inl some ↦ inl (some.0, some.1)
+  | inr none ↦ inr (λ number spells. none number spells (omega (arith, spells.number_is)))
+]
+
+-- a text spells a screen of the plant or none
+pub screen_of_digits : (plant : PlantData) (text : List ℕ) → ((screen : ℕ) × NumberSpells text screen × (has_screen plant screen ≡ true)) ⊎ SpellsNoScreen plant text
+screen_of_digits plant text = elim (number_or text) [
+  | inr none ↦ inr (λ number spells has. none number spells)
+  | inl some ↦ elim (has_screen plant some.0) as (λ has. has_screen plant some.0 ≡ has → ((screen : ℕ) × NumberSpells text screen × (has_screen plant screen ≡ true)) ⊎ SpellsNoScreen plant text) [
+    | true ↦ λ has. inl (some.0, some.1, has)
+    | false ↦ λ hasnt. inr (λ number spells has.
+        let same : some.0 ≡ number = one_number text text some.0 number refl some.1 spells in
+        absurd (true≢false (sym has ∙ ap (has_screen plant) (sym same) ∙ hasnt)))
+  ] refl
+]
+
+-- a display is on this screen
+abbrev pub is_on : ℕ → Display → Bool
+is_on screen display = display.screen == screen
+
+-- No display so far is on a screen, and the next one isn't.
+pub none_on-more : (displays : List Display) (screen i : ℕ) (d : Display) → i < length displays → list_any (is_on screen) (take i displays) ≡ false → (get_or displays i d).screen ≢ screen
+    → list_any (is_on screen) (take (i + 1) displays) ≡ false
+none_on-more displays screen i d below none other =
+    list_any_more (is_on screen) displays i d below ∙ (λ k. none k || ne_eqb (get_or displays i d).screen screen other k)

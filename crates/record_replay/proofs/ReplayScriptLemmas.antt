@@ -9,11 +9,11 @@ use Rattle.plant_config.specs.Plant.{PlantData}
 use Rattle.record_replay.specs.declared.output.Output.{Output}
 use Rattle.record_replay.specs.declared.stage.Stage.{Stage}
 use Rattle.record_replay.specs.OutputInside.{HasNothing, Puts, IsAllGiven, IsCutShort}
-use Rattle.record_replay.specs.Script.{Work, panel_of, lines, worked, LinesSpell}
+use Rattle.record_replay.specs.Script.{Work, IsOfPlant, lines, worked, LinesSpell}
 use Rattle.record_replay.specs.Replay.{begun, AllWork}
 use Rattle.record_replay.specs.TiedReplay.{HasReplayed, HasReplayedFront}
 use Rattle.record_replay.specs.StageInside.{StandsAt, MayDo, DoesScript}
-use Rattle.record_replay.proofs.IsReplayLemmas.{have_panels}
+use Rattle.record_replay.proofs.IsReplayLemmas.{of_plant}
 use Rattle.record_replay.proofs.TiedReplayLemmas.{no_two_sources}
 use Rattle.record_replay.proofs.WorksLemmas.{AllWork-append, works_exist}
 
@@ -55,8 +55,8 @@ cut_short written faults plant script stage sink now first last stands small spe
     let Does : PlantData → Type 0 = λ plant. DoesScript plant script stage last.failed (λ text. Puts written faults text first last) in
     let done = subst Does stands.plant_is does (begun plant) 0 spelled.0 stands (omega (arith, small)) spelled.1 in
     let part = cut (written sink) (faults sink) done.0 (done.1.puts (written sink) (faults sink) [] nothing) in
-    let Has : Work → Type 0 = λ work. panel_of work < length plant.panels in
-    let has = subst (AllByRecursion Has) done.2.works_are (have_panels plant (worked (lines script)) spelled.0 spelled.1) in
+    let Has : Work → Type 0 = IsOfPlant plant in
+    let has = subst (AllByRecursion Has) done.2.works_are (of_plant plant (worked (lines script)) spelled.0 spelled.1) in
     let later = works_exist plant done.2.left done.2.next done.2.settled (All-from_recursion Has done.2.left (last_have Has done.2.done done.2.left has)) in
     let shorter = part.appends.shorter in (
       record {

@@ -1,6 +1,6 @@
 -- The sessions in a history.
 use Rattle.std.proofs.Common.{◌≡◌, ℕ, ◌==◌, inl, inr, Bool, true, false, cond, List, [], ◌∷◌, ◌++◌, All, refl, sym, ◌∙◌, ap, subst, append-nil}
-use Rattle.std.specs.Prelude.{map, filter, not}
+use Rattle.std.specs.Prelude.{map, filter}
 use Rattle.std.specs.List.{flat_map}
 use Rattle.std.proofs.lemmas.Bool.{eqb-false, eq-eqb}
 use Rattle.std.proofs.lemmas.Bool.Decides.{eqb_tells}
@@ -15,22 +15,23 @@ use Rattle.plant_core.specs.State.{State, Fits}
 use Rattle.plant_core.specs.Step.{step}
 use Rattle.plant_core.specs.declared.request.Request.{Request}
 use Rattle.plant_core.specs.declared.request.Request.TheVariants as requests
+use Rattle.plant_core.specs.declared.answer.Answer.{Answer}
 use Rattle.panel_session.specs.Entry.{PlantEntry}
 use Rattle.panel_session.specs.Run.{IsWorked, turned}
 use Rattle.panel_session.specs.SoFar.{Past}
 use Rattle.panel_session.specs.Text.{IsText}
 use Rattle.panel_session.specs.Turns.{Turn, bytes_of, entries_of, entries_in, AreTurns}
 use Rattle.panel_session.proofs.KeptTurnLemmas.{are_turns-append}
-use Rattle.panel_session.proofs.NoLeaves.{IsNoLeave}
-use Rattle.record_replay.specs.Laws.{Left, entries_by, is_leave, session_in, IsSession}
+use Rattle.panel_session.proofs.SessionRequests.{IsOfSession}
+use Rattle.record_replay.specs.Laws.{Left, Polled, entries_by, is_of_session, display_seat, session_in, IsSession}
 
 -- What one more element gives stands behind what the others give.
 pub flat_map-push : {X A : Type 0} (f : X → List A) (xs : List X) (x : X) → flat_map f (xs ++ x ∷ []) ≡ flat_map f xs ++ f x
 flat_map-push f xs x = flat_map-append f xs (x ∷ []) ∙ ap (λ l. flat_map f xs ++ l) (append-nil (f x))
 
--- an entry that is no leave
+-- an entry that a session asks for
 abbrev stays : PlantEntry → Bool
-stays entry = not (is_leave entry.request)
+stays entry = is_of_session entry.request
 
 -- A panel's session in a history that goes on.
 pub session-append : (panel : ℕ) (front later : List PlantEntry) → session_in panel (front ++ later) ≡ session_in panel front ++ session_in panel later
@@ -38,9 +39,9 @@ session-append panel front later =
     ap (filter stays) (filter-append (λ (entry : PlantEntry). entry.seat == panel) front later)
     ∙ filter-append stays (history.entries_of panel front) (history.entries_of panel later)
 
--- an entry by a seat that is no leave
+-- an entry by a seat that a session asks for
 abbrev pub IsBy : ℕ → PlantEntry → Type 0
-IsBy seat entry = (entry.seat ≡ seat) × (is_leave entry.request ≡ false)
+IsBy seat entry = (entry.seat ≡ seat) × (is_of_session entry.request ≡ true)
 
 -- Entries of a turn are all its panel's session's,
 pub session-own : (panel : ℕ) (entries : List PlantEntry) → All (IsBy panel) entries → session_in panel entries ≡ entries
@@ -48,7 +49,7 @@ session-own panel [] by = refl
 session-own panel (entry ∷ entries) by =
     let first = All-head (IsBy panel) entry entries by in
     ap (λ (b : Bool). filter stays (cond b (entry ∷ history.entries_of panel entries) (history.entries_of panel entries))) (eq-eqb entry.seat panel first.0)
-    ∙ ap (λ (b : Bool). cond (not b) (entry ∷ session_in panel entries) (session_in panel entries)) first.1
+    ∙ ap (λ (b : Bool). cond b (entry ∷ session_in panel entries) (session_in panel entries)) first.1
     ∙ ap (λ (l : List PlantEntry). entry ∷ l) (session-own panel entries (All-tail (IsBy panel) entry entries by))
 
 -- and none another panel's.
@@ -74,11 +75,20 @@ session-leave panel leaver =
       | false ↦ refl
     ]
 
--- No leave is what isn't a leave.
-pub stays-no_leave : (request : Request) → IsNoLeave request → is_leave request ≡ false
-stays-no_leave (requests.Told panel item message) none = refl
-stays-no_leave (requests.Poll panel item turn) none = refl
-stays-no_leave (requests.Leave panel) none = absurd (none panel refl)
+-- Neither is a display poll.
+pub session-polled : (panel screen : ℕ) (refresh : Bool) (answers : List Answer) → session_in panel (entries_by (Polled screen refresh answers)) ≡ []
+session-polled panel screen refresh answers =
+    elim (display_seat == panel) as (λ b. filter stays (cond b (entries_by (Polled screen refresh answers)) []) ≡ []) [
+      | true ↦ refl
+      | false ↦ refl
+    ]
+
+-- What a session may ask for stays.
+pub stays-of_session : (request : Request) → IsOfSession request → is_of_session request ≡ true
+stays-of_session (requests.Told panel item message) such = refl
+stays-of_session (requests.Poll panel item turn) such = refl
+stays-of_session (requests.Leave panel) such = absurd such
+stays-of_session (requests.DisplayPoll screen refresh) such = absurd such
 
 module _ (plant : PlantData) where
   -- A text is one of equal items and entries too.

@@ -1,5 +1,5 @@
 -- What works make of the plant and the sessions.
-use Rattle.std.proofs.Common.{◌≡◌, ◌≢◌, ℕ, ◌+◌, ◌^◌, ◌≤◌, ◌<◌, ◌==◌, true, false, cond, List, length, refl, sym, ap, ◌∙◌, subst, arith}
+use Rattle.std.proofs.Common.{◌≡◌, ◌≢◌, ℕ, ◌+◌, ◌^◌, ◌≤◌, ◌<◌, ◌==◌, Bool, true, false, cond, List, [], length, refl, sym, ap, ◌∙◌, subst, arith}
 use Rattle.std.specs.Prelude.{slice_index_or, slice_set}
 use Rattle.std.proofs.lemmas.Bool.{eqb-true, eqb-false}
 use Rattle.std.proofs.lemmas.List.{get_or-set_same, get_or-set_other, length-set}
@@ -8,7 +8,10 @@ use Rattle.plant_config.specs.Plant.{PlantData}
 use Rattle.plant_core.specs.Answer.{room_of}
 use Rattle.plant_core.specs.State.{State, Fits}
 use Rattle.plant_core.specs.Step.{step}
+use Rattle.plant_core.specs.declared.request.Request.{Request}
 use Rattle.plant_core.specs.declared.request.Request.TheVariants as requests
+use Rattle.panel_session.specs.DisplayPacket.{AreLamps}
+use Rattle.panel_session.proofs.LampLemmas.{display_poll-lamps}
 use Rattle.panel_session.specs.declared.session.Session.{Session}
 use Rattle.panel_session.specs.Run.{IsWorked, HasRun, IsReady, MayTurn, Serves, turned}
 use Rattle.panel_session.specs.Session.{StandsFor}
@@ -19,12 +22,12 @@ use Rattle.plant_core.proofs.StepValidity.{IsValid-step}
 use Rattle.panel_session.proofs.TurnExists.{turn_exists}
 use Rattle.panel_session.proofs.TurnOnce.{one_turn_lem}
 use Rattle.record_replay.specs.declared.stage.Stage.{Stage}
-use Rattle.record_replay.specs.Script.{Read, Leave}
-use Rattle.record_replay.specs.Replay.{Stand, with_past, behind_turn, turn_line, leave_line}
+use Rattle.record_replay.specs.Script.{Work, Read}
+use Rattle.record_replay.specs.Replay.{Stand, with_past, behind_turn, behind_step, turn_line, Works}
 use Rattle.record_replay.specs.StageInside.{StandsAt, MayDo, IsSmall, HasDone, need_of}
 use Rattle.record_replay.proofs.ServesLemmas.{serves}
 use Rattle.record_replay.proofs.SmallLemmas.{small_later, small_turned, may_go_on}
-use Rattle.record_replay.proofs.WorksLemmas.{fits-run, run-valid, settled-turn, settled-leave}
+use Rattle.record_replay.proofs.WorksLemmas.{fits-run, run-valid, settled-turn, settled-step}
 
 -- Whatever holds of each session's past holds once one of them has another.
 with_one : (P : ℕ → Past → Type 0) (panel : ℕ) (past : Past) (pasts : ℕ → Past) → P panel past → ((other : ℕ) → other ≢ panel → P other (pasts other)) → (other : ℕ) → P other (with_past panel past pasts other)
@@ -53,9 +56,9 @@ ready plant panel piece stage session has may is = record { plant = plant; panel
 -- A turn was worked.
 pub turn_done : (plant : PlantData) (panel : ℕ) (piece : List ℕ) (before after : Stage) (session : Session) (stand : Stand) (used : ℕ) (more : List ℕ) → panel < length plant.panels
     → StandsAt plant before stand used → HasRun step Fits plant panel (stand.pasts panel) piece before.state after.state session more
-    → after.plant ≡ before.plant → after.sessions.items ≡ slice_set before.sessions.items panel session → after.none ≡ before.none
+    → after.plant ≡ before.plant → after.sessions.items ≡ slice_set before.sessions.items panel session → after.outbox ≡ before.outbox
     → HasDone plant (Read panel piece) stand used after (turn_line panel more)
-turn_done plant panel piece before after session stand used more has stands ran same_plant set same_none =
+turn_done plant panel piece before after session stand used more has stands ran same_plant set same_outbox =
     let worked : IsWorked step Fits plant panel (stand.pasts panel) stand.state ran.turn more =
     subst (λ (state : State). IsWorked step Fits plant panel (stand.pasts panel) state ran.turn more) stands.state_is ran.is_worked in
     let made = turn_exists step Fits plant panel (stand.pasts panel) stand.state piece has (stands.settled.each panel)
@@ -84,28 +87,38 @@ turn_done plant panel piece before after session stand used more has stands ran 
             with_one (λ (one : ℕ) (past : Past). IsSmall (used + need_of (Read panel piece)) past) panel (turned ran.turn more (stand.pasts panel)) stand.pasts
             (subst (λ (piece : List ℕ). IsSmall (used + need_of (Read panel piece)) (turned ran.turn more (stand.pasts panel))) ran.piece_is (small_turned used (stand.pasts panel) ran.turn more (stands.small panel)))
             (λ one apart. small_later used (used + need_of (Read panel piece)) (stand.pasts one) (omega arith) (stands.small one));
-        none = ap (λ box. box.items) same_none ∙ stands.none;
-        places = subst (λ (places : ℕ). room_of plant ≤ places) (sym (ap (λ box. box.places) same_none)) stands.places;
+        empty = ap (λ box. box.items) same_outbox ∙ stands.empty;
+        places = subst (λ (places : ℕ). room_of plant ≤ places) (sym (ap (λ box. box.places) same_outbox)) stands.places;
       };
     }
 
--- A panel has left.
-pub leave_done : (plant : PlantData) (panel : ℕ) (before after : Stage) (stand : Stand) (used : ℕ) → StandsAt plant before stand used
-    → after.state ≡ (step before.state (requests.Leave panel)).state → after.plant ≡ before.plant → after.sessions ≡ before.sessions
-    → after.none.items ≡ (step before.state (requests.Leave panel)).answers → after.none.places ≡ before.none.places
-    → HasDone plant (Leave panel) stand used after (leave_line panel)
-leave_done plant panel before after stand used stands state same_plant same_sessions none places = record {
-  next = record stand { state = (step stand.state (requests.Leave panel)).state };
-  works = (refl, refl);
+-- One step was made that no session asks for.
+pub step_done : (plant : PlantData) (work : Work) (request : Request) (before after : Stage) (stand : Stand) (used : ℕ) (text : List ℕ) → StandsAt plant before stand used
+    → Works plant work stand text (behind_step request stand)
+    → after.state ≡ (step before.state request).state → after.plant ≡ before.plant → after.sessions ≡ before.sessions
+    → after.outbox.items ≡ [] → after.outbox.places ≡ before.outbox.places
+    → HasDone plant work stand used after text
+step_done plant work request before after stand used text stands works state same_plant same_sessions empty places = record {
+  next = behind_step request stand;
+  works = works;
   stands = record {
     plant_is = ap (λ plant. plant.now) same_plant ∙ stands.plant_is;
-    state_is = state ∙ ap (λ (state : State). (step state (requests.Leave panel)).state) stands.state_is;
-    valid = IsValid-step stand.state (requests.Leave panel) stands.valid;
-    settled = settled-leave plant panel stand stands.settled;
+    state_is = state ∙ ap (λ (state : State). (step state request).state) stands.state_is;
+    valid = IsValid-step stand.state request stands.valid;
+    settled = settled-step plant request stand stands.settled;
     count = ap (λ sessions. length sessions.items) same_sessions ∙ stands.count;
     each = λ other default has. subst (λ sessions. StandsFor plant other (slice_index_or sessions.items other default) (stand.pasts other)) (sym same_sessions) (stands.each other default has);
-    small = λ other. small_later used (used + 0) (stand.pasts other) (omega arith) (stands.small other);
-    none = none;
+    small = λ other. small_later used (used + need_of work) (stand.pasts other) (omega arith) (stands.small other);
+    empty = empty;
     places = subst (λ (room : ℕ). room_of plant ≤ room) (sym places) stands.places;
   };
 }
+
+-- A display poll of a stage is answered by lamps of the plant.
+pub poll_lamps : (plant : PlantData) (screen : ℕ) (refresh : Bool) (stage : Stage) (stand : Stand) (used : ℕ) → StandsAt plant stage stand used
+    → AreLamps plant (step stage.state (requests.DisplayPoll screen refresh)).answers
+poll_lamps plant screen refresh stage stand used stands =
+    let poll = requests.DisplayPoll screen refresh in
+    let Of : PlantData → Type 0 = λ plant. AreLamps plant (step stand.state poll).answers in
+    let At : State → Type 0 = λ state. AreLamps plant (step state poll).answers in
+    subst At (sym stands.state_is) (subst Of stands.settled.plant_is (display_poll-lamps stand.state screen refresh stands.valid))

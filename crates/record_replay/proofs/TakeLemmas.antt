@@ -1,12 +1,12 @@
 -- The parts of a take, and what they ask for.
-use Rattle.std.proofs.Common.{◌≡◌, ℕ, suc, ◌⊎◌, inl, inr, List, ◌∷◌, ◌++◌, length, Option, Some, None, refl, sym, ◌∙◌, ap, subst, arith}
+use Rattle.std.proofs.Common.{◌≡◌, ℕ, ◌⊎◌, inl, inr, List, ◌∷◌, ◌++◌, length, Option, Some, None, refl, sym, ◌∙◌, ap, subst}
 use Rattle.swp08_messages.specs.declared.message.Message.{Message}
 use Rattle.plant_config.specs.Plant.{PlantData}
 use Rattle.record_replay.specs.Take.{message_frame}
 use Rattle.record_replay.specs.Take.{connect_named}
-use Rattle.record_replay.specs.Script.{space, tab, number_of, HasNo, NumberSpells, Asks}
+use Rattle.record_replay.specs.Script.{space, tab, HasNo, NumberSpells, Asks}
 use Rattle.record_replay.specs.LineInside.{IsCut, AreParts, HasNoParts, AsksNothing, SpellsNoPanel, IsTake, IsNoTake}
-use Rattle.record_replay.proofs.NumberSpellsLemmas.{one_number, panel_of_digits}
+use Rattle.record_replay.proofs.NumberSpellsLemmas.{one_number, panel_of_digits, number_or}
 use Rattle.record_replay.proofs.LineInsideLemmas.{one_cut, has_byte, cut_of}
 
 -- The parts of a take are the same.
@@ -81,13 +81,6 @@ parts_of behind = elim (cut_of space behind) [
       ]
     ]
   ]
-]
-
--- a text spells a number or none
-number_or : (text : List ℕ) → ((number : ℕ) × NumberSpells text number) ⊎ ((number : ℕ) → NumberSpells text number → ⊥)
-number_or text = elim (panel_of_digits text (suc (number_of text))) [
-  | inl some ↦ inl (some.0, some.1)
-  | inr none ↦ inr (λ number spells. none number spells (omega (arith, spells.number_is)))
 ]
 
 -- parts ask for one connect

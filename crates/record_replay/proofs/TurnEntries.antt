@@ -8,7 +8,7 @@ use Rattle.std.proofs.lemmas.List.Concat.{flat_map-append}
 use Rattle.std.proofs.lemmas.List.Elements.{All-head, All-tail, All-push}
 use Rattle.dle_framing.specs.Items.{items}
 use Rattle.plant_core.specs.declared.request.Request.{Request}
-use Rattle.plant_core.specs.declared.request.Request.TheVariants.{Told, Poll, Leave}
+use Rattle.plant_core.specs.declared.request.Request.TheVariants.{Told, Poll, Leave, DisplayPoll}
 use Rattle.plant_core.specs.declared.answer.Answer.{Answer}
 use Rattle.panel_session.specs.Asked.{sent_to_plant}
 use Rattle.panel_session.specs.Entry.{PlantEntry}
@@ -27,16 +27,19 @@ abbrev is_early : ℕ → Request → Bool
 is_early first (Told panel item message) = nat_lt item first
 is_early first (Poll panel item turn) = true
 is_early first (Leave panel) = true
+is_early first (DisplayPoll screen refresh) = true
 
 early_told : (first k : ℕ) (request : Request) → is_early first request ≡ false → k < first → is_told_at k request ≡ false
 early_told first k (Told panel item message) late below = grind (arith, nat_tests)
 early_told first k (Poll panel item turn) late below = refl
 early_told first k (Leave panel) late below = refl
+early_told first k (DisplayPoll screen refresh) late below = refl
 
 early_polled : (first k : ℕ) (request : Request) (answers : List Answer) → is_early first request ≡ false → polled_by k request answers ≡ []
 early_polled first k (Told panel item message) answers late = refl
 early_polled first k (Poll panel item turn) answers late = absurd (true≢false late)
 early_polled first k (Leave panel) answers late = refl
+early_polled first k (DisplayPoll screen refresh) answers late = refl
 
 -- The requests that items send to the plant are none such.
 one_late : (panel first n : ℕ) (a : Asked) (others : List Asked) → first ≤ n → find (is_early first) (sent_to_plant panel (n + 1) others) ≡ None

@@ -7,17 +7,17 @@ use Rattle.panel_session.specs.SettledInside.{Settled}
 use Rattle.panel_session.specs.SoFar.{Past}
 use Rattle.panel_session.specs.Turns.{bytes_of}
 use Rattle.record_replay.specs.Answered.{AnswersItems}
-use Rattle.record_replay.specs.Script.{Work, Read, panel_of}
+use Rattle.record_replay.specs.Script.{Work, Read, IsOfPlant}
 use Rattle.record_replay.specs.Replay.{Stand, behind_turn, Works}
 use Rattle.record_replay.specs.StandInside.{IsSettled}
 use Rattle.record_replay.proofs.TurnAnswers.{turn_answers}
 use Rattle.record_replay.proofs.WorksLemmas.{works_exist, one_output}
 
 -- A work can be done so that each session is between two turns then, and it is done in one way.
-pub work_settled : (plant : PlantData) (work : Work) (line : List ℕ) (stand next : Stand) → IsSettled plant stand → panel_of work < length plant.panels → Works plant work stand line next
+pub work_settled : (plant : PlantData) (work : Work) (line : List ℕ) (stand next : Stand) → IsSettled plant stand → IsOfPlant plant work → Works plant work stand line next
     → IsSettled plant next
 work_settled plant work line stand next settled has done =
-    let Has : Work → Type 0 = λ work. panel_of work < length plant.panels in
+    let Has : Work → Type 0 = IsOfPlant plant in
     let made = works_exist plant (work ∷ []) stand settled (All-cons Has work [] has (All-nil Has)) in
     let same = one_output plant (work ∷ []) stand made.1 next made.0 line made.2 (next, line, [], done, (refl, refl), sym (append-nil line)) in
     subst (IsSettled plant) same.1 made.3

@@ -22,7 +22,7 @@ stands_later plant stage stand used later within stands = record {
   count = stands.count;
   each = stands.each;
   small = λ panel. small_later used later (stand.pasts panel) within (stands.small panel);
-  none = stands.none;
+  empty = stands.empty;
   places = stands.places;
 }
 

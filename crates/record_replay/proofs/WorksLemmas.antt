@@ -1,5 +1,5 @@
 -- Works that are done one after the other.
-use Rattle.std.proofs.Common.{◌≡◌, ℕ, ◌<◌, ◌==◌, true, false, cond, List, [], ◌∷◌, ◌++◌, length, All, refl, sym, ◌∙◌, ap, subst, append_assoc}
+use Rattle.std.proofs.Common.{◌≡◌, ℕ, ◌==◌, true, false, cond, List, [], ◌∷◌, ◌++◌, All, refl, sym, ◌∙◌, ap, subst, append_assoc}
 use Rattle.std.proofs.lemmas.Bool.{eqb-true}
 use Rattle.std.proofs.lemmas.List.Elements.{All-head, All-tail}
 use Rattle.history_lock.specs.History.{run}
@@ -17,8 +17,8 @@ use Rattle.panel_session.specs.SoFar.{Past}
 use Rattle.panel_session.specs.Turns.{Turn, entries_in}
 use Rattle.panel_session.proofs.TurnOnce.{one_turn_lem}
 use Rattle.panel_session.proofs.TurnExists.{settled_nothing, turn_exists}
-use Rattle.record_replay.specs.Script.{Work, Read, Leave, panel_of}
-use Rattle.record_replay.specs.Replay.{Stand, begun, with_past, behind_turn, turn_line, leave_line, Works, AllWork}
+use Rattle.record_replay.specs.Script.{Work, Read, Leave, Show, IsOfPlant}
+use Rattle.record_replay.specs.Replay.{Stand, begun, with_past, behind_turn, behind_step, turn_line, leave_line, show_line, Works, AllWork}
 use Rattle.record_replay.specs.StandInside.{IsSettled}
 
 -- No history changes the plant.
@@ -58,10 +58,10 @@ settled-turn plant panel turn more stand settled here = record {
   each = settled-with plant panel (turned turn more (stand.pasts panel)) stand.pasts here settled.each;
 }
 
--- and once a panel has left.
-pub settled-leave : (plant : PlantData) (panel : ℕ) (stand : Stand) → IsSettled plant stand → IsSettled plant (record stand { state = (step stand.state (requests.Leave panel)).state })
-settled-leave plant panel stand settled = record {
-  plant_is = plant-step stand.state (requests.Leave panel) ∙ settled.plant_is;
+-- and behind one step that no session asks for.
+pub settled-step : (plant : PlantData) (request : Request) (stand : Stand) → IsSettled plant stand → IsSettled plant (behind_step request stand)
+settled-step plant request stand settled = record {
+  plant_is = plant-step stand.state request ∙ settled.plant_is;
   each = settled.each;
 }
 
@@ -82,7 +82,7 @@ AllWork-append plant (work ∷ works) later stand mid last text rest done more =
 )
 
 -- Each work can be done where each session is between two turns, and then each is again.
-work_exists : (plant : PlantData) (work : Work) (stand : Stand) → IsSettled plant stand → panel_of work < length plant.panels
+work_exists : (plant : PlantData) (work : Work) (stand : Stand) → IsSettled plant stand → IsOfPlant plant work
     → (line : List ℕ) × (next : Stand) × Works plant work stand line next × IsSettled plant next
 work_exists plant (Read panel piece) stand settled has =
     let made = turn_exists step Fits plant panel (stand.pasts panel) stand.state piece has (settled.each panel)
@@ -93,14 +93,17 @@ work_exists plant (Read panel piece) stand settled has =
       settled-turn plant panel made.0 made.1 stand settled made.4,
     )
 work_exists plant (Leave panel) stand settled has =
-    (leave_line panel, record stand { state = (step stand.state (requests.Leave panel)).state }, (refl, refl), settled-leave plant panel stand settled)
+    (leave_line panel, behind_step (requests.Leave panel) stand, (refl, refl), settled-step plant (requests.Leave panel) stand settled)
+work_exists plant (Show screen refresh) stand settled has =
+    let poll = requests.DisplayPoll screen refresh in
+    (show_line plant screen (step stand.state poll).answers, behind_step poll stand, (refl, refl), settled-step plant poll stand settled)
 
--- All works of the plant's panels can be done, one after the other.
-pub works_exist : (plant : PlantData) (works : List Work) (stand : Stand) → IsSettled plant stand → All (λ work. panel_of work < length plant.panels) works
+-- All works of the plant can be done, one after the other.
+pub works_exist : (plant : PlantData) (works : List Work) (stand : Stand) → IsSettled plant stand → All (IsOfPlant plant) works
     → (output : List ℕ) × (last : Stand) × AllWork plant works stand output last × IsSettled plant last
 works_exist plant [] stand settled has = ([], stand, (refl, refl), settled)
 works_exist plant (work ∷ works) stand settled has =
-    let Has : Work → Type 0 = λ work. panel_of work < length plant.panels in
+    let Has : Work → Type 0 = IsOfPlant plant in
     let one = work_exists plant work stand settled (All-head Has work works has) in
     let later = works_exist plant works one.1 one.3 (All-tail Has work works has) in
     (one.0 ++ later.0, later.1, (one.1, one.0, later.0, one.2, later.2, refl), later.3)
@@ -114,6 +117,7 @@ one_done plant (Read panel piece) stand line other next then done done' =
       done.5 ∙ (λ i. behind_turn panel (same.0 i) (same.1 i) stand) ∙ sym done'.5,
     )
 one_done plant (Leave panel) stand line other next then done done' = (done.0 ∙ sym done'.0, done.1 ∙ sym done'.1)
+one_done plant (Show screen refresh) stand line other next then done done' = (done.0 ∙ sym done'.0, done.1 ∙ sym done'.1)
 
 -- and so are works.
 pub one_output : (plant : PlantData) (works : List Work) (stand last other : Stand) (a b : List ℕ) → AllWork plant works stand a last → AllWork plant works stand b other

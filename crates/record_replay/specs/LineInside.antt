@@ -1,12 +1,13 @@
 -- What the code finds in a line.
-use Rattle.std.specs.Prelude.{◌≡◌, ℕ, ◌<◌, ◌≤◌, true, false, List, ◌∷◌, ◌++◌, length, Ok}
+use Rattle.std.specs.Prelude.{◌≡◌, ℕ, ◌<◌, ◌≤◌, Bool, true, false, List, ◌∷◌, ◌++◌, length, Ok}
 use Rattle.hex.specs.Hex.{decode_of}
 use Rattle.plant_config.specs.Plant.{PlantData}
+use Rattle.change_boards.specs.Screens.{has_screen}
 use Rattle.record_replay.specs.declared.line.Line as code
 use Rattle.record_replay.specs.declared.line.Line.TheVariants as found
 use Rattle.swp08_messages.specs.declared.message.Message.{Message}
 use Rattle.record_replay.specs.Take.{message_frame}
-use Rattle.record_replay.specs.Script.{Work, Read, Leave, space, tab, is_skipped, lines, worked, HasNo, NumberSpells, HexSpells, take_parts, Asks, LineSpells, LinesSpell}
+use Rattle.record_replay.specs.Script.{Work, Read, Leave, Show, space, tab, is_skipped, lines, worked, HasNo, NumberSpells, HexSpells, take_parts, Asks, LineSpells, LinesSpell}
 
 -- A text is cut at the first of this byte.
 pub record IsCut (byte : ℕ) (text front behind : List ℕ) : Type 0 where
@@ -24,6 +25,14 @@ SpellsNoPanel plant text =
 
 abbrev pub SpellsPanel : PlantData → List ℕ → ℕ → Type 0
 SpellsPanel plant text panel = NumberSpells text panel × (panel < length plant.panels)
+
+-- So of a screen that a display of the plant is on.
+abbrev pub SpellsNoScreen : PlantData → List ℕ → Type 0
+SpellsNoScreen plant text =
+    (number : ℕ) → NumberSpells text number → has_screen plant number ≡ true → ⊥
+
+abbrev pub SpellsScreen : PlantData → List ℕ → ℕ → Type 0
+SpellsScreen plant text screen = NumberSpells text screen × (has_screen plant screen ≡ true)
 
 -- Digits without spaces are the hexadecimal of no bytes.
 abbrev pub IsNoHex : List ℕ → Type 0
@@ -97,3 +106,15 @@ abbrev pub IsFound : PlantData → List ℕ → code.Line → List ℕ → Type 
 IsFound plant line found.Skipped bytes = is_skipped line ≡ true
 IsFound plant line (found.Read panel) bytes = IsWork plant line (Read panel bytes)
 IsFound plant line (found.Leave panel) bytes = IsWork plant line (Leave panel)
+IsFound plant line (found.Show screen refresh) bytes = IsWork plant line (Show screen refresh)
+
+-- What was found in a line is a display poll that it spells; or it spells none.
+abbrev pub IsShow : PlantData → List ℕ → code.Line → Type 0
+IsShow plant line found.Skipped = ⊥
+IsShow plant line (found.Read panel) = ⊥
+IsShow plant line (found.Leave panel) = ⊥
+IsShow plant line (found.Show screen refresh) = LineSpells plant line (Show screen refresh)
+
+abbrev pub IsNoShow : PlantData → List ℕ → Type 0
+IsNoShow plant line =
+    (screen : ℕ) (refresh : Bool) → LineSpells plant line (Show screen refresh) → ⊥

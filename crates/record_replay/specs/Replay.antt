@@ -4,15 +4,19 @@ use Rattle.std.specs.Fmt.{decimal}
 use Rattle.hex.specs.Hex.{encode_upper}
 use Rattle.history_lock.specs.History.{run}
 use Rattle.plant_config.specs.Plant.{PlantData}
+use Rattle.plant_core.specs.declared.request.Request.{Request}
 use Rattle.plant_core.specs.declared.request.Request.TheVariants as requests
+use Rattle.plant_core.specs.declared.answer.Answer.{Answer}
+use Rattle.plant_core.specs.declared.answer.Answer.TheVariants.{Finished}
 use Rattle.plant_core.specs.State.{State, Fits, start}
 use Rattle.plant_core.specs.Step.{step}
+use Rattle.panel_session.specs.DisplayPacket.{packet_of}
 use Rattle.panel_session.specs.Run.{IsWorked, turned}
 use Rattle.panel_session.specs.SoFar.{Past, nothing_yet}
 use Rattle.panel_session.specs.Turns.{Turn, entries_in}
 use Rattle.record_replay.specs.declared.replay.ReplayFault.{ReplayFault}
 use Rattle.record_replay.specs.declared.replay.ReplayFault.TheVariants.{NoMemory, BadLine, OutputFault}
-use Rattle.record_replay.specs.Script.{Work, Read, Leave, line_feed, lines, worked, LinesSpell}
+use Rattle.record_replay.specs.Script.{Work, Read, Leave, Show, line_feed, lines, worked, LinesSpell}
 
 -- bytes in the output: in hexadecimal, or `-` where there are none
 abbrev pub shown : List ℕ → List ℕ
@@ -26,6 +30,20 @@ turn_line panel bytes = codes "< " ++ decimal panel ++ codes " " ++ shown bytes 
 -- the output line of a panel that leaves
 abbrev pub leave_line : ℕ → List ℕ
 leave_line panel = codes "leave " ++ decimal panel ++ line_feed ∷ []
+
+-- the answers to a display poll of a screen, in the output: `quiet` where there are none, `finished`, or the packet of the
+-- lamps in hexadecimal
+abbrev pub polled_text : PlantData → ℕ → List Answer → List ℕ
+polled_text plant screen [] = codes "quiet"
+polled_text plant screen (Finished ∷ others) = codes "finished"
+polled_text plant screen (answer ∷ others) =
+    encode_upper (packet_of plant screen (answer ∷ others))
+
+-- the output line of a display poll of a screen, which was answered so
+abbrev pub show_line : PlantData → ℕ → List Answer → List ℕ
+show_line plant screen answers =
+    codes "* " ++ decimal screen ++ codes " " ++ polled_text plant screen answers
+    ++ line_feed ∷ []
 
 -- Where a replay stands: the one plant's state, and what the session of each panel has done so far.
 pub record Stand : Type 0 where
@@ -47,8 +65,13 @@ behind_turn panel turn more stand = record {
   pasts = with_past panel (turned turn more (stand.pasts panel)) stand.pasts;
 }
 
+-- where it stands behind one step of the plant that no session asks for
+abbrev pub behind_step : Request → Stand → Stand
+behind_step request stand = record stand { state = (step stand.state request).state }
+
 -- A piece of work leads from one stand to the next, with this output line. A turn is worked by the plant, and the line has
--- the bytes that the panel's session sends in it. A leave is one step of the plant.
+-- the bytes that the panel's session sends in it. A leave is one step of the plant, and so is a display poll, whose line has
+-- what it is answered.
 abbrev pub Works : PlantData → Work → Stand → List ℕ → Stand → Type 0
 Works plant (Read panel piece) stand line next =
     (turn : Turn) × (more : List ℕ)
@@ -58,7 +81,10 @@ Works plant (Read panel piece) stand line next =
     × (next ≡ behind_turn panel turn more stand)
 Works plant (Leave panel) stand line next =
     (line ≡ leave_line panel)
-    × (next ≡ record stand { state = (step stand.state (requests.Leave panel)).state })
+    × (next ≡ behind_step (requests.Leave panel) stand)
+Works plant (Show screen refresh) stand line next =
+    (line ≡ show_line plant screen (step stand.state (requests.DisplayPoll screen refresh)).answers)
+    × (next ≡ behind_step (requests.DisplayPoll screen refresh) stand)
 
 -- Works that are done one after the other lead from one stand to another, with these output lines.
 abbrev pub AllWork : PlantData → List Work → Stand → List ℕ → Stand → Type 0

@@ -4,18 +4,27 @@ use Rattle.std.specs.List.{fold}
 use Rattle.hex.specs.Hex.{decode_of}
 use Rattle.swp08_messages.specs.declared.message.Message.{Message}
 use Rattle.plant_config.specs.Plant.{PlantData}
+use Rattle.change_boards.specs.Screens.{has_screen}
 use Rattle.record_replay.specs.Take.{connect_named, message_frame}
 
--- A piece of a script's work. A panel's session has one turn with this piece, which is empty where the panel is idle; or
--- the panel leaves.
+-- A piece of a script's work. A panel's session has one turn with this piece, which is empty where the panel is idle; the
+-- panel leaves; or the displays of a screen are polled, with a refresh or without.
 pub data Work : Type 0 where
   Read : (panel : ℕ) (piece : List ℕ) → Work
   Leave : (panel : ℕ) → Work
+  Show : (screen : ℕ) (refresh : Bool) → Work
 
--- whose work it is
-abbrev pub panel_of : Work → ℕ
-panel_of (Read panel piece) = panel
-panel_of (Leave panel) = panel
+-- the number that its line has: that of the panel whose work it is, or that of the screen
+abbrev pub number_in : Work → ℕ
+number_in (Read panel piece) = panel
+number_in (Leave panel) = panel
+number_in (Show screen refresh) = screen
+
+-- The panel is one of the plant's, and the screen one that a display of the plant is on.
+abbrev pub IsOfPlant : PlantData → Work → Type 0
+IsOfPlant plant (Read panel piece) = panel < length plant.panels
+IsOfPlant plant (Leave panel) = panel < length plant.panels
+IsOfPlant plant (Show screen refresh) = has_screen plant screen ≡ true
 
 -- the byte that ends a line
 abbrev pub line_feed : ℕ
@@ -112,19 +121,21 @@ pub record Takes (plant : PlantData) (line digits piece : List ℕ) : Type 0 whe
   pub asks : Asks plant matrix level dest source message
   pub piece_is : piece ≡ message_frame message
 
--- A line has the form of a piece of work of the panel with these digits: `poll P` for an idle turn, `> P HEX` or a take for
--- one with at least one byte, and `leave P`.
+-- A line has the form of a piece of work with these digits: `poll P` for an idle turn of the panel, `> P HEX` or a take for
+-- one with at least one byte, and `leave P`; and `show S` or, with a refresh, `refresh S` for a display poll of the screen.
 abbrev pub HasForm : PlantData → List ℕ → List ℕ → Work → Type 0
 HasForm plant line digits (Read panel []) = line ≡ codes "poll " ++ digits
 HasForm plant line digits (Read panel (byte ∷ bytes)) =
     Sends line digits (byte ∷ bytes) ⊎ Takes plant line digits (byte ∷ bytes)
 HasForm plant line digits (Leave panel) = line ≡ codes "leave " ++ digits
+HasForm plant line digits (Show screen false) = line ≡ codes "show " ++ digits
+HasForm plant line digits (Show screen true) = line ≡ codes "refresh " ++ digits
 
--- A line spells a piece of work of one of the plant's panels.
+-- A line spells a piece of work of the plant.
 pub record LineSpells (plant : PlantData) (line : List ℕ) (work : Work) : Type 0 where
   pub digits : List ℕ
-  pub number : NumberSpells digits (panel_of work)
-  pub has_panel : panel_of work < length plant.panels
+  pub number : NumberSpells digits (number_in work)
+  pub of_plant : IsOfPlant plant work
   pub form : HasForm plant line digits work
   pub within : length line ≤ longest_line
 

@@ -9,7 +9,7 @@ use Rattle.panel_session.specs.Session.{StandsFor}
 use Rattle.panel_session.specs.SoFar.{Past, nothing_yet}
 use Rattle.panel_session.specs.Turns.{bytes_of}
 use Rattle.record_replay.specs.declared.stage.Stage.{Stage}
-use Rattle.record_replay.specs.Script.{Work, Read, Leave, lines, worked, LinesSpell}
+use Rattle.record_replay.specs.Script.{Work, Read, Leave, Show, lines, worked, LinesSpell}
 use Rattle.record_replay.specs.Replay.{Stand, Works, AllWork}
 use Rattle.record_replay.specs.StandInside.{IsSettled}
 
@@ -52,13 +52,14 @@ pub record StandsAt (plant : PlantData) (stage : Stage) (stand : Stand) (used : 
   pub count : length stage.sessions.items ≡ length plant.panels
   pub each : StandForPasts plant stage.sessions.items stand.pasts
   pub small : (panel : ℕ) → IsSmall used (stand.pasts panel)
-  pub none : stage.none.items ≡ []
-  pub places : room_of plant ≤ stage.none.places
+  pub empty : stage.outbox.items ≡ []
+  pub places : room_of plant ≤ stage.outbox.places
 
 -- how many bytes of the script a piece of work needs
 abbrev pub need_of : Work → ℕ
 need_of (Read panel piece) = 2 * at_least_one (ends_in piece)
 need_of (Leave panel) = 0
+need_of (Show screen refresh) = 0
 
 -- A stage stands somewhere, and this much more of a script is still small.
 pub record MayDo (need : ℕ) (plant : PlantData) (stage : Stage) : Type 0 where

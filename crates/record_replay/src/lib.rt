@@ -13,6 +13,7 @@ mod output;
 mod replay;
 mod room;
 mod script;
+mod show;
 mod stage;
 mod take;
 

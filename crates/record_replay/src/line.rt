@@ -3,9 +3,10 @@
 ghost use Rattle.std.specs.Prelude.{◌≡◌, ◌≤◌, length, MatchOption};
 ghost use Rattle.record_replay.specs.Script.{longest_line};
 ghost use Rattle.record_replay.specs.LineInside.{IsTurn, IsNoTurn, IsBad, IsFound};
+ghost use Rattle.record_replay.specs.LineInside.{IsShow, IsNoShow};
 
 use crate::digits::Digits;
-use crate::number::read_panel;
+use crate::number::{read_panel, read_screen};
 use crate::script::{HASH, MAX_LINE, SPACE, split_at};
 use crate::take::read_take;
 use plant_config::{PanelNo, Plant};
@@ -20,6 +21,8 @@ pub(crate) enum Line {
     Read(PanelNo),
     /// That this panel leaves.
     Leave(PanelNo),
+    /// A display poll of this screen, with a refresh or without.
+    Show { screen: u16, refresh: bool },
 }
 
 // What a line asks, `None` where it has no form. It takes no memory.
@@ -55,7 +58,23 @@ pub(crate) fn read_line(
     if let Some(number) = line.strip_prefix(b"leave ") {
         return Some(Line::Leave(read_panel(plant, number)?));
     }
-    None
+    read_show(plant, line)
+}
+
+// The display poll that a line spells, `None` where it spells none.
+fn read_show(plant: &Plant, line: &[u8]) -> Option<Line>
+    requires { length line.now ≤ longest_line }
+    ensures { MatchOption result
+        (IsNoShow plant.now line.now)
+        (IsShow plant.now line.now) }
+{
+    let (number, refresh) = if let Some(number) = line.strip_prefix(b"show ") {
+        (number, false)
+    } else {
+        (line.strip_prefix(b"refresh ")?, true)
+    };
+    let screen = read_screen(plant, number)?;
+    Some(Line::Show { screen, refresh })
 }
 
 // The panel of a turn, of which a line has this behind `> `. The digits take its bytes.

@@ -2,6 +2,7 @@
 
 ghost use Rattle.std.specs.Prelude.{MatchOption};
 ghost use Rattle.record_replay.specs.LineInside.{SpellsNoNumber, SpellsNoPanel, SpellsPanel};
+ghost use Rattle.record_replay.specs.LineInside.{SpellsNoScreen, SpellsScreen};
 ghost use Rattle.plant_config.specs.IsPlant.{IsPlant};
 ghost use Rattle.record_replay.specs.Script.{NumberSpells};
 
@@ -24,6 +25,22 @@ pub(crate) fn read_panel(plant: &Plant, digits: &[u8]) -> Option<PanelNo>
     } else {
         None
     }
+}
+
+// The screen whose number the digits spell, `None` where they spell none that a display of the plant is on.
+pub(crate) fn read_screen(plant: &Plant, digits: &[u8]) -> Option<u16>
+    ensures { MatchOption result
+        (SpellsNoScreen plant.now digits.now)
+        (λ screen. SpellsScreen plant.now digits.now screen) }
+{
+    let displays = plant.displays();
+    let number = read_number(digits)?;
+    for display in displays {
+        if u32::from(display.screen) == number {
+            return Some(display.screen);
+        }
+    }
+    None
 }
 
 // The number that digits spell, `None` where a text isn't one to five digits.

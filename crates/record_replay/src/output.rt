@@ -64,7 +64,7 @@ impl<'k, K: Drain> Output<'k, K> {
     }
 
     // Puts bytes in hexadecimal: one test for room serves them all.
-    fn put_hex(&mut self, bytes: &[u8])
+    pub(crate) fn put_hex(&mut self, bytes: &[u8])
         requires { 2 * length bytes.now ≤ 65536 }
         ensures puts { Puts K.written K.faults (encode_upper bytes.now) self.old self.new }
         ensures some { self.new.some ≡ self.old.some }

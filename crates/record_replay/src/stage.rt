@@ -1,8 +1,10 @@
 //! The plant and the sessions of its panels, while a script is worked.
 
-ghost use Rattle.std.specs.Prelude.{◌≡◌, ℕ, ◌+◌, ◌*◌, ◌<◌, List, [], ◌∷◌, length, IfOk};
+ghost use Rattle.std.specs.Prelude.{◌≡◌, ℕ, ◌+◌, ◌*◌, ◌<◌, true, List, [], ◌∷◌, length, IfOk};
+ghost use Rattle.plant_config.specs.IsPlant.{IsPlant};
+ghost use Rattle.change_boards.specs.Screens.{has_screen};
 ghost use Rattle.record_replay.specs.OutputInside.{Puts};
-ghost use Rattle.record_replay.specs.Script.{Work, Read, Leave, lines, worked, LinesSpell};
+ghost use Rattle.record_replay.specs.Script.{Work, Read, Leave, Show, lines, worked, LinesSpell};
 ghost use Rattle.record_replay.specs.Replay.{begun};
 ghost use Rattle.record_replay.specs.StageInside.{AreNew};
 
@@ -11,6 +13,7 @@ use crate::drain::Drain;
 use crate::line::{Line, read_line};
 use crate::output::Output;
 use crate::script::split_line;
+use crate::show::{PacketRoom, put_show_line};
 use history_lock::OutBox;
 use panel_session::{Session, run_turn};
 use plant_config::{PanelNo, Plant};
@@ -24,8 +27,9 @@ pub(crate) struct Stage<'p> {
     plant: &'p Plant,
     state: PlantState,
     sessions: Vec<Session<'p>>,
-    // Where the plant answers a leave, which has no answer.
-    none: OutBox<Answer>,
+    // Where the plant answers what no session asks for: a leave, which has no answer, and a display poll.
+    outbox: OutBox<Answer>,
+    packet: PacketRoom,
 }
 
 impl<'p> Stage<'p> {
@@ -46,7 +50,8 @@ impl<'p> Stage<'p> {
             plant,
             state: PlantState::start(alloc, plant)?,
             sessions: start_sessions(alloc, plant, names)?,
-            none: OutBox::new(alloc, PlantState::room_of(plant))?,
+            outbox: OutBox::new(alloc, PlantState::room_of(plant))?,
+            packet: PacketRoom::new(alloc)?,
         })
     }
 
@@ -106,6 +111,7 @@ impl<'p> Stage<'p> {
             Line::Skipped => {}
             Line::Read(panel) => self.turn(panel, bytes, out),
             Line::Leave(panel) => self.leave(panel, out),
+            Line::Show { screen, refresh } => self.show(screen, refresh, out),
         }
     }
 
@@ -133,8 +139,27 @@ impl<'p> Stage<'p> {
         ensures { DoesWork self.old.plant.now (Leave panel) self.old self.new
             (λ text. Puts K.written K.faults text out.old out.new) }
     {
-        self.state.step(&Request::Leave { panel }, &mut self.none);
+        self.state.step(&Request::Leave { panel }, &mut self.outbox);
         out.leave_line(panel);
+    }
+
+    // The displays of a screen are polled.
+    fn show<K: Drain>(&mut self, screen: u16, refresh: bool, out: &mut Output<'_, K>)
+        requires screen { has_screen self.old.plant.now screen ≡ true }
+        requires may { MayDo 0 self.old.plant.now self.old }
+        ensures { DoesWork self.old.plant.now (Show screen refresh) self.old self.new
+            (λ text. Puts K.written K.faults text out.old out.new) }
+    {
+        let poll = Request::DisplayPoll { screen, refresh };
+        self.state.step(&poll, &mut self.outbox);
+        put_show_line(
+            self.plant,
+            screen,
+            self.outbox.items(),
+            &mut self.packet,
+            out,
+        );
+        self.outbox.clear();
     }
 }
 
@@ -145,7 +170,8 @@ fn start_sessions<'p>(
     names: &'p Names,
 ) -> Result<Vec<Session<'p>>, AllocError>
     requires { names.now ≡ plant.now }
-    ensures { IfOk result (λ sessions. AreNew plant.now sessions.items) }
+    ensures sessions { IfOk result (λ sessions. AreNew plant.now sessions.items) }
+    ensures plant { IsPlant plant.now }
 {
     let panels = plant.panels().len();
     let mut sessions = Vec::with_capacity(alloc, panels)?;

@@ -1,4 +1,5 @@
 //! The tests, by subject.
 
 mod output;
+mod show;
 mod take;

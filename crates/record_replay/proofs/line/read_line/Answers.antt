@@ -1,6 +1,7 @@
 use Rattle.std.proofs.Common.{arith}
 use Rattle.std.specs.Prelude.{codes}
-use Rattle.record_replay.proofs.LineSpellsLemmas.{not_skipped, with_front, no_turn, no_take, no_leave, take_spells}
+use Rattle.record_replay.proofs.LineSpellsLemmas.{not_skipped, with_front, without_front, no_turn, no_take, no_leave, take_spells}
+use Rattle.record_replay.proofs.SpelledLines.{show_found}
 use Rattle.record_replay.proofs.line.read_line.Goals as goal
 
 pub returns-in_err-read_turn : goal.returns-in_err-read_turn
@@ -43,8 +44,17 @@ returns-in-Some-strip_prefix-3 c = (
   record {
     digits = c.in-Some-strip_prefix-3.number.now;
     number = c.in_ok-read_panel-2.ensures.panel.0;
-    has_panel = c.in_ok-read_panel-2.ensures.panel.1;
+    of_plant = c.in_ok-read_panel-2.ensures.panel.1;
     form = with_front (codes "leave ") c.args.line.now c.in-Some-strip_prefix-3.number.now c.in-Some-strip_prefix-3.ensures.cases.0 c.in-Some-strip_prefix-3.ensures.cases.1;
     within = omega (arith, c.if-line-gt-MAX_LINE.false);
   },
 )
+
+pub returns : goal.returns
+returns c =
+    show_found c.args.plant.now c.args.line.now _ c.read_show.result (not_skipped c.args.line.now c.in-len1-up.len_at_least c.if-first-eq-HASH.false)
+    (without_front (codes "> ") c.args.line.now c.in_default-strip_prefix.ensures.cases)
+    (without_front (codes "take ") c.args.line.now c.in_default-strip_prefix-2.ensures.cases)
+    (without_front (codes "poll ") c.args.line.now c.in_default-strip_prefix-3.ensures.cases)
+    (without_front (codes "leave ") c.args.line.now c.in_default-strip_prefix-4.ensures.cases)
+    c.read_show.ensures

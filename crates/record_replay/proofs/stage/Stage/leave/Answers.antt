@@ -1,11 +1,14 @@
 use Rattle.std.proofs.Common.{refl}
+use Rattle.plant_core.specs.declared.request.Request.TheVariants as requests
+use Rattle.record_replay.specs.Script.{Leave}
 use Rattle.record_replay.specs.Replay.{leave_line}
-use Rattle.record_replay.proofs.StageLemmas.{leave_done}
+use Rattle.record_replay.proofs.StageLemmas.{step_done}
 use Rattle.record_replay.proofs.stage.Stage.leave.Goals as goal
 
 pub returns : goal.returns
 returns g c = λ stand used stands within. (
   leave_line c.args.panel,
   c.leave_line.ensures,
-  leave_done c.args.self.now.plant.now c.args.panel c.args.self.now _ stand used stands c.step.ensures.state refl refl c.step.ensures.answers c.step.ensures.places,
+  step_done c.args.self.now.plant.now (Leave c.args.panel) (requests.Leave c.args.panel) c.args.self.now _ stand used (leave_line c.args.panel) stands (refl, refl)
+      c.step.ensures.state refl refl c.step.ensures.answers c.step.ensures.places,
 )

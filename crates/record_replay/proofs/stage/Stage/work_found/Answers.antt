@@ -14,7 +14,7 @@ returns-in-Skipped g c = λ line is.
 pub turn-requires-clause-panel : goal.turn-requires-clause-panel
 turn-requires-clause-panel g c =
     let At : code.Line → Type 0 = λ found. IsFound c.args.self.now.plant.now c.requires.0 found c.args.bytes.now in
-    (subst At c.in-Read.is c.requires.1).1.has_panel
+    (subst At c.in-Read.is c.requires.1).1.of_plant
 
 pub turn-requires-clause-may : goal.turn-requires-clause-may
 turn-requires-clause-may g c =
@@ -31,7 +31,7 @@ returns-in-Read g c = λ line is.
 pub leave-requires-clause-panel : goal.leave-requires-clause-panel
 leave-requires-clause-panel g c =
     let At : code.Line → Type 0 = λ found. IsFound c.args.self.now.plant.now c.requires.0 found c.args.bytes.now in
-    (subst At c.in-Leave.is c.requires.1).1.has_panel
+    (subst At c.in-Leave.is c.requires.1).1.of_plant
 
 pub leave-requires-clause-may : goal.leave-requires-clause-may
 leave-requires-clause-may g c =
@@ -44,3 +44,20 @@ returns-in-Leave g c = λ line is.
     let At : code.Line → Type 0 = λ found. IsFound c.args.self.now.plant.now line found c.args.bytes.now in
     let work = subst At c.in-Leave.is is in
     does_line c.args.self.now.plant.now line _ c.args.self.now _ _ work.0 work.1 c.leave.ensures
+
+pub show-requires-clause-screen : goal.show-requires-clause-screen
+show-requires-clause-screen g c =
+    let At : code.Line → Type 0 = λ found. IsFound c.args.self.now.plant.now c.requires.0 found c.args.bytes.now in
+    (subst At c.in-Show.is c.requires.1).1.of_plant
+
+pub show-requires-clause-may : goal.show-requires-clause-may
+show-requires-clause-may g c =
+    let At : code.Line → Type 0 = λ found. IsFound c.args.self.now.plant.now c.requires.0 found c.args.bytes.now in
+    let work = subst At c.in-Show.is c.requires.1 in
+    may_less _ _ c.args.self.now.plant.now c.args.self.now (need_within c.args.self.now.plant.now c.requires.0 _ work.1) c.requires.2
+
+pub returns-in-Show : goal.returns-in-Show
+returns-in-Show g c = λ line is.
+    let At : code.Line → Type 0 = λ found. IsFound c.args.self.now.plant.now line found c.args.bytes.now in
+    let work = subst At c.in-Show.is is in
+    does_line c.args.self.now.plant.now line _ c.args.self.now _ _ work.0 work.1 c.show.ensures
