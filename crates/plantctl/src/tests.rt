@@ -1,5 +1,6 @@
 //! Runs over files and an output in memory, by subject.
 
+mod day;
 mod ends;
 mod frames;
 mod limits;
