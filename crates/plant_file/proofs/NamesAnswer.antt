@@ -1,5 +1,5 @@
 -- What arrays of names answer, and the default names behind them.
-use Rattle.std.proofs.Common.{◌≡◌, ℕ, pos, ◌+◌, ◌-◌, ◌<◌, ◌≤◌, suc, length, map, filter_map, List, [], ◌∷◌, ◌++◌, Option, Some, None, Result, Ok, Err, refl, ap, sym, ◌∙◌, append_assoc, append-nil, inl, inr, arith}
+use Rattle.std.proofs.Common.{◌≡◌, ℕ, pos, ◌+◌, ◌-◌, ◌<◌, suc, length, map, filter_map, List, [], ◌∷◌, ◌++◌, Some, None, Result, Ok, Err, refl, ap, sym, ◌∙◌, append_assoc, append-nil, inl, inr, arith}
 use Rattle.std.specs.List.{cons_option}
 use Rattle.std.proofs.lemmas.List.{length_push, length-map}
 use Rattle.toml.specs.Data.{Data, string, integer, float, boolean, datetime, array, table, Members, as_array, as_str}

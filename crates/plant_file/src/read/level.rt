@@ -29,7 +29,7 @@ pub(crate) fn read_level(alloc: Global, entry: &Entry) -> Result<LevelEntry, Pla
         Field::SourceNames,
         Field::Sources,
         sources,
-        "S",
+        b'S',
     )?;
     let destination_names = names(
         alloc,
@@ -37,7 +37,7 @@ pub(crate) fn read_level(alloc: Global, entry: &Entry) -> Result<LevelEntry, Pla
         Field::DestinationNames,
         Field::Destinations,
         destinations,
-        "D",
+        b'D',
     )?;
     Ok(LevelEntry {
         matrix,

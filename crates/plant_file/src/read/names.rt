@@ -1,11 +1,11 @@
 //! Names in an array, and the default names behind them.
 
-ghost use Rattle.std.specs.Prelude.{◌≡◌, ◌<◌, length, IfOk, Some};
+ghost use Rattle.std.specs.Prelude.{◌≡◌, ◌<◌, [], ◌∷◌, IfOk, Some};
 ghost use Rattle.toml.specs.Data.{array};
 ghost use Rattle.toml.specs.View.{view, table_view};
 ghost use Rattle.plant_file.specs.Rows.{key, Names, no_names};
 ghost use Rattle.plant_file.specs.Document.{found_at, number_in};
-ghost use Rattle.plant_file.specs.Reading.{default_name, names_of};
+ghost use Rattle.plant_file.specs.Reading.{names_of};
 ghost use Rattle.plant_file.specs.FirstFault.{Answers};
 ghost use Rattle.plant_file.specs.ReadingInside.{read_as, key_answer, texts_answer};
 ghost use Rattle.plant_file.specs.ReadingInside.{names_answer, names_in};
@@ -17,30 +17,14 @@ use crate::read::values::{range_fault, words};
 use std::alloc::{AllocError, Global};
 use toml::Value;
 
-// The name of the thing of this number: a letter and the number.
-fn default_name(alloc: Global, letter: &str, number: u32) -> Result<Name, AllocError>
-    requires letter { length letter.now ≡ 1 }
-    requires number { number < 10000 }
-    ensures { IfOk result (λ name. name ≡ default_name letter.now number) }
-{
-    let text = format!(in alloc; "{letter}{number}")?;
-    Ok(Name::of(text.as_bytes()))
-}
-
 // Names of the first of so many things, with default names for the others.
-fn with_defaults(
-    alloc: Global,
-    mut names: Vec<Name>,
-    letter: &str,
-    count: u32,
-) -> Result<Vec<Name>, AllocError>
-    requires letter { length letter.now ≡ 1 }
-    requires count { count < 10000 }
-    ensures { IfOk result (λ all. all.items ≡ names_of letter.now count names.items) }
+fn with_defaults(mut names: Vec<Name>, letter: u8, count: u32) -> Result<Vec<Name>, AllocError>
+    requires { count < 10000 }
+    ensures { IfOk result (λ all. all.items ≡ names_of (letter ∷ []) count names.items) }
 {
     let first = names.len();
     for number in first..count as usize {
-        names.push(default_name(alloc, letter, number as u32)?)?;
+        names.push(Name::numbered(letter, number as u16))?;
     }
     Ok(names)
 }
@@ -79,19 +63,18 @@ pub(crate) fn names(
     field: Field,
     limit: Field,
     count: u32,
-    letter: &str,
+    letter: u8,
 ) -> Result<Vec<Name>, PlantFault>
-    requires letter { length letter.now ≡ 1 }
     requires count { count < 10000 }
     requires limit { number_in (found_at limit (table_view entry.now.table.now)) ≡ count }
     ensures { Answers (read_as (λ names. names.items) result)
-        (key_answer (names_in letter.now count) entry.now.section entry.now.number
+        (key_answer (names_in (letter ∷ []) count) entry.now.section entry.now.number
         (table_view entry.now.table.now)
         (key field (Names limit) no_names)) }
 {
     let Some(value) = entry.found(field) else {
-        return Ok(with_defaults(alloc, Vec::new(alloc), letter, count)?);
+        return Ok(with_defaults(Vec::new(alloc), letter, count)?);
     };
     let given = name_array(alloc, entry.place(field), value, count)?;
-    Ok(with_defaults(alloc, given, letter, count)?)
+    Ok(with_defaults(given, letter, count)?)
 }

@@ -8,9 +8,9 @@ pub loop-number-preserved : goal.loop-number-preserved
 loop-number-preserved c =
     let names = c.loop-number.names.items in
     let counted = c.loop-number.invariant.counted in
-    let items : c.push.new.self.items ≡ names ++ default_name c.args.letter.now (length names) ∷ [] =
-    c.in_ok-push.ensures.items ∙ ap (λ (name : List ℕ). names ++ name ∷ []) (c.in_ok-default_name.ensures ∙ ap (default_name c.args.letter.now) (sym counted)) in
+    let items : c.push.new.self.items ≡ names ++ default_name (c.args.letter ∷ []) (length names) ∷ [] =
+    c.in_ok-push.ensures.items ∙ ap (λ (name : List ℕ). names ++ name ∷ []) (c.numbered.ensures ∙ ap (default_name (c.args.letter ∷ [])) (sym counted)) in
     record {
-      counted = rw (items, length_push names (default_name c.args.letter.now (length names))) (omega arith);
-      same = rw items (names_of-more c.args.letter.now c.args.count names (omega arith) ∙ c.loop-number.invariant.same);
+      counted = rw (items, length_push names (default_name (c.args.letter ∷ []) (length names))) (omega arith);
+      same = rw items (names_of-more (c.args.letter ∷ []) c.args.count names (omega arith) ∙ c.loop-number.invariant.same);
     }
