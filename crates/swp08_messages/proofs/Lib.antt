@@ -1,5 +1,6 @@
 pub mod FieldLemmas
 pub mod HeldLemmas
+pub mod ViewLemmas
 pub mod SpelledLemmas
 pub mod LayoutLemmas
 pub mod NamesLemmas

@@ -6,3 +6,4 @@ pub mod Refused
 pub mod Dump
 pub mod Laws
 pub mod ReadingInside
+pub mod ViewsInside

@@ -1,7 +1,7 @@
 //! The messages of crosspoints, commands 1 to 4 of SW-P-08: the fields that they are written with, and how their bytes
 //! are read.
 
-ghost use Rattle.std.specs.Prelude.{◌≡◌};
+ghost use Rattle.std.specs.Prelude.{◌≡◌, map};
 ghost use Rattle.swp08_messages.specs.Row.{destination, crosspoint};
 ghost use Rattle.swp08_messages.specs.ReadingInside.{crosspoint_message};
 
@@ -9,7 +9,7 @@ use crate::behind::{point_at, source_in};
 use crate::field::Field;
 use crate::message::Message;
 use crate::point::Point;
-use crate::row::Fields;
+use crate::view::{View, Views};
 
 pub(crate) const INTERROGATE: u8 = 1;
 
@@ -20,25 +20,27 @@ pub(crate) const TALLY: u8 = 3;
 pub(crate) const CONNECTED: u8 = 4;
 
 /// The fields of a destination.
-pub(crate) fn destination(at: Point) -> Fields
-    ensures { result.items ≡ destination at }
+#[inline(always)]
+pub(crate) fn destination<V: View>(at: Point) -> Views<V>
+    ensures { result.items ≡ map V.view_of (destination at) }
 {
-    let mut fields = Fields::new();
-    fields.push(Field::MatrixLevel(at.matrix, at.level));
-    fields.push(Field::DestHigh(at.dest));
-    fields.push(Field::DestLow(at.dest));
+    let mut fields = Views::new();
+    fields.push(V::of(Field::MatrixLevel(at.matrix, at.level)));
+    fields.push(V::of(Field::DestHigh(at.dest)));
+    fields.push(V::of(Field::DestLow(at.dest)));
     fields
 }
 
 /// The fields of a destination and the source at it.
-pub(crate) fn crosspoint(at: Point, source: Option<u16>) -> Fields
-    ensures { result.items ≡ crosspoint at source }
+#[inline(always)]
+pub(crate) fn crosspoint<V: View>(at: Point, source: Option<u16>) -> Views<V>
+    ensures { result.items ≡ map V.view_of (crosspoint at source) }
 {
-    let mut fields = Fields::new();
-    fields.push(Field::MatrixLevel(at.matrix, at.level));
-    fields.push(Field::CrosspointHigh(at.dest, source));
-    fields.push(Field::DestLow(at.dest));
-    fields.push(Field::SourceLow(source));
+    let mut fields = Views::new();
+    fields.push(V::of(Field::MatrixLevel(at.matrix, at.level)));
+    fields.push(V::of(Field::CrosspointHigh(at.dest, source)));
+    fields.push(V::of(Field::DestLow(at.dest)));
+    fields.push(V::of(Field::SourceLow(source)));
     fields
 }
 

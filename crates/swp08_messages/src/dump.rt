@@ -1,6 +1,6 @@
 //! Dumps of a level, commands 21 and 23 of this project's profile: how one is asked for, and the pages that answer it.
 
-ghost use Rattle.std.specs.Prelude.{◌≡◌, ◌+◌, ◌/◌, ◌%◌, ◌<◌, ◌≤◌, [], ◌∷◌, ◌++◌, length};
+ghost use Rattle.std.specs.Prelude.{◌≡◌, ◌+◌, ◌/◌, ◌%◌, ◌<◌, ◌≤◌, [], ◌∷◌, ◌++◌, length, map};
 ghost use Rattle.std.specs.Prelude.{All, vec_len, vec_capacity};
 ghost use Rattle.std.specs.List.{flat_map};
 ghost use Rattle.swp08_messages.specs.Field.{levels, dests, number_of, IsSource};
@@ -11,7 +11,7 @@ ghost use Rattle.swp08_messages.specs.ReadingInside.{dump_message};
 use crate::behind::{level_in, matrix_in};
 use crate::field::{Field, WHOLE_PART, number, place_byte};
 use crate::message::Message;
-use crate::row::Fields;
+use crate::view::{View, Views};
 
 pub(crate) const DUMP_ASK: u8 = 21;
 
@@ -19,11 +19,12 @@ pub(crate) const DUMP_ASK: u8 = 21;
 const DUMP: u8 = 23;
 
 /// The fields of a level.
-pub(crate) fn one_level(matrix: u8, level: u8) -> Fields
-    ensures { result.items ≡ one_level matrix level }
+#[inline(always)]
+pub(crate) fn one_level<V: View>(matrix: u8, level: u8) -> Views<V>
+    ensures { result.items ≡ map V.view_of (one_level matrix level) }
 {
-    let mut fields = Fields::new();
-    fields.push(Field::MatrixLevel(matrix, level));
+    let mut fields = Views::new();
+    fields.push(V::of(Field::MatrixLevel(matrix, level)));
     fields
 }
 

@@ -1,9 +1,10 @@
 //! One byte behind a command: what it says, how it is written, and which bytes it may have.
 
-ghost use Rattle.std.specs.Prelude.{◌≡◌, ◌↔◌, ◌<◌, ◌/◌, ◌%◌, IsTrue};
+ghost use Rattle.std.specs.Prelude.{◌≡◌, ◌↔◌, ◌<◌, ◌≤◌, ◌+◌, ◌*◌, ◌/◌, ◌%◌, IsTrue};
 ghost use Rattle.swp08_messages.specs.declared.field.Field.TheVariants.{MatrixLevel};
-ghost use Rattle.swp08_messages.specs.Field.{byte_of, HasRoom, IsSource, number_of, levels, dests};
+ghost use Rattle.swp08_messages.specs.Field.{byte_of, HasRoom, number_of, levels};
 ghost use Rattle.swp08_messages.specs.ReadingInside.{limit_of};
+ghost use Rattle.swp08_messages.specs.ViewsInside.{has_room, written};
 
 use crate::go_status::GoStatus;
 use crate::point::{PARKED, is_source};
@@ -79,17 +80,12 @@ pub(crate) enum Field {
     EntryValidity(Validity),
 }
 
-impl Default for Field {
-    // What stands in the unused places of a row.
-    fn default() -> Field {
-        Field::DestLow(0)
-    }
-}
-
 impl Field {
     /// Whether the values are in their ranges.
+    #[inline(always)]
     pub(crate) fn has_room(self) -> bool
-        ensures { IsTrue result ↔ HasRoom self }
+        ensures test { result ≡ has_room self }
+        ensures range { IsTrue result ↔ HasRoom self }
     {
         match self {
             Field::MatrixLevel(matrix, level) => matrix < LEVELS && level < LEVELS,
@@ -107,35 +103,44 @@ impl Field {
         }
     }
 
-    /// The byte as it is written.
+    /// The byte as it is written. Of values out of their ranges it is the low eight bits of what they give.
+    #[inline(always)]
     pub(crate) fn byte(self) -> u8
-        requires { HasRoom self }
+        ensures { result ≡ written self }
+    {
+        (self.wide_byte() % WHOLE_PART) as u8
+    }
+
+    // The byte as it is written, or what is above each byte where values are out of their ranges.
+    #[inline(always)]
+    fn wide_byte(self) -> u16
         ensures { result ≡ byte_of self }
     {
         match self {
-            Field::MatrixLevel(matrix, level) => place_byte(matrix, level),
-            Field::Matrix(matrix) => place_byte(matrix, 0),
+            Field::MatrixLevel(matrix, level) => place_number(matrix, level),
+            Field::Matrix(matrix) => place_number(matrix, 0),
             Field::DestHigh(dest) => high_part(dest) * 16,
             Field::CrosspointHigh(dest, source) => high_part(dest) * 16 + high_part(number(source)),
             Field::DestLow(dest) => low_part(dest),
             Field::SourceLow(source) => low_part(number(source)),
-            Field::NameSize(size) => size,
-            Field::NumberHigh(number) => (number / WHOLE_PART) as u8,
-            Field::NumberLow(number) => (number % WHOLE_PART) as u8,
+            Field::NameSize(size) => u16::from(size),
+            Field::NumberHigh(number) => number / WHOLE_PART,
+            Field::NumberLow(number) => number % WHOLE_PART,
             Field::ProtectHigh(dest, device) => high_part(dest) * 16 + high_part(device),
             Field::DeviceLow(device) => low_part(device),
             Field::SpareLow => 0,
-            Field::Details(owned) => u8::from(owned),
-            Field::Salvo(salvo) => salvo,
-            Field::Operation(clear) => u8::from(clear),
-            Field::Status(status) => status.number(),
-            Field::Index(index) => index,
-            Field::EntryValidity(validity) => validity.number(),
+            Field::Details(owned) => u16::from(owned),
+            Field::Salvo(salvo) => u16::from(salvo),
+            Field::Operation(clear) => u16::from(clear),
+            Field::Status(status) => u16::from(status.number()),
+            Field::Index(index) => u16::from(index),
+            Field::EntryValidity(validity) => u16::from(validity.number()),
         }
     }
 
     /// The least number that is no value of the byte: a low part has seven bits, and what is counted ends with its count.
     /// Any other byte has all of its values.
+    #[inline(always)]
     pub(crate) fn limit(self) -> u16
         ensures { result ≡ limit_of self }
     {
@@ -161,27 +166,35 @@ pub(crate) fn place_byte(matrix: u8, level: u8) -> u8
     requires level { level < levels }
     ensures { result ≡ byte_of (MatrixLevel matrix level) }
 {
-    matrix * 16 + level
+    place_number(matrix, level) as u8
+}
+
+#[inline(always)]
+fn place_number(matrix: u8, level: u8) -> u16
+    ensures { result ≡ matrix * 16 + level }
+{
+    u16::from(matrix) * 16 + u16::from(level)
 }
 
 /// The number that stands for a source.
+#[inline(always)]
 pub(crate) fn number(source: Option<u16>) -> u16
-    requires { IsSource source }
-    ensures number { result ≡ number_of source }
-    ensures below { result < dests }
+    ensures { result ≡ number_of source }
 {
     source.unwrap_or(PARKED)
 }
 
-fn high_part(number: u16) -> u8
-    requires { number < dests }
-    ensures { result ≡ number / 128 }
+#[inline(always)]
+fn high_part(number: u16) -> u16
+    ensures part { result ≡ number / 128 }
+    ensures most { result ≤ 511 }
 {
-    (number / PART) as u8
+    number / PART
 }
 
-fn low_part(number: u16) -> u8
+#[inline(always)]
+fn low_part(number: u16) -> u16
     ensures { result ≡ number % 128 }
 {
-    (number % PART) as u8
+    number % PART
 }

@@ -18,6 +18,7 @@ mod protects;
 mod row;
 mod salvos;
 mod validity;
+mod view;
 
 pub use dump::write_dump;
 pub use fault::ReadFault;

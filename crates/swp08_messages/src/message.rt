@@ -14,6 +14,7 @@ ghost use Rattle.swp08_messages.specs.ReadingInside.{message_of};
 use crate::fault::ReadFault;
 use crate::go_status::GoStatus;
 use crate::point::Point;
+use crate::row::{all_hold, are_same, push_all};
 use crate::validity::Validity;
 use crate::{crosspoints, dump, names, protects, salvos};
 
@@ -160,7 +161,7 @@ impl Message {
     pub fn in_range(&self) -> bool
         ensures { IsTrue result ↔ InRange self.now }
     {
-        self.row().in_range()
+        all_hold(self.fields::<bool>().as_slice())
     }
 
     /// The message that DATA spells, or the first fault. Bits 3 and 7 of the multiplier are not looked at, nor are bits 0
@@ -180,7 +181,7 @@ impl Message {
         let Some(message) = read_behind(*command, behind) else {
             return Err(ReadFault::UnknownCommand(*command));
         };
-        match message.row().fault(behind) {
+        match message.fault(behind) {
             None => Ok(message),
             Some(fault) => Err(fault),
         }
@@ -200,7 +201,7 @@ impl Message {
         let Ok(message) = Message::read(bytes) else {
             return None;
         };
-        if message.row().is_text(behind) {
+        if are_same(behind, message.fields::<u8>().as_slice()) {
             Some(message)
         } else {
             None
@@ -214,7 +215,8 @@ impl Message {
         ensures text { out.new.items ≡ out.old.items ++ text self.now }
         ensures room { vec_capacity out.new ≡ vec_capacity out.old }
     {
-        self.row().write(out);
+        out.push_reserved(self.command());
+        push_all(self.fields::<u8>().as_slice(), out);
     }
 }
 

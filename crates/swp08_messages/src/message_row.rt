@@ -1,6 +1,7 @@
-//! Each message's row: its command, what it is for, and what the bytes behind the command say.
+//! Each message's row: its command, what it is for, and what the bytes behind the command say. What of these bytes is wanted
+//! is made at once, field by field.
 
-ghost use Rattle.std.specs.Prelude.{◌≡◌};
+ghost use Rattle.std.specs.Prelude.{◌≡◌, map};
 ghost use Rattle.swp08_messages.specs.declared.message.MessageKind.TheVariants.{Names};
 ghost use Rattle.swp08_messages.specs.Row.{row};
 ghost use Rattle.swp08_messages.specs.Text.{kind_of};
@@ -17,27 +18,15 @@ use crate::protects::{
     PROTECT_ASK, PROTECT_CONNECT, PROTECT_CONNECTED, PROTECT_DISCONNECT, PROTECT_DISCONNECTED,
     PROTECT_TALLY, protect, protect_told,
 };
-use crate::row::{Fields, Row};
 use crate::salvos::{
     ENTRY, ENTRY_ASK, GO, GO_DONE, STORE, STORED, entry, entry_ask, go, go_done, stored,
 };
+use crate::view::{View, Views};
 
 impl Message {
-    /// The row of the message.
-    pub(crate) fn row(&self) -> Row
-        ensures command { result.command ≡ (row self.now).command }
-        ensures fields { result.fields.items ≡ (row self.now).fields }
-        ensures spare { result.spare.items ≡ (row self.now).spare }
-    {
-        Row {
-            command: self.command(),
-            fields: self.fields(),
-            spare: self.spare(),
-        }
-    }
-
-    // The command of the message.
-    fn command(&self) -> u8
+    /// The command of the message.
+    #[inline(always)]
+    pub(crate) fn command(&self) -> u8
         ensures { result ≡ (row self.now).command }
     {
         match self {
@@ -87,9 +76,10 @@ impl Message {
         }
     }
 
-    // What the bytes behind the command say, in order.
-    fn fields(&self) -> Fields
-        ensures { result.items ≡ (row self.now).fields }
+    /// What is wanted of the fields behind the command, in order.
+    #[inline(always)]
+    pub(crate) fn fields<V: View>(&self) -> Views<V>
+        ensures { result.items ≡ map V.view_of (row self.now).fields }
     {
         match *self {
             Message::Interrogate { at } | Message::ProtectAsk { at } => destination(at),
@@ -120,9 +110,10 @@ impl Message {
     }
 
     // The same of a message that asks for names.
-    fn name_fields(&self) -> Fields
+    #[inline(always)]
+    fn name_fields<V: View>(&self) -> Views<V>
         requires { kind_of self.now ≡ Names }
-        ensures { result.items ≡ (row self.now).fields }
+        ensures { result.items ≡ map V.view_of (row self.now).fields }
     {
         match *self {
             Message::SourceNamesAsk {
@@ -146,13 +137,13 @@ impl Message {
         }
     }
 
-    // What DATA may have behind these, which is held to its range and isn't kept.
-    fn spare(&self) -> Fields
-        ensures { result.items ≡ (row self.now).spare }
+    /// The same of what DATA may have behind these, which is held to its range and isn't kept.
+    pub(crate) fn spare<V: View>(&self) -> Views<V>
+        ensures { result.items ≡ map V.view_of (row self.now).spare }
     {
-        let mut spare = Fields::new();
+        let mut spare = Views::new();
         if let Message::ProtectAsk { .. } = self {
-            spare.push(Field::SpareLow);
+            spare.push(V::of(Field::SpareLow));
         }
         spare
     }

@@ -1,14 +1,14 @@
 //! The messages that ask for names, commands 100 to 103 of this project's profile: the fields that they are written with,
 //! and how their bytes are read.
 
-ghost use Rattle.std.specs.Prelude.{◌≡◌};
+ghost use Rattle.std.specs.Prelude.{◌≡◌, map};
 ghost use Rattle.swp08_messages.specs.Row.{source_names, source_name, dest_names, dest_name};
 ghost use Rattle.swp08_messages.specs.ReadingInside.{names_message, wide_in};
 
 use crate::behind::{byte_at, level_in, matrix_in};
 use crate::field::{Field, WHOLE_PART};
 use crate::message::Message;
-use crate::row::Fields;
+use crate::view::{View, Views};
 
 pub(crate) const SOURCE_NAMES_ASK: u8 = 100;
 
@@ -19,46 +19,50 @@ pub(crate) const DEST_NAMES_ASK: u8 = 102;
 pub(crate) const DEST_NAME_ASK: u8 = 103;
 
 /// The fields of all sources of a level.
-pub(crate) fn source_names(matrix: u8, level: u8, size: u8) -> Fields
-    ensures { result.items ≡ source_names matrix level size }
+#[inline(always)]
+pub(crate) fn source_names<V: View>(matrix: u8, level: u8, size: u8) -> Views<V>
+    ensures { result.items ≡ map V.view_of (source_names matrix level size) }
 {
-    let mut fields = Fields::new();
-    fields.push(Field::MatrixLevel(matrix, level));
-    fields.push(Field::NameSize(size));
+    let mut fields = Views::new();
+    fields.push(V::of(Field::MatrixLevel(matrix, level)));
+    fields.push(V::of(Field::NameSize(size)));
     fields
 }
 
 /// The fields of a source of a level.
-pub(crate) fn source_name(matrix: u8, level: u8, size: u8, number: u16) -> Fields
-    ensures { result.items ≡ source_name matrix level size number }
+#[inline(always)]
+pub(crate) fn source_name<V: View>(matrix: u8, level: u8, size: u8, number: u16) -> Views<V>
+    ensures { result.items ≡ map V.view_of (source_name matrix level size number) }
 {
-    let mut fields = Fields::new();
-    fields.push(Field::MatrixLevel(matrix, level));
-    fields.push(Field::NameSize(size));
-    fields.push(Field::NumberHigh(number));
-    fields.push(Field::NumberLow(number));
+    let mut fields = Views::new();
+    fields.push(V::of(Field::MatrixLevel(matrix, level)));
+    fields.push(V::of(Field::NameSize(size)));
+    fields.push(V::of(Field::NumberHigh(number)));
+    fields.push(V::of(Field::NumberLow(number)));
     fields
 }
 
 /// The fields of all destinations of a matrix.
-pub(crate) fn dest_names(matrix: u8, size: u8) -> Fields
-    ensures { result.items ≡ dest_names matrix size }
+#[inline(always)]
+pub(crate) fn dest_names<V: View>(matrix: u8, size: u8) -> Views<V>
+    ensures { result.items ≡ map V.view_of (dest_names matrix size) }
 {
-    let mut fields = Fields::new();
-    fields.push(Field::Matrix(matrix));
-    fields.push(Field::NameSize(size));
+    let mut fields = Views::new();
+    fields.push(V::of(Field::Matrix(matrix)));
+    fields.push(V::of(Field::NameSize(size)));
     fields
 }
 
 /// The fields of a destination of a matrix.
-pub(crate) fn dest_name(matrix: u8, size: u8, number: u16) -> Fields
-    ensures { result.items ≡ dest_name matrix size number }
+#[inline(always)]
+pub(crate) fn dest_name<V: View>(matrix: u8, size: u8, number: u16) -> Views<V>
+    ensures { result.items ≡ map V.view_of (dest_name matrix size number) }
 {
-    let mut fields = Fields::new();
-    fields.push(Field::Matrix(matrix));
-    fields.push(Field::NameSize(size));
-    fields.push(Field::NumberHigh(number));
-    fields.push(Field::NumberLow(number));
+    let mut fields = Views::new();
+    fields.push(V::of(Field::Matrix(matrix)));
+    fields.push(V::of(Field::NameSize(size)));
+    fields.push(V::of(Field::NumberHigh(number)));
+    fields.push(V::of(Field::NumberLow(number)));
     fields
 }
 

@@ -1,7 +1,7 @@
 //! The messages of protects, commands 10 to 15 of this project's profile: the fields that they are written with, and how
 //! their bytes are read.
 
-ghost use Rattle.std.specs.Prelude.{◌≡◌};
+ghost use Rattle.std.specs.Prelude.{◌≡◌, map};
 ghost use Rattle.swp08_messages.specs.Row.{protect, protect_told};
 ghost use Rattle.swp08_messages.specs.ReadingInside.{protect_message};
 
@@ -9,7 +9,7 @@ use crate::behind::{byte_at, point_at, second_at};
 use crate::field::Field;
 use crate::message::Message;
 use crate::point::Point;
-use crate::row::Fields;
+use crate::view::{View, Views};
 
 pub(crate) const PROTECT_ASK: u8 = 10;
 
@@ -24,27 +24,29 @@ pub(crate) const PROTECT_DISCONNECT: u8 = 14;
 pub(crate) const PROTECT_DISCONNECTED: u8 = 15;
 
 /// The fields of a destination and a device.
-pub(crate) fn protect(at: Point, device: u16) -> Fields
-    ensures { result.items ≡ protect at device }
+#[inline(always)]
+pub(crate) fn protect<V: View>(at: Point, device: u16) -> Views<V>
+    ensures { result.items ≡ map V.view_of (protect at device) }
 {
-    let mut fields = Fields::new();
-    fields.push(Field::MatrixLevel(at.matrix, at.level));
-    fields.push(Field::ProtectHigh(at.dest, device));
-    fields.push(Field::DestLow(at.dest));
-    fields.push(Field::DeviceLow(device));
+    let mut fields = Views::new();
+    fields.push(V::of(Field::MatrixLevel(at.matrix, at.level)));
+    fields.push(V::of(Field::ProtectHigh(at.dest, device)));
+    fields.push(V::of(Field::DestLow(at.dest)));
+    fields.push(V::of(Field::DeviceLow(device)));
     fields
 }
 
 /// The fields of a destination, whether a device protects it, and which.
-pub(crate) fn protect_told(at: Point, owned: bool, device: u16) -> Fields
-    ensures { result.items ≡ protect_told at owned device }
+#[inline(always)]
+pub(crate) fn protect_told<V: View>(at: Point, owned: bool, device: u16) -> Views<V>
+    ensures { result.items ≡ map V.view_of (protect_told at owned device) }
 {
-    let mut fields = Fields::new();
-    fields.push(Field::MatrixLevel(at.matrix, at.level));
-    fields.push(Field::Details(owned));
-    fields.push(Field::ProtectHigh(at.dest, device));
-    fields.push(Field::DestLow(at.dest));
-    fields.push(Field::DeviceLow(device));
+    let mut fields = Views::new();
+    fields.push(V::of(Field::MatrixLevel(at.matrix, at.level)));
+    fields.push(V::of(Field::Details(owned)));
+    fields.push(V::of(Field::ProtectHigh(at.dest, device)));
+    fields.push(V::of(Field::DestLow(at.dest)));
+    fields.push(V::of(Field::DeviceLow(device)));
     fields
 }
 

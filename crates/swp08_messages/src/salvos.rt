@@ -1,7 +1,7 @@
 //! The messages of salvos, commands 120 to 125 of this project's profile: the fields that they are written with, and how
 //! their bytes are read.
 
-ghost use Rattle.std.specs.Prelude.{◌≡◌};
+ghost use Rattle.std.specs.Prelude.{◌≡◌, map};
 ghost use Rattle.swp08_messages.specs.Row.{stored, go, go_done, entry_ask, entry};
 ghost use Rattle.swp08_messages.specs.ReadingInside.{salvo_message};
 
@@ -11,8 +11,8 @@ use crate::field::Field;
 use crate::go_status::GoStatus;
 use crate::message::Message;
 use crate::point::Point;
-use crate::row::Fields;
 use crate::validity::Validity;
+use crate::view::{View, Views};
 
 pub(crate) const STORE: u8 = 120;
 
@@ -27,57 +27,62 @@ pub(crate) const ENTRY_ASK: u8 = 124;
 pub(crate) const ENTRY: u8 = 125;
 
 /// The fields of a crosspoint and the salvo that it is stored in.
-pub(crate) fn stored(at: Point, source: Option<u16>, salvo: u8) -> Fields
-    ensures { result.items ≡ stored at source salvo }
+#[inline(always)]
+pub(crate) fn stored<V: View>(at: Point, source: Option<u16>, salvo: u8) -> Views<V>
+    ensures { result.items ≡ map V.view_of (stored at source salvo) }
 {
     let mut fields = crosspoint(at, source);
-    fields.push(Field::Salvo(salvo));
+    fields.push(V::of(Field::Salvo(salvo)));
     fields
 }
 
 /// The fields of an operation and the salvo that it is for.
-pub(crate) fn go(clear: bool, salvo: u8) -> Fields
-    ensures { result.items ≡ go clear salvo }
+#[inline(always)]
+pub(crate) fn go<V: View>(clear: bool, salvo: u8) -> Views<V>
+    ensures { result.items ≡ map V.view_of (go clear salvo) }
 {
-    let mut fields = Fields::new();
-    fields.push(Field::Operation(clear));
-    fields.push(Field::Salvo(salvo));
+    let mut fields = Views::new();
+    fields.push(V::of(Field::Operation(clear)));
+    fields.push(V::of(Field::Salvo(salvo)));
     fields
 }
 
 /// The fields of a status and the salvo that has it.
-pub(crate) fn go_done(status: GoStatus, salvo: u8) -> Fields
-    ensures { result.items ≡ go_done status salvo }
+#[inline(always)]
+pub(crate) fn go_done<V: View>(status: GoStatus, salvo: u8) -> Views<V>
+    ensures { result.items ≡ map V.view_of (go_done status salvo) }
 {
-    let mut fields = Fields::new();
-    fields.push(Field::Status(status));
-    fields.push(Field::Salvo(salvo));
+    let mut fields = Views::new();
+    fields.push(V::of(Field::Status(status)));
+    fields.push(V::of(Field::Salvo(salvo)));
     fields
 }
 
 /// The fields of a salvo and a place in it.
-pub(crate) fn entry_ask(salvo: u8, index: u8) -> Fields
-    ensures { result.items ≡ entry_ask salvo index }
+#[inline(always)]
+pub(crate) fn entry_ask<V: View>(salvo: u8, index: u8) -> Views<V>
+    ensures { result.items ≡ map V.view_of (entry_ask salvo index) }
 {
-    let mut fields = Fields::new();
-    fields.push(Field::Salvo(salvo));
-    fields.push(Field::Index(index));
+    let mut fields = Views::new();
+    fields.push(V::of(Field::Salvo(salvo)));
+    fields.push(V::of(Field::Index(index)));
     fields
 }
 
 /// The fields of a crosspoint that stands in a salvo at a place.
-pub(crate) fn entry(
+#[inline(always)]
+pub(crate) fn entry<V: View>(
     at: Point,
     source: Option<u16>,
     salvo: u8,
     index: u8,
     validity: Validity,
-) -> Fields
-    ensures { result.items ≡ entry at source salvo index validity }
+) -> Views<V>
+    ensures { result.items ≡ map V.view_of (entry at source salvo index validity) }
 {
     let mut fields = stored(at, source, salvo);
-    fields.push(Field::Index(index));
-    fields.push(Field::EntryValidity(validity));
+    fields.push(V::of(Field::Index(index)));
+    fields.push(V::of(Field::EntryValidity(validity)));
     fields
 }
 

@@ -1,24 +1,18 @@
-use Rattle.std.proofs.Common.{◌≡◌, ℕ, List, Ok, Err, refl, ap, sym, ◌∙◌, arith}
-use Rattle.swp08_messages.specs.declared.field.Field.{Field}
+use Rattle.std.proofs.Common.{Ok, Err, ap, sym, arith}
 use Rattle.swp08_messages.specs.declared.fault.ReadFault.TheVariants.{UnknownCommand}
 use Rattle.swp08_messages.specs.Spelled.{Spells}
 use Rattle.swp08_messages.specs.Refused.{HasUnknownCommand, IsRefused}
-use Rattle.swp08_messages.specs.ReadingInside.{fault_of}
 use Rattle.swp08_messages.proofs.ReadingLemmas.{one_message}
 use Rattle.swp08_messages.proofs.RefusedLemmas.{not_both, one_fault}
 use Rattle.swp08_messages.proofs.FaultLemmas.{data_ok, data_err, data_unknown, head}
 use Rattle.swp08_messages.proofs.message.Message.read.Goals as goal
 use Rattle.swp08_messages.proofs.message.Message.read.Goals.{In-None, In-Some-fault, In_default-read_behind}
 
-row_fault : (fields spare their_fields their_spare : List Field) (behind : List ℕ) → fields ≡ their_fields → spare ≡ their_spare
-    → fault_of their_fields their_spare behind ≡ fault_of fields spare behind
-row_fault fields spare their_fields their_spare behind f g = rw (← f, ← g) refl
-
 -- DATA of which no byte is wrong spells what was read.
 spells : (c : In-None) → Spells c.args.bytes.now c.in-Some.message
 spells c =
     data_ok c.args.bytes.now c.in-Some.message c.in-len1-up.len_at_least c.in-Some.ensures
-    (row_fault c.row.result.fields.items c.row.result.spare.items _ _ _ c.row.ensures.fields c.row.ensures.spare ∙ sym c.in-None.ensures)
+    (sym c.in-None.ensures)
 
 pub returns-in-None-clause-read : goal.returns-in-None-clause-read
 returns-in-None-clause-read c = spells c
@@ -33,7 +27,7 @@ returns-in-None-clause-only_err c = λ fault refused. absurd (not_both c.args.by
 refused : (c : In-Some-fault) → IsRefused c.args.bytes.now c.in-Some-fault.fault
 refused c =
     data_err c.args.bytes.now c.in-Some.message c.in-Some-fault.fault c.in-len1-up.len_at_least (λ k. omega (arith, c.type_inv.bytes k)) c.in-Some.ensures
-    (row_fault c.row.result.fields.items c.row.result.spare.items _ _ _ c.row.ensures.fields c.row.ensures.spare ∙ sym c.in-Some-fault.ensures)
+    (sym c.in-Some-fault.ensures)
 
 pub returns-in-Some-fault-clause-read : goal.returns-in-Some-fault-clause-read
 returns-in-Some-fault-clause-read c = refused c
