@@ -6,7 +6,7 @@ use Rattle.std.proofs.lemmas.List.{append-nil, append_assoc, length-append, leng
 use Rattle.dle_framing.specs.Numbers.{dle, stx, most_kept}
 use Rattle.dle_framing.specs.declared.framer.Framer.{Framer}
 use Rattle.dle_framing.specs.declared.framer.State.{State}
-use Rattle.dle_framing.specs.declared.framer.State.TheVariants.{Outside, Inside}
+use Rattle.dle_framing.specs.declared.framer.State.TheVariants.{Outside, OutsideDle, Inside}
 use Rattle.std.proofs.lemmas.List.Concat.{flat_map-append}
 use Rattle.dle_framing.specs.declared.item.Item.{Item}
 use Rattle.dle_framing.specs.Frame.{doubled}
@@ -18,7 +18,7 @@ use Rattle.dle_framing.specs.FramerInside.{PassesOver}
 use Rattle.dle_framing.specs.Feeding.{Feeds}
 use Rattle.dle_framing.proofs.Readings.{reading-by_start, reading-noise, reading-append, followed}
 use Rattle.dle_framing.proofs.LawLemmas.{reads_on_lem}
-use Rattle.dle_framing.proofs.StepLemmas.{take-take_append, reading-open, doubled-push}
+use Rattle.dle_framing.proofs.StepLemmas.{take-take_append, reading-open, doubled-push, outside-dle, control-start}
 
 pub take-add : (n m : ℕ) (bytes : List ℕ) → take (n + m) bytes ≡ take n bytes ++ take m (drop n bytes)
 take-add n m bytes =
@@ -96,6 +96,17 @@ passes_step byte before after steps text stands =
 -- bytes, and the DLE behind them
 pub passes_dle : (piece : List ℕ) (count : ℕ) (a b c : Framer) → count < length piece → get_or piece count 0 ≡ dle → PassesOver (take count piece) a b → Steps b.state b.front dle None c.state c.front → PassesOver (take (count + 1) piece) a c
 passes_dle piece count a b c within is before steps = passes_byte piece count dle a b c within (sym is) before (passes_step dle b c steps)
+
+-- the start of a frame, and bytes that pass behind it
+pub passes_start : (piece body : List ℕ) (n : ℕ) (a c d : Framer) → piece ≡ dle ∷ stx ∷ body → a.state ≡ Outside → c.state ≡ Inside → c.front ≡ [] → PassesOver (take n body) c d → PassesOver (take (2 + n) piece) a d
+passes_start piece body n a c d is outside inside none behind =
+    let b : Framer = record a { state = OutsideDle } in
+    let first : Steps a.state a.front dle None b.state b.front = rw outside (outside-dle a.front) in
+    let second : Steps b.state b.front stx None c.state c.front = rw (inside, none) (control-start a.front) in
+    let start = passes_append (dle ∷ []) (stx ∷ []) a b c (passes_step dle a b first) (passes_step stx b c second) in
+    let whole : (dle ∷ stx ∷ []) ++ take n body ≡ take (2 + n) piece = sym (ap (take (2 + n)) is ∙ take-add 2 n (dle ∷ stx ∷ body)) in
+    let P : List ℕ → Type 0 = λ front. PassesOver front a d in
+    subst P whole (passes_append (dle ∷ stx ∷ []) (take n body) a c d start behind)
 
 -- Where no item ends in a front of a piece, none ends in a shorter front.
 none_before : (text piece : List ℕ) (n m : ℕ) → n ≤ m → items (text ++ take m piece) ≡ items text → items (text ++ take n piece) ≡ items text

@@ -28,7 +28,7 @@ pub(crate) fn is_good_body(body: &[u8]) -> bool
 }
 
 // The sum of the bytes modulo 256.
-fn byte_sum(bytes: &[u8]) -> u8
+pub(crate) fn byte_sum(bytes: &[u8]) -> u8
     ensures { result ≡ sum bytes.now % 256 }
 {
     let mut total: u8 = 0;

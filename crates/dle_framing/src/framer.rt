@@ -1,15 +1,15 @@
 //! A stream in pieces: what is kept of it between them, and the items that end in each.
-ghost use Rattle.std.specs.Prelude.{◌≡◌, ℕ, ◌<◌, ◌≤◌, List, [], length, take, slice_index};
+ghost use Rattle.std.specs.Prelude.{◌≡◌, ℕ, ◌<◌, ◌≤◌, List, [], length, take};
 ghost use Rattle.std.specs.Borrow.{sem};
 ghost use Rattle.std.specs.Option.{option_map};
 ghost use Rattle.dle_framing.specs.Feeding.{Feeds, shown};
-ghost use Rattle.dle_framing.specs.Frame.{doubled};
-ghost use Rattle.dle_framing.specs.Items.{item_of, only_rest, reading};
+ghost use Rattle.dle_framing.specs.Items.{item_of};
 
-use crate::body::is_good_body;
 use crate::control::{ACK, DLE, ETX, NAK, STX};
 use crate::front::Front;
 use crate::item::Item;
+use crate::place::dle_place;
+use crate::read::behind_start;
 
 // Where in a stream the last byte was.
 #[derive(Clone, Copy)]
@@ -25,7 +25,8 @@ enum State {
 }
 
 /// Gives the items of a stream of bytes, in whatever pieces it comes. It stands for the text that it was fed, of which it
-/// keeps at most 258 bytes, however long a frame is. It has these bytes and nothing else, so no call of it takes memory.
+/// keeps at most 258 bytes, however long a frame is. It has these bytes, their number and their sum and nothing else, so no
+/// call of it takes memory.
 #[derive(Drop)]
 pub struct Framer {
     state: State,
@@ -51,7 +52,8 @@ impl Framer {
     pub fn reset(&mut self)
         ensures { StandsFor self.new [] }
     {
-        *self = Framer::new();
+        // Outside a frame nothing of the front is looked at, so it may stay.
+        self.state = State::Outside;
     }
 
     /// Takes the next piece of the stream up to the end of the first item that ends in it. It answers how many bytes it
@@ -79,9 +81,8 @@ impl Framer {
         ensures feeds { (text : List ℕ) → StandsFor self.old text
             → Feeds text piece.now result.0 (option_map (found_in self.new.front) result.1) }
     {
-        let mut used = 0;
+        let mut used = self.take_front(piece);
         loop {
-            used += self.take_to_dle(&piece[used..]);
             if used == piece.len() {
                 return (used, None);
             }
@@ -90,6 +91,7 @@ impl Framer {
             if item.is_some() {
                 return (used, item);
             }
+            used += self.take_to_dle(&piece[used..]);
         }
     }
 
@@ -108,7 +110,26 @@ impl Framer {
         }
     }
 
+    // Takes what `take_to_dle` takes. Where the piece starts a frame outside of one, it takes that start too, and what comes
+    // behind it.
+    #[inline(always)]
+    fn take_front(&mut self, piece: &[u8]) -> usize
+        ensures within { result ≤ length piece.now }
+        ensures passes { PassesOver (take result piece.now) self.old self.new }
+        ensures stops { result < length piece.now → IsBehindDle self.new.state }
+    {
+        let State::Outside = self.state else {
+            return self.take_to_dle(piece);
+        };
+        let Some(body) = behind_start(piece) else {
+            return self.take_to_dle(piece);
+        };
+        self.start();
+        2 + self.take_to_dle(body)
+    }
+
     // Takes the bytes up to the first DLE and the DLE at once, where none was taken, and answers how many.
+    #[inline(always)]
     fn take_to_dle(&mut self, piece: &[u8]) -> usize
         ensures within { result ≤ length piece.now }
         ensures passes { PassesOver (take result piece.now) self.old self.new }
@@ -124,8 +145,7 @@ impl Framer {
                 count + 1
             }
             State::Inside => {
-                let count = dle_place(piece);
-                self.front.extend(&piece[..count]);
+                let count = self.front.take_run(piece);
                 if count == piece.len() {
                     return count;
                 }
@@ -213,26 +233,10 @@ impl Framer {
     fn ended(&self) -> Item<()>
         ensures { found_in self.now.front result ≡ item_of self.now.front }
     {
-        if is_good_body(self.front.as_slice()) {
+        if self.front.is_good() {
             Item::Good(())
         } else {
             Item::Bad
         }
     }
-}
-
-// Where the first DLE of a text is, or the text's end. What stands before it is noise outside a frame, and in a frame its
-// own spelling.
-fn dle_place(text: &[u8]) -> usize
-    ensures within { result ≤ length text.now }
-    ensures noise { reading (take result text.now) ≡ only_rest [] }
-    ensures single { doubled (take result text.now) ≡ take result text.now }
-    ensures found { result < length text.now → slice_index text.now result ≡ DLE }
-{
-    for (place, byte) in text.iter().enumerate() {
-        if *byte == DLE {
-            return place;
-        }
-    }
-    text.len()
 }

@@ -13,6 +13,7 @@ mod front;
 mod item;
 mod laws;
 mod pieces;
+mod place;
 mod plain;
 mod read;
 mod run;

@@ -46,7 +46,7 @@ fn read_body(bytes: &[u8], out: &mut Vec<u8>) -> bool
 }
 
 // The text behind the DLE STX that it starts with.
-fn behind_start(text: &[u8]) -> Option<&[u8]>
+pub(crate) fn behind_start(text: &[u8]) -> Option<&[u8]>
     ensures { MatchOption result ((inner : List ℕ) → text.now ≡ DLE ∷ STX ∷ inner → ⊥)
         (λ inner. text.now ≡ DLE ∷ STX ∷ inner.now) }
 {

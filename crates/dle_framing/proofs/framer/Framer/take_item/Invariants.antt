@@ -1,12 +1,14 @@
-use Rattle.std.proofs.Common.{◌≤◌, ◌-◌, length, take}
+use Rattle.std.proofs.Common.{◌≤◌, ◌<◌, ◌-◌, length, take}
 use Rattle.dle_framing.specs.FramerInside.{PassesOver}
+use Rattle.dle_framing.specs.StepsInside.{IsBehindDle}
 use Rattle.dle_framing.proofs.framer.Framer.take_item.Given as goal
 
--- no item has ended so far
+-- no item has ended so far, and where the piece goes on a DLE was taken
 abbrev pub invariant-loop-used : goal.invariant-loop-used
 invariant-loop-used l = record {
   within : l.used ≤ length l.piece;
   passes : PassesOver (take l.used l.piece) l.fn.self l.self;
+  stops : l.used < length l.piece → IsBehindDle l.self.state;
 }
 
 abbrev pub decreases-loop-used : goal.decreases-loop-used

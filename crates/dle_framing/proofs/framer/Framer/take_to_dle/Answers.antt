@@ -20,13 +20,13 @@ returns-else-count-piece-clause-passes c =
     (passes_noise _ self c.in-Outside.is c.dle_place-count.ensures.noise) steps
 
 pub returns-then-count-piece-2-clause-passes : goal.returns-then-count-piece-2-clause-passes
-returns-then-count-piece-2-clause-passes c = passes_body _ c.args.self.now _ c.in-Inside.is c.in-Inside.is c.dle_place-count-in-Inside.ensures.single c.extend.ensures
+returns-then-count-piece-2-clause-passes c = passes_body _ c.args.self.now _ c.in-Inside.is c.in-Inside.is c.take_run-count.ensures.single c.take_run-count.ensures.front
 
 pub returns-else-count-piece-2-clause-passes : goal.returns-else-count-piece-2-clause-passes
 returns-else-count-piece-2-clause-passes c =
     let self = c.args.self.now in
-    let run : Framer = record self { front = c.extend.new.self } in
-    let more : c.dle_place-count-in-Inside.result < length c.args.piece.now = omega arith in
+    let run : Framer = record self { front = c.take_run-count.new.self } in
+    let more : c.take_run-count.result < length c.args.piece.now = omega arith in
     let steps : Steps self.state run.front dle None InsideDle run.front = rw c.in-Inside.is (inside-dle run.front) in
-    let before : PassesOver (take c.dle_place-count-in-Inside.result c.args.piece.now) self run = passes_body _ self run c.in-Inside.is c.in-Inside.is c.dle_place-count-in-Inside.ensures.single c.extend.ensures in
-    passes_dle c.args.piece.now c.dle_place-count-in-Inside.result self run _ more (c.dle_place-count-in-Inside.ensures.found more) before steps
+    let before : PassesOver (take c.take_run-count.result c.args.piece.now) self run = passes_body _ self run c.in-Inside.is c.in-Inside.is c.take_run-count.ensures.single c.take_run-count.ensures.front in
+    passes_dle c.args.piece.now c.take_run-count.result self run _ more (c.take_run-count.ensures.found more) before steps

@@ -1,7 +1,7 @@
 use Rattle.std.proofs.Common.{◌≡◌, [], take}
 use Rattle.dle_framing.specs.Frame.{doubled}
 use Rattle.dle_framing.specs.Items.{only_rest, reading}
-use Rattle.dle_framing.proofs.framer.dle_place.Given as goal
+use Rattle.dle_framing.proofs.place.dle_place.Given as goal
 
 -- what was looked at is noise, and its own spelling
 abbrev pub invariant-loop-place : goal.invariant-loop-place

@@ -5,7 +5,7 @@ use Rattle.dle_framing.specs.Numbers.{dle}
 use Rattle.dle_framing.specs.Frame.{doubled}
 use Rattle.dle_framing.specs.Items.{reading}
 use Rattle.dle_framing.proofs.FeedLemmas.{noise_none, noise_more, single_more}
-use Rattle.dle_framing.proofs.framer.dle_place.Goals as goal
+use Rattle.dle_framing.proofs.place.dle_place.Goals as goal
 
 pub loop-place-init : goal.loop-place-init
 loop-place-init c = record { noise = noise_none; single = refl }
