@@ -1,4 +1,3 @@
-pub mod LinesLemmas
 pub mod NumberSpellsLemmas
 pub mod LineInsideLemmas
 pub mod MessageFrames
@@ -15,6 +14,7 @@ pub mod DeedsLemmas
 pub mod DeedsOnce
 pub mod TiedReplayLemmas
 pub mod DigitsLemmas
+pub mod WeightLemmas
 pub mod TurnEntries
 pub mod AnsweredLemmas
 pub mod TurnAnswers

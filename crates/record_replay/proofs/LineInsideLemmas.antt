@@ -7,7 +7,8 @@ use Rattle.hex.specs.Hex.{decode_of}
 use Rattle.hex.specs.declared.error.FromHexError.{FromHexError}
 use Rattle.hex.proofs.HexLemmas.{decode_of-same}
 use Rattle.plant_config.specs.Plant.{PlantData}
-use Rattle.record_replay.specs.Script.{space, tab, IsDigit, HasNo, NumberSpells, HexSpells}
+use Rattle.line_text.specs.Decimal.{IsDigit}
+use Rattle.record_replay.specs.Script.{space, tab, HasNo, NumberSpells, HexSpells}
 use Rattle.record_replay.specs.LineInside.{IsCut, IsTurn}
 use Rattle.record_replay.proofs.NumberSpellsLemmas.{panel_of_digits}
 
@@ -41,7 +42,7 @@ no_turn-space plant behind none panel piece turn = has_byte space turn.digits tu
 
 -- the parts of a turn are those before its first space and behind it
 parts_of : (plant : PlantData) (behind front rest : List ℕ) (panel : ℕ) (piece : List ℕ) → IsCut space behind front rest → (turn : IsTurn plant behind panel piece) → (turn.digits ≡ front) × (turn.hex ≡ rest)
-parts_of plant behind front rest panel piece cut turn = one_cut space turn.digits front turn.hex rest (no_space-digits turn.digits turn.number.each) cut.first (sym turn.place ∙ cut.place)
+parts_of plant behind front rest panel piece cut turn = one_cut space turn.digits front turn.hex rest (no_space-digits turn.digits turn.number.spelled.each) cut.first (sym turn.place ∙ cut.place)
 
 pub no_turn-panel : (plant : PlantData) (behind front rest : List ℕ) → IsCut space behind front rest → ((number : ℕ) → NumberSpells front number → number < length plant.panels → ⊥)
     → (panel : ℕ) (piece : List ℕ) → IsTurn plant behind panel piece → ⊥

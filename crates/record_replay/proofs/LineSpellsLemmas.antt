@@ -8,8 +8,9 @@ use Rattle.std.proofs.lemmas.Bool.Decides.{nat_tests}
 use Rattle.std.proofs.lemmas.Slice.Eq.{bytes_eq-Decides}
 use Rattle.hex.proofs.HexLemmas.{decode_of-same}
 use Rattle.plant_config.specs.Plant.{PlantData}
+use Rattle.line_text.specs.Decimal.{IsDigit}
 use Rattle.record_replay.specs.Take.{message_frame}
-use Rattle.record_replay.specs.Script.{Work, Read, Leave, Show, space, hash, longest_line, is_skipped, IsDigit, NumberSpells, HexSpells, Sends, Takes, LineSpells}
+use Rattle.record_replay.specs.Script.{Work, Read, Leave, Show, space, hash, longest_line, is_skipped, NumberSpells, HexSpells, Sends, Takes, LineSpells}
 use Rattle.record_replay.specs.LineInside.{IsTurn, IsNoTurn, IsTake, IsNoTake, SpellsNoPanel, SpellsNoScreen}
 use Rattle.record_replay.proofs.NumberSpellsLemmas.{one_number}
 use Rattle.record_replay.proofs.LineInsideLemmas.{no_space-digits, no_tab-digits, one_cut}
@@ -39,9 +40,9 @@ take_behind plant line digits piece panel number has_panel takes = record {
   source = takes.source;
   parts = record {
     place = ap (drop 5) takes.place;
-    panel_ends = no_space-digits digits number.each;
-    matrix_ends = no_space-digits takes.matrix takes.asks.matrix_spelled.each;
-    level_ends = no_tab-digits takes.level takes.asks.level_spelled.each;
+    panel_ends = no_space-digits digits number.spelled.each;
+    matrix_ends = no_space-digits takes.matrix takes.asks.matrix_spelled.spelled.each;
+    level_ends = no_tab-digits takes.level takes.asks.level_spelled.spelled.each;
     dest_ends = takes.dest_ends;
   };
   number = number;
@@ -63,7 +64,7 @@ Fills plant line digits piece = Sends line digits piece ⊎ Takes plant line dig
 one_filled : (plant : PlantData) (line digits others : List ℕ) (m n : ℕ) (piece other : List ℕ) → NumberSpells digits m → NumberSpells others n → m < length plant.panels → n < length plant.panels
     → Fills plant line digits piece → Fills plant line others other → (m ≡ n) × (piece ≡ other)
 one_filled plant line digits others m n piece other number_m number_n has_m has_n (inl a) (inl b) =
-    let same = one_turn line digits others a.0 b.0 number_m.each number_n.each a.1 b.1 in
+    let same = one_turn line digits others a.0 b.0 number_m.spelled.each number_n.spelled.each a.1 b.1 in
     (one_number digits others m n same.0 number_m number_n, decode_of-same _ _ _ a.2 (subst (λ (hex : List ℕ). HexSpells hex other) (sym same.1) b.2))
 one_filled plant line digits others m n piece other number_m number_n has_m has_n (inl a) (inr b) = absurd (omega (arith, first_is line 62 _ a.1, first_is line 116 _ b.place))
 one_filled plant line digits others m n piece other number_m number_n has_m has_n (inr a) (inl b) = absurd (omega (arith, first_is line 116 _ a.place, first_is line 62 _ b.1))

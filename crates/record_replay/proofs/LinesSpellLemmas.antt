@@ -1,12 +1,14 @@
 -- Lines that spell works, one after the other.
-use Rattle.std.proofs.Common.{◌≡◌, ℕ, ◌+◌, true, false, cond, List, [], ◌∷◌, ◌++◌, length, Option, Some, None, refl, sym, ◌∙◌, ap, append_assoc, arith, length-append}
-use Rattle.std.specs.Prelude.{not, MatchOption, is_some}
+use Rattle.std.proofs.Common.{◌≡◌, ℕ, ◌+◌, ◌≤◌, inl, inr, Bool, true, false, cond, List, [], ◌∷◌, ◌++◌, length, Option, Some, None, refl, sym, ◌∙◌, ap, append_assoc, arith, length-append}
+use Rattle.std.specs.Prelude.{not, codes, MatchOption, is_some}
+use Rattle.std.specs.Bool.{OnTrue, OnFalse}
 use Rattle.std.proofs.lemmas.List.Elements.{filter-append}
 use Rattle.plant_config.specs.Plant.{PlantData}
 use Rattle.record_replay.specs.declared.line.Line as code
 use Rattle.record_replay.specs.declared.line.Line.TheVariants as found
-use Rattle.record_replay.specs.Script.{Work, Read, Leave, Show, lines, is_skipped, worked, LineSpells, LinesSpell}
-use Rattle.record_replay.specs.LineInside.{IsBad, IsFound}
+use Rattle.record_replay.specs.Script.{Work, Read, Leave, Show, space, longest_line, lines, is_skipped, worked, HexSpells, LineSpells, LinesSpell}
+use Rattle.record_replay.specs.LineInside.{IsBad, IsFound, IsFormed, IsCut, SpellsPanel}
+use Rattle.record_replay.proofs.LineSpellsLemmas.{turn_spells}
 
 pub LinesSpell-append : (plant : PlantData) (before after : List (List ℕ)) (works more : List Work) → LinesSpell plant before works → LinesSpell plant after more → LinesSpell plant (before ++ after) (works ++ more)
 LinesSpell-append plant [] after [] more spelled behind = behind
@@ -45,21 +47,46 @@ worked-skipped plant line is = rw (worked-cons line [], is) tt
 worked-work : (plant : PlantData) (line : List ℕ) (work : Work) → is_skipped line ≡ false → LineSpells plant line work → LinesSpell plant (worked (line ∷ [])) (work ∷ [])
 worked-work plant line work isnt spells = rw (worked-cons line [], isnt) (spells, tt)
 
-so_far-found : (plant : PlantData) (script rest line after bytes : List ℕ) (number : ℕ) (what : code.Line) → SoFar plant script rest number → lines rest ≡ line ∷ lines after → IsFound plant line what bytes
-    → SoFar plant script after (number + 1)
-so_far-found plant script rest line after bytes number found.Skipped so_far split is = so_far-more plant script rest line after number [] so_far split (worked-skipped plant line is)
-so_far-found plant script rest line after bytes number (found.Read panel) so_far split is =
-    so_far-more plant script rest line after number (Read panel bytes ∷ []) so_far split (worked-work plant line (Read panel bytes) is.0 is.1)
-so_far-found plant script rest line after bytes number (found.Leave panel) so_far split is =
-    so_far-more plant script rest line after number (Leave panel ∷ []) so_far split (worked-work plant line (Leave panel) is.0 is.1)
-so_far-found plant script rest line after bytes number (found.Show screen refresh) so_far split is =
-    so_far-more plant script rest line after number (Show screen refresh ∷ []) so_far split (worked-work plant line (Show screen refresh) is.0 is.1)
-
 -- the next line has a form
-pub so_far-some : (plant : PlantData) (script rest line after bytes : List ℕ) (number : ℕ) (read : Option code.Line) → SoFar plant script rest number → lines rest ≡ line ∷ lines after
-    → MatchOption read (IsBad plant line) (λ what. IsFound plant line what bytes) → is_some read ≡ true → SoFar plant script after (number + 1)
-so_far-some plant script rest line after bytes number (Some what) so_far split is some = so_far-found plant script rest line after bytes number what so_far split is
-so_far-some plant script rest line after bytes number None so_far split is some = cc
+pub so_far-formed : (plant : PlantData) (script rest line after : List ℕ) (number : ℕ) → SoFar plant script rest number → lines rest ≡ line ∷ lines after → IsFormed plant line → SoFar plant script after (number + 1)
+so_far-formed plant script rest line after number so_far split (inl skipped) = so_far-more plant script rest line after number [] so_far split (worked-skipped plant line skipped)
+so_far-formed plant script rest line after number so_far split (inr work) =
+    so_far-more plant script rest line after number (work.0 ∷ []) so_far split (worked-work plant line work.0 work.1.0 work.1.1)
+
+-- what is found in a line is a form of it
+found-formed : (plant : PlantData) (line bytes : List ℕ) (what : code.Line) → IsFound plant line what bytes → IsFormed plant line
+found-formed plant line bytes found.Skipped is = inl is
+found-formed plant line bytes (found.Read panel) is = inr (Read panel bytes, is)
+found-formed plant line bytes (found.Leave panel) is = inr (Leave panel, is)
+found-formed plant line bytes (found.Show screen refresh) is = inr (Show screen refresh, is)
+
+pub formed : (plant : PlantData) (line bytes : List ℕ) (read : Option code.Line) → MatchOption read (IsBad plant line) (λ what. IsFound plant line what bytes) → OnTrue (is_some read) (IsFormed plant line)
+formed plant line bytes (Some what) is = found-formed plant line bytes what is
+formed plant line bytes None is = tt
+
+pub not_formed : (plant : PlantData) (line bytes : List ℕ) (read : Option code.Line) → MatchOption read (IsBad plant line) (λ what. IsFound plant line what bytes) → OnFalse (is_some read) (IsBad plant line)
+not_formed plant line bytes (Some what) is = tt
+not_formed plant line bytes None is = is
+
+-- a turn whose digits spell bytes
+pub turn-formed : (plant : PlantData) (line behind digits hex : List ℕ) (panel : ℕ) (has : Bool) → length line ≤ longest_line → line ≡ codes "> " ++ behind → IsCut space behind digits hex
+    → SpellsPanel plant digits panel → OnTrue has ((bytes : List ℕ) × HexSpells hex bytes × (1 ≤ length bytes)) → OnTrue has (IsFormed plant line)
+turn-formed plant line behind digits hex panel false within front cut spells some = tt
+turn-formed plant line behind digits hex panel true within front cut spells some = inr (
+  Read panel some.0,
+  (
+    ap is_skipped front,
+    turn_spells plant line behind panel some.0 within front (record {
+      digits = digits;
+      hex = hex;
+      place = cut.place;
+      number = spells.0;
+      has_panel = spells.1;
+      spelled = some.1;
+      some = some.2;
+    }),
+  ),
+)
 
 -- no line is before the first
 pub so_far-nothing : (plant : PlantData) (script : List ℕ) → SoFar plant script script 0

@@ -73,8 +73,8 @@ length-sends line digits piece sends =
 
 length-takes : (plant : PlantData) (line digits piece : List ℕ) → 1 ≤ length digits → Takes plant line digits piece → 12 ≤ length line
 length-takes plant line digits piece some takes =
-    let m = takes.asks.matrix_spelled.some in
-    let l = takes.asks.level_spelled.some in
+    let m = takes.asks.matrix_spelled.spelled.some in
+    let l = takes.asks.level_spelled.spelled.some in
     let names = tab ∷ (takes.dest ++ tab ∷ takes.source) in
     omega (arith, some, m, l, ap length takes.place, length-append digits (space ∷ (takes.matrix ++ space ∷ (takes.level ++ names))), length-append takes.matrix (space ∷ (takes.level ++ names)), length-append takes.level names, length-append takes.dest (tab ∷ takes.source))
 
@@ -86,8 +86,8 @@ filled_need plant line digits piece some bytes (inr takes) =
 
 pub need_within : (plant : PlantData) (line : List ℕ) (work : Work) → LineSpells plant line work → need_of work ≤ length line
 need_within plant line (Read panel []) spells =
-    let some = spells.number.some in
+    let some = spells.number.spelled.some in
     omega (arith, ap length spells.form)
-need_within plant line (Read panel (byte ∷ bytes)) spells = filled_need plant line spells.digits (byte ∷ bytes) spells.number.some (omega arith) spells.form
+need_within plant line (Read panel (byte ∷ bytes)) spells = filled_need plant line spells.digits (byte ∷ bytes) spells.number.spelled.some (omega arith) spells.form
 need_within plant line (Leave panel) spells = omega arith
 need_within plant line (Show screen refresh) spells = omega arith

@@ -1,35 +1,29 @@
 -- The number that digits spell.
-use Rattle.std.proofs.Common.{◌≡◌, ◌≢◌, ℕ, suc, ◌+◌, ◌-◌, ◌*◌, ◌<◌, ◌⊎◌, inl, inr, Bool, true, false, List, ◌∷◌, [], length, get_or, take, All, refl, sym, ◌∙◌, ap, arith}
+use Rattle.std.proofs.Common.{◌≡◌, ◌≢◌, ℕ, suc, ◌+◌, ◌<◌, ◌⊎◌, inl, inr, Bool, true, false, List, ◌∷◌, [], length, get_or, take, All, refl, sym, ◌∙◌, ap, arith}
 use Rattle.std.specs.Prelude.{◌==◌, ◌||◌}
 use Rattle.std.specs.List.{list_any}
+use Rattle.std.specs.Str.Parse.{digits_value}
 use Rattle.std.proofs.lemmas.Bool.{cases_lt, true≢false, ne_eqb}
-use Rattle.std.proofs.lemmas.List.{take_more}
-use Rattle.std.proofs.lemmas.List.Elements.{All-nil, All-cons, All-head, All-tail, All-push}
+use Rattle.std.proofs.lemmas.List.Elements.{All-nil, All-cons, All-head, All-tail}
 use Rattle.std.proofs.lemmas.List.Folds.{list_any_more}
-use Rattle.std.proofs.lemmas.List.Sums.{fold_more}
 use Rattle.plant_config.specs.declared.records.Display.{Display}
 use Rattle.plant_config.specs.Plant.{PlantData}
 use Rattle.change_boards.specs.Screens.{has_screen}
-use Rattle.record_replay.specs.Script.{IsDigit, number_of, NumberSpells}
+use Rattle.line_text.specs.Decimal.{IsDigit}
+use Rattle.record_replay.specs.Script.{NumberSpells}
 use Rattle.record_replay.specs.LineInside.{SpellsNoScreen}
-
-pub number_more : (digits : List ℕ) (i : ℕ) → i < length digits → number_of (take (i + 1) digits) ≡ 10 * number_of (take i digits) + (get_or digits i 0 - 48)
-number_more digits i below = fold_more (λ number digit. 10 * number + (digit - 48)) 0 digits i 0 below
-
-pub digits_more : (digits : List ℕ) (i : ℕ) → i < length digits → All IsDigit (take i digits) → IsDigit (get_or digits i 0) → All IsDigit (take (i + 1) digits)
-digits_more digits i below each digit = rw (take_more digits i 0 below) (All-push IsDigit (take i digits) (get_or digits i 0) each digit)
 
 -- digits spell one number
 pub one_number : (digits others : List ℕ) (m n : ℕ) → digits ≡ others → NumberSpells digits m → NumberSpells others n → m ≡ n
-one_number digits others m n same spells_m spells_n = spells_m.number_is ∙ ap (λ (ds : List ℕ). number_of ds) same ∙ sym spells_n.number_is
+one_number digits others m n same spells_m spells_n = spells_m.spelled.number_is ∙ ap (λ (ds : List ℕ). digits_value 10 ds) same ∙ sym spells_n.spelled.number_is
 
 -- a byte is a digit or not
 digit_or : (byte : ℕ) → IsDigit byte ⊎ ¬ IsDigit byte
 digit_or byte = elim (cases_lt byte 48) [
-  | inl low ↦ inr (λ digit. absurd (omega (arith, digit.least)))
+  | inl low ↦ inr (λ digit. absurd (omega (arith, digit.0)))
   | inr least ↦ elim (cases_lt 57 byte) [
-    | inl high ↦ inr (λ digit. absurd (omega (arith, digit.most)))
-    | inr most ↦ inl (record { least = least; most = most })
+    | inl high ↦ inr (λ digit. absurd (omega (arith, digit.1)))
+    | inr most ↦ inl (least, most)
   ]
 ]
 
@@ -54,14 +48,14 @@ SomePanel text count = (number : ℕ) × NumberSpells text number × (number < c
 -- a text spells a number below this count or none
 pub panel_of_digits : (text : List ℕ) (count : ℕ) → SomePanel text count ⊎ NoPanel text count
 panel_of_digits text count = elim (cases_lt 0 (length text)) [
-  | inr empty ↦ inr (λ number spells below. absurd (omega (arith, spells.some)))
+  | inr empty ↦ inr (λ number spells below. absurd (omega (arith, spells.spelled.some)))
   | inl some ↦ elim (cases_lt 5 (length text)) [
     | inl many ↦ inr (λ number spells below. absurd (omega (arith, spells.few)))
     | inr few ↦ elim (digits_or text) [
-      | inr other ↦ inr (λ number spells below. other spells.each)
-      | inl each ↦ elim (cases_lt (number_of text) count) [
-        | inl below ↦ inl (number_of text, record { some = some; few = few; each = each; number_is = refl }, below)
-        | inr past ↦ inr (λ number spells below. absurd (omega (arith, spells.number_is)))
+      | inr other ↦ inr (λ number spells below. other spells.spelled.each)
+      | inl each ↦ elim (cases_lt (digits_value 10 text) count) [
+        | inl below ↦ inl (digits_value 10 text, record { spelled = record { some = some; each = each; number_is = refl }; few = few }, below)
+        | inr past ↦ inr (λ number spells below. absurd (omega (arith, spells.spelled.number_is)))
       ]
     ]
   ]
@@ -69,9 +63,9 @@ panel_of_digits text count = elim (cases_lt 0 (length text)) [
 
 -- a text spells a number or none
 pub number_or : (text : List ℕ) → ((number : ℕ) × NumberSpells text number) ⊎ ((number : ℕ) → NumberSpells text number → ⊥)
-number_or text = elim (panel_of_digits text (suc (number_of text))) [
+number_or text = elim (panel_of_digits text (suc (digits_value 10 text))) [
   | inl some ↦ inl (some.0, some.1)
-  | inr none ↦ inr (λ number spells. none number spells (omega (arith, spells.number_is)))
+  | inr none ↦ inr (λ number spells. none number spells (omega (arith, spells.spelled.number_is)))
 ]
 
 -- a text spells a screen of the plant or none

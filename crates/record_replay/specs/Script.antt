@@ -1,11 +1,12 @@
 -- Scripts: the lines of a text, and the piece of work that each of them spells.
-use Rattle.std.specs.Prelude.{◌≡◌, ◌≢◌, ◌⊎◌, ℕ, ◌+◌, ◌-◌, ◌*◌, ◌<◌, ◌≤◌, ◌==◌, Bool, true, false, not, if◌then◌else◌, List, [], ◌∷◌, ◌++◌, length, filter, All, codes, Some, Ok}
-use Rattle.std.specs.List.{fold}
+use Rattle.std.specs.Prelude.{◌≡◌, ◌≢◌, ◌⊎◌, ℕ, ◌+◌, ◌<◌, ◌≤◌, ◌==◌, Bool, true, false, not, List, [], ◌∷◌, ◌++◌, length, filter, All, codes, Some, Ok}
 use Rattle.hex.specs.Hex.{decode_of}
 use Rattle.swp08_messages.specs.declared.message.Message.{Message}
 use Rattle.plant_config.specs.Plant.{PlantData}
 use Rattle.change_boards.specs.Screens.{has_screen}
 use Rattle.record_replay.specs.Take.{connect_named, message_frame}
+use Rattle.line_text.specs.Decimal.{SpellsDecimal}
+pub use Rattle.line_text.specs.Lines.{line_feed, in_line, lines}
 
 -- A piece of a script's work. A panel's session has one turn with this piece, which is empty where the panel is idle; the
 -- panel leaves; or the displays of a screen are polled, with a refresh or without.
@@ -26,10 +27,6 @@ IsOfPlant plant (Read panel piece) = panel < length plant.panels
 IsOfPlant plant (Leave panel) = panel < length plant.panels
 IsOfPlant plant (Show screen refresh) = has_screen plant screen ≡ true
 
--- the byte that ends a line
-abbrev pub line_feed : ℕ
-line_feed = 10
-
 -- the byte that may stand anywhere in hexadecimal
 abbrev pub space : ℕ
 space = 32
@@ -46,16 +43,6 @@ hash = 35
 abbrev pub longest_line : ℕ
 longest_line = 65536
 
--- a line that goes on with this byte in front
-abbrev pub in_line : ℕ → List (List ℕ) → List (List ℕ)
-in_line byte [] = (byte ∷ []) ∷ []
-in_line byte (line ∷ others) = (byte ∷ line) ∷ others
-
--- the lines of a text: LF ends each of them, and the last one may lack it
-abbrev pub lines : List ℕ → List (List ℕ)
-lines [] = []
-lines (byte ∷ more) = if byte == line_feed then [] ∷ lines more else in_line byte (lines more)
-
 -- An empty line is skipped, and one that begins with `#`, whatever stands behind it.
 abbrev pub is_skipped : List ℕ → Bool
 is_skipped [] = true
@@ -65,21 +52,10 @@ is_skipped (byte ∷ more) = byte == hash
 abbrev pub worked : List (List ℕ) → List (List ℕ)
 worked lines = filter (λ line. not (is_skipped line)) lines
 
--- a decimal digit
-pub record IsDigit (byte : ℕ) : Type 0 where
-  pub least : 48 ≤ byte
-  pub most : byte ≤ 57
-
--- the number of decimal digits, the highest first
-abbrev pub number_of : List ℕ → ℕ
-number_of digits = fold (λ number digit. 10 * number + (digit - 48)) 0 digits
-
 -- One to five decimal digits spell their number. There may be zeros in front.
 pub record NumberSpells (digits : List ℕ) (number : ℕ) : Type 0 where
-  pub some : 1 ≤ length digits
+  pub spelled : SpellsDecimal digits number
   pub few : length digits ≤ 5
-  pub each : All IsDigit digits
-  pub number_is : number ≡ number_of digits
 
 -- A text in hexadecimal spells these bytes. Its spaces are dropped, and its digits are of either case.
 abbrev pub HexSpells : List ℕ → List ℕ → Type 0

@@ -19,7 +19,7 @@ use swp08_messages::Message;
 const MAX_BYTES: usize = MAX_LINE / 2;
 
 // What `value_of` answers for each byte: a look-up takes no test of where a digit lies.
-static VALUES: [u16; 256] = [
+static VALUES: [u32; 256] = [
     256, 256, 256, 256, 256, 256, 256, 256, 256, 256, 256, 256, 256, 256, 256, 256, 256, 256, 256,
     256, 256, 256, 256, 256, 256, 256, 256, 256, 256, 256, 256, 256, 256, 256, 256, 256, 256, 256,
     256, 256, 256, 256, 256, 256, 256, 256, 256, 256, 0, 1, 2, 3, 4, 5, 6, 7, 8, 9, 256, 256, 256,
@@ -114,7 +114,10 @@ impl Digits {
         ensures spelled { OnTrue result (HexSpells hex.now self.new) }
         ensures refused { OnFalse result ((bytes : List ℕ) → HexSpells hex.now bytes → ⊥) }
     {
-        // Most texts have no space, and are decoded where they stand.
+        if hex.len() > 2 && hex[2] == SPACE {
+            return self.read_spaced(hex);
+        }
+        // Most other texts have no space, and are decoded where they stand.
         self.used = hex.len() / 2;
         if decode(hex, self.room.as_mut_slice()) {
             return true;
@@ -168,19 +171,22 @@ fn decode(digits: &[u8], room: &mut [u8]) -> bool
     if digits.len() % 2 == 1 {
         return false;
     }
+    // A byte that isn't one of two digits shows in here at the end: so the loop has no other end.
+    let mut all = 0;
     for i in 0..digits.len() / 2 {
         let byte = 16 * value_of(digits[2 * i]) + value_of(digits[2 * i + 1]);
-        if byte > 255 {
-            return false;
-        }
-        room[i] = byte as u8;
+        all |= byte;
+        room[i] = (byte % 256) as u8;
+    }
+    if all > 255 {
+        return false;
     }
     true
 }
 
 // The value of a digit of either case, and more than two digits make together for any other byte.
 #[inline]
-fn value_of(digit: u8) -> u16
+fn value_of(digit: u8) -> u32
     ensures { result ≡ unwrap_or (hex_digit_value digit) 256 }
 {
     VALUES[digit as usize]

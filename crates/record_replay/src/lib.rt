@@ -16,6 +16,7 @@ mod script;
 mod show;
 mod stage;
 mod take;
+mod weights;
 
 pub use laws::{lines_answer_items, no_tie_carries_two_sources, one_history, one_item, one_replay};
 pub use replay::{ReplayFault, replay_script};

@@ -6,6 +6,7 @@ ghost use Rattle.record_replay.specs.LineInside.{SpellsNoScreen, SpellsScreen};
 ghost use Rattle.plant_config.specs.IsPlant.{IsPlant};
 ghost use Rattle.record_replay.specs.Script.{NumberSpells};
 
+use line_text::read_decimal;
 use plant_config::{PanelNo, Plant};
 
 // The most digits of a number.
@@ -49,15 +50,8 @@ pub(crate) fn read_number(digits: &[u8]) -> Option<u32>
         (SpellsNoNumber digits.now)
         (λ number. NumberSpells digits.now number) }
 {
-    if digits.is_empty() || digits.len() > MAX_DIGITS {
+    if digits.len() > MAX_DIGITS {
         return None;
     }
-    let mut number = 0;
-    for digit in digits {
-        if !digit.is_ascii_digit() {
-            return None;
-        }
-        number = 10 * number + u32::from(*digit - b'0');
-    }
-    Some(number)
+    Some(read_decimal(digits)? as u32)
 }

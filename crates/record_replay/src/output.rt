@@ -1,7 +1,8 @@
 //! The output lines of a replay, given to a sink in large pieces.
 
-ghost use Rattle.std.specs.Prelude.{◌≡◌, ◌+◌, ◌*◌, ◌≤◌, [], ◌∷◌, length, false};
+ghost use Rattle.std.specs.Prelude.{◌≡◌, ◌+◌, ◌*◌, ◌≤◌, [], length, false};
 ghost use Rattle.std.specs.Bool.{OnTrue, OnFalse};
+ghost use Rattle.std.specs.Fmt.{decimal};
 ghost use Rattle.hex.specs.Hex.{encode_upper};
 ghost use Rattle.record_replay.specs.Replay.{leave_line};
 ghost use Rattle.record_replay.specs.OutputInside.{HasNothing, Puts, Gives, IsAllGiven};
@@ -43,27 +44,31 @@ impl<'k, K: Drain> Output<'k, K> {
         }
     }
 
-    // Puts these bytes.
+    // Puts these bytes: one test for room serves them all.
+    #[inline]
     pub(crate) fn put(&mut self, bytes: &[u8])
+        requires { length bytes.now ≤ 65536 }
         ensures puts { Puts K.written K.faults bytes.now self.old self.new }
         ensures some { self.new.some ≡ self.old.some }
     {
-        for byte in bytes {
-            self.put_byte(*byte);
+        self.make_room(bytes.len());
+        self.buffer.push_all(bytes);
+    }
+
+    // Puts a number in decimal. Most have one digit.
+    #[inline]
+    fn put_number(&mut self, number: u32)
+        ensures puts { Puts K.written K.faults (decimal number) self.old self.new }
+        ensures some { self.new.some ≡ self.old.some }
+    {
+        if number < 10 {
+            self.put(&[b'0' + number as u8]);
+        } else {
+            self.put(Buffer::new().format(number).as_bytes());
         }
     }
 
-    // Puts this byte.
-    #[inline]
-    fn put_byte(&mut self, byte: u8)
-        ensures puts { Puts K.written K.faults (byte ∷ []) self.old self.new }
-        ensures some { self.new.some ≡ self.old.some }
-    {
-        self.make_room(1);
-        self.buffer.push(byte);
-    }
-
-    // Puts bytes in hexadecimal: one test for room serves them all.
+    // Puts bytes in hexadecimal.
     pub(crate) fn put_hex(&mut self, bytes: &[u8])
         requires { 2 * length bytes.now ≤ 65536 }
         ensures puts { Puts K.written K.faults (encode_upper bytes.now) self.old self.new }
@@ -121,7 +126,7 @@ impl<'k, K: Drain> Output<'k, K> {
         ensures none { self.new.some ≡ false }
     {
         self.put(b"< ");
-        self.put(Buffer::new().format(panel.get()).as_bytes());
+        self.put_number(panel.get());
         self.put(b" ");
         self.some = false;
     }
@@ -141,7 +146,7 @@ impl<'k, K: Drain> Output<'k, K> {
         ensures { Puts K.written K.faults (leave_line panel) self.old self.new }
     {
         self.put(b"leave ");
-        self.put(Buffer::new().format(panel.get()).as_bytes());
+        self.put_number(panel.get());
         self.put(b"\n");
     }
 

@@ -1,17 +1,15 @@
 //! Room for the bytes that a sink wasn't given yet.
 
-ghost use Rattle.std.specs.Prelude.{◌≡◌, ◌+◌, ◌*◌, ◌<◌, ◌≤◌, [], ◌∷◌, ◌++◌, length, IfOk};
+ghost use Rattle.std.specs.Prelude.{◌≡◌, ◌+◌, ◌*◌, ◌≤◌, [], ◌++◌, length, IfOk};
 ghost use Rattle.std.specs.Bool.{OnTrue};
 ghost use Rattle.hex.specs.Hex.{encode_upper};
 
+use line_text::write_hex;
 use std::alloc::{AllocError, Global};
 use std::marker::Model;
 
 // The most bytes that are in it at once, 64 KiB.
 const MOST: usize = 64 << 10;
-
-// The digits of hexadecimal.
-const DIGITS: &[u8; 16] = b"0123456789ABCDEF";
 
 /// Some bytes in memory that was taken before.
 #[derive(Drop)]
@@ -55,13 +53,15 @@ impl Room {
         self.used <= MOST - count
     }
 
-    // Puts one more byte behind the others.
-    pub(crate) fn push(&mut self, byte: u8)
-        requires { length self.old < 65536 }
-        ensures { self.new ≡ self.old ++ byte ∷ [] }
+    // Puts bytes behind the others.
+    #[inline]
+    pub(crate) fn push_all(&mut self, bytes: &[u8])
+        requires { length self.old + length bytes.now ≤ 65536 }
+        ensures { self.new ≡ self.old ++ bytes.now }
     {
-        self.bytes[self.used] = byte;
-        self.used += 1;
+        let end = self.used + bytes.len();
+        copy(bytes, &mut self.bytes[self.used..end]);
+        self.used = end;
     }
 
     // Puts bytes in hexadecimal behind the others.
@@ -70,7 +70,7 @@ impl Room {
         ensures { self.new ≡ self.old ++ encode_upper bytes.now }
     {
         let end = self.used + 2 * bytes.len();
-        encode(bytes, &mut self.bytes[self.used..end]);
+        write_hex(bytes, &mut self.bytes[self.used..end]);
         self.used = end;
     }
 
@@ -82,14 +82,13 @@ impl Room {
     }
 }
 
-// Writes bytes in hexadecimal into room of just that length.
-fn encode(bytes: &[u8], room: &mut [u8])
-    requires { length room.old ≡ 2 * length bytes.now }
-    ensures { room.new ≡ encode_upper bytes.now }
+// Copies bytes into room of just that length. They are few, so that no call is made for them.
+#[inline]
+fn copy(bytes: &[u8], room: &mut [u8])
+    requires { length room.old ≡ length bytes.now }
+    ensures { room.new ≡ bytes.now }
 {
     for i in 0..bytes.len() {
-        let byte = bytes[i] as usize;
-        room[2 * i] = DIGITS[byte / 16];
-        room[2 * i + 1] = DIGITS[byte % 16];
+        room[i] = bytes[i];
     }
 }

@@ -1,13 +1,8 @@
-//! The lines of a script.
+//! Where a line of a script is cut, and what it is measured by.
 
-ghost use Rattle.std.specs.Prelude.{◌≡◌, ◌+◌, ◌<◌, ◌≤◌, ◌∷◌, length, MatchOption};
-ghost use Rattle.record_replay.specs.Script.{lines, HasNo};
+ghost use Rattle.std.specs.Prelude.{MatchOption};
+ghost use Rattle.record_replay.specs.Script.{HasNo};
 ghost use Rattle.record_replay.specs.LineInside.{IsCut};
-
-use memchr::memchr;
-
-// Ends a line.
-pub(crate) const LF: u8 = b'\n';
 
 // May stand anywhere in hexadecimal.
 pub(crate) const SPACE: u8 = b' ';
@@ -20,19 +15,6 @@ pub(crate) const HASH: u8 = b'#';
 
 // The most bytes of a line, its LF not counted.
 pub(crate) const MAX_LINE: usize = 65_536;
-
-// The first line of a text, and what is behind it.
-pub(crate) fn split_line(text: &[u8]) -> (&[u8], &[u8])
-    requires { 0 < length text.now }
-    ensures lines { lines text.now ≡ result.0.now ∷ lines result.1.now }
-    ensures shorter { length result.1.now < length text.now }
-    ensures within { length result.0.now + length result.1.now ≤ length text.now }
-{
-    match memchr(LF, text) {
-        Some(end) => (&text[..end], &text[end + 1..]),
-        None => (text, &text[text.len()..]),
-    }
-}
 
 // What stands before the first of this byte in a text, and what behind it.
 pub(crate) fn split_at(byte: u8, text: &[u8]) -> Option<(&[u8], &[u8])>

@@ -1,8 +1,8 @@
 use Rattle.std.proofs.Common.{length}
 use Rattle.std.proofs.lemmas.Bool.{eqb-true}
-use Rattle.record_replay.specs.Script.{line_feed}
-use Rattle.record_replay.proofs.LinesLemmas.{none_ends, first_line, only_line}
-use Rattle.record_replay.proofs.script.split_line.Goals as goal
+use Rattle.line_text.specs.Lines.{line_feed}
+use Rattle.line_text.proofs.LinesLemmas.{none_ends, first_line, only_line}
+use Rattle.line_text.proofs.lines.split_line.Goals as goal
 
 pub returns-in-Some-clause-lines : goal.returns-in-Some-clause-lines
 returns-in-Some-clause-lines c =

@@ -1,6 +1,6 @@
 use Rattle.std.proofs.Common.{◌≡◌, ◌*◌, ◌++◌, take, drop}
 use Rattle.hex.specs.Hex.{encode_upper}
-use Rattle.record_replay.proofs.room.encode.Given as goal
+use Rattle.line_text.proofs.hexadecimal.write_hex.Given as goal
 
 abbrev pub invariant-loop-i : goal.invariant-loop-i
 invariant-loop-i l = take (2 * l.i) l.room ++ encode_upper (drop l.i l.bytes) ≡ encode_upper l.bytes

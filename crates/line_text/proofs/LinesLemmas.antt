@@ -3,7 +3,7 @@ use Rattle.std.proofs.Common.{◌≡◌, ◌≢◌, ℕ, zero, suc, ◌+◌, ◌
 use Rattle.std.proofs.lemmas.List.{take_all, length-drop}
 use Rattle.std.proofs.lemmas.Bool.Decides.{nat_tests}
 use Rattle.memchr.specs.Find.{Nowhere, Passes, is_byte}
-use Rattle.record_replay.specs.Script.{line_feed, lines, in_line}
+use Rattle.line_text.specs.Lines.{line_feed, lines, in_line}
 
 -- none of the first n bytes ends a line
 abbrev pub NoneEnds : List ℕ → ℕ → Type 0
@@ -13,10 +13,10 @@ NoneEnds text n = (k : ℕ) → k < n → get_or text k 0 ≢ line_feed
 pub none_ends : (text : List ℕ) (n : ℕ) → Nowhere (Passes (is_byte line_feed) text) 0 n → NoneEnds text n
 none_ends text n none k below is = none k (omega arith) below (ap (λ (byte : ℕ). byte == line_feed) is)
 
-lines_end : (byte : ℕ) (text : List ℕ) → byte ≡ line_feed → lines (byte ∷ text) ≡ [] ∷ lines text
+pub lines_end : (byte : ℕ) (text : List ℕ) → byte ≡ line_feed → lines (byte ∷ text) ≡ [] ∷ lines text
 lines_end byte text is = grind (arith, nat_tests)
 
-lines_on : (byte : ℕ) (text : List ℕ) → byte ≢ line_feed → lines (byte ∷ text) ≡ in_line byte (lines text)
+pub lines_on : (byte : ℕ) (text : List ℕ) → byte ≢ line_feed → lines (byte ∷ text) ≡ in_line byte (lines text)
 lines_on byte text isnt = grind (arith, nat_tests)
 
 pub lines_at : (text : List ℕ) (n : ℕ) → NoneEnds text n → n < length text → get_or text n 0 ≡ line_feed → lines text ≡ take n text ∷ lines (drop (suc n) text)

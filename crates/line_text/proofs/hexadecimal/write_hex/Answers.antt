@@ -1,11 +1,11 @@
-use Rattle.std.proofs.Common.{arith, refl}
+use Rattle.std.proofs.Common.{arith}
 use Rattle.hex.specs.Hex.{upper_digits}
 use Rattle.hex.proofs.Pairs.{encode_step, encode_done}
-use Rattle.record_replay.proofs.room.encode.Goals as goal
+use Rattle.line_text.proofs.hexadecimal.write_hex.Goals as goal
 
 pub loop-i-preserved : goal.loop-i-preserved
 loop-i-preserved c =
-    encode_step upper_digits c.args.bytes.now c.loop-i.room c.loop-i.i _ _ (omega arith) (omega arith) refl refl c.loop-i.invariant
+    encode_step upper_digits c.args.bytes.now c.loop-i.room c.loop-i.i _ _ (omega arith) (omega arith) c.digits_of-high.ensures.high c.digits_of-high.ensures.low c.loop-i.invariant
 
 pub returns : goal.returns
 returns c = encode_done upper_digits _ _ c.loop-i.i (omega arith) (omega arith) c.loop-i.invariant

@@ -1,0 +1,4 @@
+pub mod LinesLemmas
+pub mod JoinLemmas
+pub mod DecimalLemmas
+pub mod HexLemmas

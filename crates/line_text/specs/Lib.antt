@@ -1,0 +1,4 @@
+pub mod Lines
+pub mod LinesInside
+pub mod Decimal
+pub mod Laws

@@ -1,9 +1,0 @@
-use Rattle.std.proofs.Common.{◌≡◌, take}
-use Rattle.record_replay.specs.OutputInside.{Puts}
-use Rattle.record_replay.proofs.output.Output.put.Given as goal
-
-abbrev pub invariant-loop-byte : goal.invariant-loop-byte
-invariant-loop-byte g l = record {
-  puts : Puts g.K.Drain.written g.K.Drain.faults (take l.byte-index l.bytes) l.initial.self l.self;
-  some : l.self.some ≡ l.initial.self.some;
-}
