@@ -7,6 +7,7 @@ pub mod StandsLemmas
 pub mod ActsLemmas
 pub mod SessionLemmas
 pub mod FrameRoom
+pub mod FrameLemmas
 pub mod AddLemmas
 pub mod NamePageLemmas
 pub mod LeftLemmas
@@ -19,3 +20,6 @@ pub mod TurnsFit
 pub mod TurnsOnce
 pub mod SessionRequests
 pub mod LampLemmas
+pub mod TraceLemmas
+pub mod TraceEntry
+pub mod TraceEnds

@@ -20,9 +20,13 @@ pub mod CallsLeft
 pub mod Acting
 pub mod ReadingInside
 pub mod Lending
+pub mod LeaveInside
 pub mod Run
 pub mod Laws
 pub mod DisplayPacket
 pub mod DisplayPacketInside
+pub mod TraceLine
+pub mod TraceInside
+pub mod TraceLaws
 pub mod RunInside
 pub mod SettledInside

@@ -1,7 +1,10 @@
 -- How what is sent next is kept.
-use Rattle.std.specs.Prelude.{ℕ, ◌*◌, ◌≤◌, List, [], ◌∷◌, length, Option, None, Some, vec_capacity}
+use Rattle.std.specs.Prelude.{ℕ, ◌*◌, ◌≤◌, List, [], ◌∷◌, length, drop, Option, None, Some, vec_capacity}
+use Rattle.dle_framing.specs.Numbers.{ack, nak}
 use Rattle.plant_names.specs.Pages.{max_page_len}
 use Rattle.panel_session.specs.Text.{Output}
+use Rattle.panel_session.specs.declared.sending.Sending.{Sending}
+use Rattle.panel_session.specs.declared.sending.Sending.TheVariants.{Nothing, Ack, Nak, Bytes}
 use Rattle.panel_session.specs.declared.outgoing.Outgoing.TheInside.{Inside}
 
 -- the most bytes of a message's frame, and of that of a message or a page
@@ -20,11 +23,18 @@ abbrev pub some_frame : List ℕ → Option (List ℕ)
 some_frame [] = None
 some_frame (byte ∷ bytes) = Some (byte ∷ bytes)
 
+-- what is to be sent: a control alone, or these bytes
+abbrev pub sent_as : Sending → List ℕ → List ℕ
+sent_as Nothing bytes = []
+sent_as Ack bytes = ack
+sent_as Nak bytes = nak
+sent_as Bytes bytes = bytes
+
 abbrev pub output_of : Inside → Output
 output_of outgoing =
     record {
-      bytes = outgoing.bytes.items;
-      last = some_frame outgoing.last.items;
+      bytes = sent_as outgoing.sending outgoing.bytes.items;
+      last = some_frame (drop outgoing.last_from outgoing.bytes.items);
       repeats = outgoing.repeats;
     }
 
@@ -35,7 +45,6 @@ most_bytes = 28706
 -- There is room for what may be sent.
 pub record IsKept (outgoing : Inside) : Type 0 where
   pub bytes : most_bytes ≤ vec_capacity outgoing.bytes
-  pub last : most_frame ≤ vec_capacity outgoing.last
-  pub last_within : length outgoing.last.items ≤ most_frame
+  pub last : outgoing.last_from ≤ length outgoing.bytes.items
   pub repeats : outgoing.repeats ≤ 5
   pub spelled : max_page_len ≤ vec_capacity outgoing.spelled

@@ -13,7 +13,7 @@ use swp08_messages::write_dump;
 // The most destinations of a page.
 const MOST_DESTS: usize = 64;
 
-// The destinations that the page has, from `first` on.
+// The destinations that the page has, from `first` on. One that has none is a page of nothing.
 #[derive(Drop)]
 pub(crate) struct DumpPage {
     matrix: u8,
@@ -48,19 +48,32 @@ impl DumpPage {
         }
     }
 
-    // A page that begins with this destination.
-    pub(crate) fn at(matrix: u8, level: u8, dest: u16) -> DumpPage
+    // Makes it one that has no destination yet.
+    pub(crate) fn clear(&mut self)
+        ensures { self.new ≡ no_page }
+    {
+        if self.sources.is_empty() {
+            return;
+        }
+        self.matrix = 0;
+        self.level = 0;
+        self.first = 0;
+        self.sources.clear();
+    }
+
+    // Makes it one that begins with this destination and source.
+    pub(crate) fn begin(&mut self, matrix: u8, level: u8, dest: u16, source: Option<u16>)
         requires matrix { matrix < levels }
         requires level { level < levels }
         requires dest { dest < dests }
-        ensures { result ≡ page_at matrix level dest }
+        requires source { IsSource source }
+        ensures { self.new ≡ with_source source (page_at matrix level dest) }
     {
-        DumpPage {
-            matrix,
-            level,
-            first: dest,
-            sources: ArrayVec::new(),
-        }
+        self.matrix = matrix;
+        self.level = level;
+        self.first = dest;
+        self.sources.clear();
+        self.sources.push(source);
     }
 
     // Whether it has no destination yet.

@@ -1,8 +1,8 @@
-//! A use of the crate: an interrogate, and the plant's answer.
+//! Uses of the crate: an interrogate, and the plant's answer; the line of a trace that tells both.
 
 ghost use Rattle.std.specs.Prelude.{◌≡◌, [], ◌∷◌, IfOk};
 
-use crate::{Act, Session};
+use crate::{Act, Session, TraceLines};
 use history_lock::OutBox;
 use plant_config::{PanelNo, Plant};
 use plant_core::{Answer, Request};
@@ -53,6 +53,35 @@ fn an_interrogate_is_answered(rt: HostRuntime) -> Result<(), Fail> {
     *session.outbox() = OutBox::new(alloc, 0)?;
     session.answered();
     assert_eq!(rt; session.act(&[]), (0, Act::Rest));
+    Ok(())
+}
+
+// The line of the entry, and that of the panel's leave behind it.
+#[test]
+fn an_entry_has_its_line(rt: HostRuntime) -> Result<(), Fail> {
+    let alloc = rt.alloc();
+    let plant = Plant::bench(alloc)?;
+    let names = Names::new(alloc, &plant)?;
+    let panel = PanelNo::of(0);
+    let at = Point {
+        matrix: 0,
+        level: 0,
+        dest: 5,
+    };
+    let told = Request::Told {
+        panel,
+        at: 0,
+        message: Message::Interrogate { at },
+    };
+    let tally = Answer::Say(Message::Tally { at, source: None });
+    let mut lines = TraceLines::new(alloc)?;
+    let mut trace = Vec::with_capacity(alloc, 65537)?;
+    lines.append(&plant, 3, &told, &[tally], &mut trace);
+    let line = b"3 told 0 0 01000005 = 1002030007057F056D1003\n";
+    assert_eq!(rt; trace.as_slice(), line.as_slice());
+
+    let mut session = Session::start(alloc, &plant, &names, panel)?;
+    assert_eq!(rt; session.leave_line(4), b"4 leave 0 = -\n".as_slice());
     Ok(())
 }
 

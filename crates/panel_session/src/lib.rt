@@ -5,18 +5,23 @@
 #![tactic(auto)]
 
 mod act;
+mod answer_frames;
 mod asked;
 mod counts;
 mod dump_page;
 mod laws;
+mod leave_line;
 mod name_frames;
 mod name_page;
 mod outgoing;
 mod outlet;
 mod packet;
+mod sending;
 mod session;
 mod spell;
 mod stage;
+mod trace_laws;
+mod trace_line;
 mod turn;
 
 pub use act::Act;
@@ -25,6 +30,8 @@ pub use laws::{display_poll_answers_are_lamps, one_turn, stands_so_far, turns_fi
 pub use outlet::Outlet;
 pub use packet::display_packet;
 pub use session::Session;
+pub use trace_laws::{lines_end_once, one_entry};
+pub use trace_line::TraceLines;
 pub use turn::run_turn;
 
 #[cfg(test)]

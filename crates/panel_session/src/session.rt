@@ -1,19 +1,23 @@
 //! The session of one panel.
 
-ghost use Rattle.std.specs.Prelude.{◌≡◌, ◌≢◌, ℕ, ◌-◌, ◌^◌, ◌<◌, ◌≤◌, true, false, [], ◌++◌};
+ghost use Rattle.std.specs.Prelude.{◌≡◌, ◌≢◌, ℕ, ◌<◌, ◌≤◌, true, false, [], ◌++◌};
 ghost use Rattle.std.specs.Prelude.{length, take, All, IfOk, Some};
 ghost use Rattle.std.specs.Borrow.{sem};
 ghost use Rattle.plant_config.specs.Plant.{PlantData};
 ghost use Rattle.plant_core.specs.declared.request.Request.{Request};
-ghost use Rattle.plant_core.specs.declared.request.Request.TheVariants.{Told, Poll};
+ghost use Rattle.plant_core.specs.declared.request.Request.TheVariants.{Leave};
 ghost use Rattle.plant_core.specs.Answer.{IsSayable};
 ghost use Rattle.panel_session.specs.SoFar.{Past, nothing_yet};
 ghost use Rattle.panel_session.specs.MostAnswers.{most_answers};
+ghost use Rattle.panel_session.specs.TraceLine.{trace_line};
 ghost use Rattle.panel_session.specs.TakenInside.{IsSending, IsAnswer, IsNoAnswer};
+
+mod requests;
 
 use crate::act::Act;
 use crate::asked::{Asked, next_asked};
 use crate::counts::Counts;
+use crate::leave_line::LeaveLine;
 use crate::outgoing::Outgoing;
 use crate::stage::{MOST_ANSWERS, Stage, stage_behind};
 use dle_framing::Framer;
@@ -41,13 +45,14 @@ pub struct Session<'p> {
     items: u64,
     polls: u32,
     counts: Counts,
+    leave_line: LeaveLine,
 }
 
 impl<'p> Session<'p> {
     ghost use Rattle.panel_session.specs.Acting.{ActsOn};
     ghost use Rattle.panel_session.specs.AskedInside.{NamesInRange};
     ghost use Rattle.panel_session.specs.Counted.{AreCounts};
-    ghost use Rattle.panel_session.specs.Lending.{LendsOutbox};
+    ghost use Rattle.panel_session.specs.Lending.{LendsOutbox, StaysTheSame};
     ghost use Rattle.panel_session.specs.CallsLeft.{stage_left, IsNearer, LeavesLess};
     ghost use Rattle.panel_session.specs.declared.stage.Stage.TheVariants.{Read};
     ghost use Rattle.panel_session.specs.MovesInside.{took, took_answers, ended_turn};
@@ -83,6 +88,7 @@ impl<'p> Session<'p> {
                 bads: 0,
                 turns: 0,
             },
+            leave_line: LeaveLine::new(alloc)?,
         })
     }
 
@@ -138,6 +144,20 @@ impl<'p> Session<'p> {
         ensures now { result.now ≡ outbox_of self.old }
     {
         &mut self.outbox
+    }
+
+    /// The line of a trace, with its LF, of this panel's leave at this position, 0 to 2^62. The session stays as it is.
+    pub fn leave_line(&mut self, position: u64) -> &[u8]
+        ensures* same { sem 𝓛 (StaysTheSame self.entry) }
+        ensures stood { (plant : PlantData) (panel : ℕ) (past : Past)
+            → StandsFor plant panel self.old past
+            → result.now ≡ trace_line plant position (Leave panel) [] }
+        ensures awaited { (plant : PlantData) (panel : ℕ) (past : Past) (request : Request)
+            → Awaits plant panel self.old past request
+            → result.now ≡ trace_line plant position (Leave panel) [] }
+    {
+        let panel = self.panel;
+        self.leave_line.write(position, panel)
     }
 
     /// Goes on with the turn, in what is left of its piece: how many bytes it used of that, and what the caller does next.
@@ -253,28 +273,6 @@ impl<'p> Session<'p> {
                 self.stage = Stage::Tell(message);
                 true
             }
-        }
-    }
-
-    // What the last item sends to the plant.
-    fn telling(&self, message: Message) -> Request
-        ensures { 0 < self.now.items → self.now.items < 2 ^ 62
-            → result ≡ Told self.now.panel (self.now.items - 1) message }
-    {
-        Request::Told {
-            panel: self.panel,
-            at: self.items.wrapping_sub(1),
-            message,
-        }
-    }
-
-    fn polling(&self) -> Request
-        ensures { result ≡ Poll self.now.panel self.now.items self.now.counts.turns }
-    {
-        Request::Poll {
-            panel: self.panel,
-            at: self.items,
-            turn: self.counts.turns,
         }
     }
 

@@ -5,6 +5,7 @@ ghost use Rattle.std.specs.Prelude.{◌≡◌, ◌≤◌, length};
 mod board;
 mod frames;
 mod packets;
+mod traces;
 mod turns;
 
 use crate::{Act, Session};

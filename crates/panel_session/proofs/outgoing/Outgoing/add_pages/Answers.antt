@@ -2,7 +2,7 @@ use Rattle.std.proofs.Common.{◌+◌, List, ◌∷◌, drop, sym, ap, ◌∙◌
 use Rattle.std.proofs.lemmas.List.{at_drop_more}
 use Rattle.plant_core.specs.declared.answer.Answer.{Answer}
 use Rattle.panel_session.specs.Text.{Output, frames_behind, with_frames}
-use Rattle.panel_session.proofs.outgoing.Outgoing.answer.Goals as goal
+use Rattle.panel_session.proofs.outgoing.Outgoing.add_pages.Goals as goal
 
 pub loop-answer-preserved : goal.loop-answer-preserved
 loop-answer-preserved c =

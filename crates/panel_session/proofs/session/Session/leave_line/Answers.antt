@@ -1,0 +1,16 @@
+use Rattle.std.proofs.Common.{ℕ, [], refl, ap, ◌∙◌}
+use Rattle.plant_core.specs.declared.request.Request.TheVariants.{Leave}
+use Rattle.panel_session.specs.Session.{StandsFor, Awaits}
+use Rattle.panel_session.specs.TraceLine.{trace_line}
+use Rattle.panel_session.proofs.session.Session.leave_line.Goals as goal
+
+pub returns : goal.returns
+unfolding StandsFor Awaits
+returns c = (
+  (refl, λ _. tt, ap (λ line. record c.args.self.now { leave_line = line }) c.write.follows.holds-at-none),
+  record {
+    same = tt;
+    stood = λ plant panel past stands. c.write.ensures.line plant ∙ ap (λ (panel : ℕ). trace_line plant c.args.position (Leave panel) []) stands.0.panel_is;
+    awaited = λ plant panel past request awaits. c.write.ensures.line plant ∙ ap (λ (panel : ℕ). trace_line plant c.args.position (Leave panel) []) awaits.0.panel_is;
+  },
+)

@@ -1,0 +1,80 @@
+-- The line of a trace: one for each entry of the history, so that it can be told after a fault who did what in which order.
+use Rattle.std.specs.Prelude.{ℕ, ◌≤◌, if◌then◌else◌, List, [], ◌∷◌, ◌++◌, codes, length}
+use Rattle.std.specs.Fmt.{decimal}
+use Rattle.std.specs.List.{flat_map}
+use Rattle.hex.specs.Hex.{encode_upper}
+use Rattle.swp08_messages.specs.Text.{text, InRange}
+use Rattle.plant_config.specs.Plant.{PlantData}
+use Rattle.plant_core.specs.declared.request.Request.{Request}
+use Rattle.plant_core.specs.declared.request.Request.TheVariants.{Told, Poll, Leave, DisplayPoll}
+use Rattle.plant_core.specs.declared.answer.Answer.{Answer}
+use Rattle.plant_core.specs.declared.answer.Answer.TheVariants.{Finished}
+use Rattle.plant_core.specs.Displays.{lamp_limit}
+use Rattle.panel_session.specs.Text.{frames_of}
+use Rattle.panel_session.specs.DisplayPacket.{packet_of, AreLamps}
+
+-- the greatest number in a trace: of a position, of an item and of a turn (2^62)
+abbrev pub trace_limit : ℕ
+trace_limit = 4611686018427387904
+
+-- the most bytes of a line, with the one that ends it
+abbrev pub longest_trace_line : ℕ
+longest_trace_line = 65537
+
+-- the byte that ends a line
+abbrev pub line_end : ℕ
+line_end = 10
+
+-- The request of an entry, as a trace tells it: who asked, by the number of the panel or the screen, and what. A message is
+-- told by its canonical DATA in hexadecimal, and a display poll by 1 with a refresh and by 0 without.
+abbrev pub request_text : Request → List ℕ
+request_text (Told panel item message) =
+    codes "told " ++ decimal panel ++ codes " " ++ decimal item ++ codes " "
+    ++ encode_upper (text message)
+request_text (Poll panel item turn) =
+    codes "poll " ++ decimal panel ++ codes " " ++ decimal item ++ codes " " ++ decimal turn
+request_text (Leave panel) = codes "leave " ++ decimal panel
+request_text (DisplayPoll screen refresh) =
+    codes "show " ++ decimal screen ++ (if refresh then codes " 1" else codes " 0")
+
+-- bytes in hexadecimal, and a dash for none
+abbrev pub told_bytes : List ℕ → List ℕ
+told_bytes [] = codes "-"
+told_bytes (byte ∷ bytes) = encode_upper (byte ∷ bytes)
+
+-- the reply to a display poll: the packet of its lamps, that all is finished, or a dash
+abbrev pub display_reply : PlantData → ℕ → List Answer → List ℕ
+display_reply plant screen [] = codes "-"
+display_reply plant screen (Finished ∷ others) = codes "finished"
+display_reply plant screen (answer ∷ others) =
+    encode_upper (packet_of plant screen (answer ∷ others))
+
+-- The reply of an entry: what its answers send. To a panel these are frames, to a screen a packet.
+abbrev pub reply_text : PlantData → Request → List Answer → List ℕ
+reply_text plant (DisplayPoll screen refresh) answers = display_reply plant screen answers
+reply_text plant request answers = told_bytes (flat_map (λ sent. sent) (frames_of answers))
+
+-- a line by its parts, without the byte that ends it
+abbrev pub entry_text : ℕ → Request → List ℕ → List ℕ
+entry_text position request reply =
+    decimal position ++ codes " " ++ request_text request ++ codes " = " ++ reply
+
+-- The line of the entry at this position.
+abbrev pub trace_line : PlantData → ℕ → Request → List Answer → List ℕ
+trace_line plant position request answers =
+    entry_text position request (reply_text plant request answers) ++ line_end ∷ []
+
+-- A request may be traced: its numbers are at most 2^62, and its message is in its ranges.
+abbrev pub MayTrace : Request → Type 0
+MayTrace (Told panel item message) =
+    (panel ≤ trace_limit) × (item ≤ trace_limit) × InRange message
+MayTrace (Poll panel item turn) =
+    (panel ≤ trace_limit) × (item ≤ trace_limit) × (turn ≤ trace_limit)
+MayTrace (Leave panel) = panel ≤ trace_limit
+MayTrace (DisplayPoll screen refresh) = screen ≤ trace_limit
+
+-- Answers may be told as the reply to a request: those to a display poll are at most 64, and their lamps are of the plant.
+abbrev pub MayReply : PlantData → Request → List Answer → Type 0
+MayReply plant (DisplayPoll screen refresh) answers =
+    (length answers ≤ lamp_limit) × AreLamps plant answers
+MayReply plant request answers = Unit {0}

@@ -1,0 +1,145 @@
+//! The frames that are sent for the answers to one request.
+
+ghost use Rattle.std.specs.Prelude.{◌≡◌, ◌≢◌, ◌≤◌, true, false, [], length, drop, All, ◌+◌};
+ghost use Rattle.plant_core.specs.Answer.{IsSayable};
+ghost use Rattle.plant_core.specs.declared.answer.Answer.TheVariants.{Say, Dumped};
+ghost use Rattle.swp08_messages.specs.Text.{InRange};
+ghost use Rattle.panel_session.specs.Text.{page_frames, frames_of, with_frames};
+ghost use Rattle.panel_session.specs.OutgoingInside.{emptied, Adds};
+ghost use Rattle.panel_session.specs.OutgoingKept.{room_of};
+ghost use Rattle.panel_session.specs.MostAnswers.{most_answers};
+
+use crate::dump_page::DumpPage;
+use crate::outgoing::Outgoing;
+use plant_core::Answer;
+use swp08_messages::Message;
+
+impl Outgoing {
+    // The frames of these answers are to be sent, in order. It answers whether there are some. Pages are made once an answer
+    // of a dump comes: what is said before it has frames of its own.
+    pub(crate) fn answer(&mut self, answers: &[Answer]) -> bool
+        requires sayable { All IsSayable answers.now }
+        requires room { length answers.now ≤ most_answers }
+        ensures output { self.new ≡ with_frames (frames_of answers.now) (emptied self.old) }
+        ensures some { result ≡ true → self.new.bytes ≢ [] }
+        ensures none { result ≡ false → self.new.bytes ≡ [] }
+        ensures most { length self.new.bytes ≤ room_of most_answers }
+    {
+        self.clear();
+        let said = self.say_first(answers);
+        if said < answers.len() {
+            self.add_pages(&answers[said..]);
+        }
+        !self.as_slice().is_empty()
+    }
+
+    // The frames of what is said before all else are to be sent too. It answers how many answers that are.
+    fn say_first(&mut self, answers: &[Answer]) -> usize
+        requires sayable { All IsSayable answers.now }
+        requires room { length self.old.bytes + room_of (length answers.now)
+            ≤ room_of most_answers }
+        ensures within { result ≤ length answers.now }
+        ensures output { with_frames (frames_of (drop result answers.now)) self.new
+            ≡ with_frames (frames_of answers.now) self.old }
+        ensures most { length self.new.bytes ≤ length self.old.bytes + room_of result }
+    {
+        let mut said = 0;
+        while said < answers.len() {
+            let Answer::Say(message) = answers[said] else {
+                return said;
+            };
+            self.say(message);
+            said += 1;
+        }
+        said
+    }
+
+    // The frames of these answers are to be sent too, in order, with those of dumps in pages.
+    fn add_pages(&mut self, answers: &[Answer])
+        requires sayable { All IsSayable answers.now }
+        requires room { length self.old.bytes + room_of (length answers.now)
+            ≤ room_of most_answers }
+        ensures output { self.new ≡ with_frames (frames_of answers.now) self.old }
+        ensures most { length self.new.bytes
+            ≤ length self.old.bytes + room_of (length answers.now) }
+    {
+        let mut page = DumpPage::new();
+        for answer in answers {
+            self.add(&mut page, answer);
+        }
+        self.send_filled(&page);
+    }
+
+    // This answer comes behind what the page has, which goes on with it or is sent before it. No lamp is sent to panels.
+    fn add(&mut self, page: &mut DumpPage, answer: &Answer)
+        requires sayable { IsSayable answer.now }
+        requires room { length self.old.bytes + room_of (length page.old.sources + 1)
+            ≤ room_of most_answers }
+        ensures output { Adds answer.now page.old self.old page.new self.new }
+        ensures most { length self.new.bytes + room_of (length page.new.sources)
+            ≤ length self.old.bytes + room_of (length page.old.sources + 1) }
+    {
+        match *answer {
+            Answer::Say(message) => self.add_said(page, message),
+            Answer::Dumped {
+                matrix,
+                level,
+                dest,
+                source,
+            } => self.add_dumped(page, matrix, level, dest, source),
+            Answer::Lamp { .. } | Answer::Finished => {}
+        }
+    }
+
+    // This message comes behind the page.
+    fn add_said(&mut self, page: &mut DumpPage, message: Message)
+        requires in_range { InRange message }
+        requires room { length self.old.bytes + room_of (length page.old.sources + 1)
+            ≤ room_of most_answers }
+        ensures output { Adds (Say message) page.old self.old page.new self.new }
+        ensures most { length self.new.bytes + room_of (length page.new.sources)
+            ≤ length self.old.bytes + room_of (length page.old.sources + 1) }
+    {
+        self.send_filled(page);
+        page.clear();
+        self.say(message);
+    }
+
+    // This destination comes behind those of the page, which goes on with it, or is sent, and another begins there.
+    fn add_dumped(
+        &mut self,
+        page: &mut DumpPage,
+        matrix: u8,
+        level: u8,
+        dest: u16,
+        source: Option<u16>,
+    )
+        requires sayable { IsSayable (Dumped matrix level dest source) }
+        requires room { length self.old.bytes + room_of (length page.old.sources + 1)
+            ≤ room_of most_answers }
+        ensures output { Adds (Dumped matrix level dest source) page.old self.old
+            page.new self.new }
+        ensures most { length self.new.bytes + room_of (length page.new.sources)
+            ≤ length self.old.bytes + room_of (length page.old.sources + 1) }
+    {
+        if page.goes_on(matrix, level, dest) {
+            page.push(source);
+            return;
+        }
+        self.send_filled(page);
+        page.begin(matrix, level, dest, source);
+    }
+
+    // The frame of the page is to be sent too, if it has destinations.
+    fn send_filled(&mut self, page: &DumpPage)
+        requires room { length self.old.bytes + room_of (length page.now.sources)
+            ≤ room_of most_answers }
+        ensures output { self.new ≡ with_frames (page_frames page.now) self.old }
+        ensures most { length self.new.bytes
+            ≤ length self.old.bytes + room_of (length page.now.sources) }
+    {
+        if !page.is_empty() {
+            self.send_page(page);
+        }
+    }
+}
