@@ -1,0 +1,6 @@
+//! Traces.
+
+mod audits;
+mod histories;
+mod lines;
+mod requests;
