@@ -9,23 +9,23 @@ use Rattle.plant_config.specs.PlantOfText.{plant_of_text}
 use Rattle.record_replay.specs.TiedReplay.{IsTiedReplay}
 use Rattle.record_replay.proofs.IsReplayLemmas.{apart}
 use Rattle.plantctl.specs.World.{World}
-use Rattle.plantctl.specs.End.{End, Done, NoMemory, Usage, FileMissing, FileFault, PlantRefused, PlantTooLong, LineRefused, ScriptTooLong, status_of, is_file_fault}
+use Rattle.plantctl.specs.End.{End, Done, NoMemory, Usage, FileMissing, FileFault, PlantRefused, PlantTooLong, LineRefused, ScriptTooLong, Audited, TraceTooLong, status_of, is_file_fault}
 use Rattle.plantctl.specs.Words.{Command, Check, Replay, plant_word, Ask}
 use Rattle.plantctl.specs.OpensPlant.{longest_plant, is_bench, OpensBench, OpensFile, OpensPlant, next_opening}
 use Rattle.plantctl.specs.Check.{CheckEnds}
 use Rattle.plantctl.specs.Replay.{IfFits, ReplayEnds}
 use Rattle.plantctl.specs.Asked.{AskFile, ShowsFile, ShowsPlant, AskHeld, LeadsTo}
 use Rattle.plantctl.specs.Run.{RunEnds}
-use Rattle.plantctl.specs.Statuses.{IsRefusedPlant, IsAccepted, IsRefused, WasKept}
-use Rattle.plantctl.proofs.AskedLemmas.{same_command, same_word, same_name, no_check, opened_of}
-use Rattle.plantctl.proofs.CauseLemmas.{Came, at_words, at_plant, in_check, in_replay, came, status_or_7}
+use Rattle.plantctl.specs.Outcomes.{IsRefusedPlant, IsAccepted, IsRefused, WasKept}
+use Rattle.plantctl.proofs.AskedLemmas.{same_command, same_word, same_name, no_check, no_audit, no_replay, opened_of}
+use Rattle.plantctl.proofs.CauseLemmas.{Came, at_words, at_plant, in_check, in_replay, in_audit, came, status_or_7}
 
 -- Of the end of a run: that it has this status, or that the run was kept from another end.
-abbrev IsOrKept : ℕ → World → World → End → Type 0
+abbrev pub IsOrKept : ℕ → World → World → End → Type 0
 IsOrKept wanted before now end = (status_of end ≡ wanted) ⊎ WasKept before now (status_of end)
 
 -- what holds of an end's status holds of the run's
-by_end : (wanted : ℕ) (words : List (List ℕ)) (before now : World) (status : ℕ) (run : RunEnds words before now status) → IsOrKept wanted before now run.end → (status ≡ wanted) ⊎ WasKept before now status
+pub by_end : (wanted : ℕ) (words : List (List ℕ)) (before now : World) (status : ℕ) (run : RunEnds words before now status) → IsOrKept wanted before now run.end → (status ≡ wanted) ⊎ WasKept before now status
 by_end wanted words before now status run so = elim (status_or_7 run.end before now status run.output) [
   | inl same ↦ elim so [
     | inl is ↦ inl (same ∙ is)
@@ -46,6 +46,8 @@ missing_file name (PlantRefused fault) opens = absurd opens
 missing_file name PlantTooLong opens = absurd opens
 missing_file name (LineRefused number) opens = absurd opens
 missing_file name ScriptTooLong opens = absurd opens
+missing_file name (Audited verdict) opens = absurd opens
+missing_file name TraceTooLong opens = absurd opens
 
 missing_plant : (name : List ℕ) (end : End) → OpensFile name NoFile (Err end) ⊎ ((plant : PlantData) × OpensFile name NoFile (Ok plant)) → status_of end ≡ 3
 missing_plant name end (inl opens) = missing_file name end opens
@@ -70,6 +72,8 @@ refused_file name text before now (Done output) refused count opens = absurd ope
 refused_file name text before now Usage refused count opens = absurd opens
 refused_file name text before now (LineRefused number) refused count opens = absurd opens
 refused_file name text before now ScriptTooLong refused count opens = absurd opens
+refused_file name text before now (Audited verdict) refused count opens = absurd opens
+refused_file name text before now TraceTooLong refused count opens = absurd opens
 
 no_plant_of : (text : List ℕ) (plant : PlantData) → IsRefusedPlant text → length text ≤ longest_plant → plant_of_text text ≡ Ok plant → ⊥
 no_plant_of text plant (inl long) within is = omega arith
@@ -101,6 +105,8 @@ kept_file name (Holds text) plant before now (Done output) shows count opens = a
 kept_file name (Holds text) plant before now Usage shows count opens = absurd opens
 kept_file name (Holds text) plant before now (LineRefused number) shows count opens = absurd opens
 kept_file name (Holds text) plant before now ScriptTooLong shows count opens = absurd opens
+kept_file name (Holds text) plant before now (Audited verdict) shows count opens = absurd opens
+kept_file name (Holds text) plant before now TraceTooLong shows count opens = absurd opens
 
 kept_bench : (before now : World) (end : End) → OpensBench (Err end) → WasKept before now (status_of end)
 kept_bench before now NoMemory opens = inl refl
@@ -112,6 +118,8 @@ kept_bench before now (PlantRefused fault) opens = absurd opens
 kept_bench before now PlantTooLong opens = absurd opens
 kept_bench before now (LineRefused number) opens = absurd opens
 kept_bench before now ScriptTooLong opens = absurd opens
+kept_bench before now (Audited verdict) opens = absurd opens
+kept_bench before now TraceTooLong opens = absurd opens
 
 kept_by : (bench_word : Bool) (name : List ℕ) (held : Held) (plant : PlantData) (before now : World) (end : End) → MatchBool bench_word (plant ≡ bench) (ShowsFile held plant)
     → now.file_faults ≡ counted (is_file_fault end) before.file_faults → MatchBool bench_word (OpensBench (Err end)) (OpensFile name held (Err end)) → WasKept before now (status_of end)
@@ -119,7 +127,7 @@ kept_by true name held plant before now end shows count opens = kept_bench befor
 kept_by false name held plant before now end shows count opens = kept_file name held plant before now end shows count opens
 
 -- a run whose plant is shown isn't stopped at its word, unless it is kept
-kept_at_word : (words : List (List ℕ)) (before now : World) (end : End) (word : List ℕ) (plant : PlantData) (command command' : Command) → word ≡ plant_word command → Ask words command → Ask words command'
+pub kept_at_word : (words : List (List ℕ)) (before now : World) (end : End) (word : List ℕ) (plant : PlantData) (command command' : Command) → word ≡ plant_word command → Ask words command → Ask words command'
     → ShowsPlant word before plant → now.file_faults ≡ counted (is_file_fault end) before.file_faults → OpensPlant (plant_word command') (before.held (plant_word command') 0) (Err end) → WasKept before now (status_of end)
 kept_at_word words before now end word plant command command' is ask ask' shows count opens =
     let same : plant_word command' ≡ word = ap plant_word (same_command words command' command ask' ask) ∙ sym is in
@@ -136,7 +144,7 @@ same_by true name held plant plant' shows opens = opens ∙ sym shows
 same_by false name held plant plant' shows opens = same_shown held name plant plant' shows opens
 
 -- the plant that is shown is the one that the word leads to
-same_plant : (before : World) (word word' : List ℕ) (plant plant' : PlantData) → word' ≡ word → ShowsPlant word before plant → LeadsTo word' before plant' → plant' ≡ plant
+pub same_plant : (before : World) (word word' : List ℕ) (plant plant' : PlantData) → word' ≡ word → ShowsPlant word before plant → LeadsTo word' before plant' → plant' ≡ plant
 same_plant before word word' plant plant' is shows leads =
     same_by (is_bench word) word (before.held word 0) plant plant' shows (subst (λ (n : List ℕ). OpensPlant n (before.held n 0) (Ok plant')) is leads)
 
@@ -152,6 +160,8 @@ checked plant before now (PlantRefused fault) ends = absurd ends
 checked plant before now PlantTooLong ends = absurd ends
 checked plant before now (LineRefused number) ends = absurd ends
 checked plant before now ScriptTooLong ends = absurd ends
+checked plant before now (Audited verdict) ends = absurd ends
+checked plant before now TraceTooLong ends = absurd ends
 
 checked_of : (words : List (List ℕ)) (before now : World) (end : End) (word : List ℕ) (plant : PlantData) → Ask words (Check word) → ShowsPlant word before plant
     → now.file_faults ≡ counted (is_file_fault end) before.file_faults → Came words before end → IsOrKept 0 before now end
@@ -160,6 +170,7 @@ checked_of words before now end word plant ask shows count (at_plant command ask
     inr (kept_at_word words before now end word plant (Check word) command refl ask ask' shows count opens)
 checked_of words before now end word plant ask shows count (in_check plant' by ends) = checked plant' before now end ends
 checked_of words before now end word plant ask shows count (in_replay plant' name held by ends) = no_check words by.word word name by.ask ask
+checked_of words before now end word plant ask shows count (in_audit plant' files by ends) = no_audit words by.word word by.traces by.ask ask
 
 pub check_always : (words : List (List ℕ)) (before now : World) (status : ℕ) (word : List ℕ) (plant : PlantData) → Ask words (Check word) → ShowsPlant word before plant → RunEnds words before now status
     → (status ≡ 0) ⊎ WasKept before now status
@@ -182,6 +193,7 @@ replayed_of words before now end plant name held asks count (in_replay plant' na
     inl
     (subst (λ (h : Held). ReplayEnds plant name h end) there
     (subst (λ (p : PlantData). ReplayEnds p name held' end) same (subst (λ (n : List ℕ). ReplayEnds plant' n held' end) script ends)))
+replayed_of words before now end plant name held asks count (in_audit plant' files by ends) = no_replay words by.word asks.word by.traces name by.ask asks.ask
 
 missing_script : (plant : PlantData) (name : List ℕ) (before now : World) (end : End) → ReplayEnds plant name NoFile end ⊎ WasKept before now (status_of end) → IsOrKept 3 before now end
 missing_script plant name before now end (inr kept) = inr kept
@@ -194,6 +206,8 @@ missing_script plant name before now (PlantRefused fault) (inl ends) = absurd en
 missing_script plant name before now PlantTooLong (inl ends) = absurd ends
 missing_script plant name before now (LineRefused number) (inl ends) = absurd ends
 missing_script plant name before now ScriptTooLong (inl ends) = absurd ends
+missing_script plant name before now (Audited verdict) (inl ends) = absurd ends
+missing_script plant name before now TraceTooLong (inl ends) = absurd ends
 
 pub no_script : (words : List (List ℕ)) (before now : World) (status : ℕ) (plant : PlantData) (name : List ℕ) → AskHeld words before plant name NoFile → RunEnds words before now status
     → (status ≡ 3) ⊎ WasKept before now status
@@ -210,6 +224,8 @@ accepted_of plant name script before now (FileFault failed) accepted count (inl 
 accepted_of plant name script before now (FileMissing missing) accepted count (inl ends) = absurd ends.1
 accepted_of plant name script before now (LineRefused number) accepted count (inl ends) = absurd (apart plant script accepted.1.0 number accepted.1.1 ends.1)
 accepted_of plant name script before now ScriptTooLong accepted count (inl ends) = absurd (omega (arith, ends))
+accepted_of plant name script before now (Audited verdict) accepted count (inl ends) = absurd ends
+accepted_of plant name script before now TraceTooLong accepted count (inl ends) = absurd ends
 accepted_of plant name script before now Usage accepted count (inl ends) = absurd ends
 accepted_of plant name script before now (PlantRefused fault) accepted count (inl ends) = absurd ends
 accepted_of plant name script before now PlantTooLong accepted count (inl ends) = absurd ends
@@ -234,6 +250,8 @@ refused_of plant name script before now (FileFault failed) refused count (inl en
 refused_of plant name script before now (FileMissing missing) refused count (inl ends) = absurd ends.1
 refused_of plant name script before now (LineRefused number) refused count (inl ends) = inl refl
 refused_of plant name script before now ScriptTooLong refused count (inl ends) = inl refl
+refused_of plant name script before now (Audited verdict) refused count (inl ends) = absurd ends
+refused_of plant name script before now TraceTooLong refused count (inl ends) = absurd ends
 refused_of plant name script before now Usage refused count (inl ends) = absurd ends
 refused_of plant name script before now (PlantRefused fault) refused count (inl ends) = absurd ends
 refused_of plant name script before now PlantTooLong refused count (inl ends) = absurd ends

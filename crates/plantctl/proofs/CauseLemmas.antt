@@ -5,19 +5,21 @@ use Rattle.ctl_io.specs.Held.{Held}
 use Rattle.plant_config.specs.Plant.{PlantData}
 use Rattle.plantctl.specs.World.{World}
 use Rattle.plantctl.specs.End.{End, Usage, status_of}
-use Rattle.plantctl.specs.Words.{Command, Check, Replay, plant_word, Ask, HasNoForm}
-use Rattle.plantctl.specs.OpensPlant.{OpensPlant, GoesOn, next_opening}
+use Rattle.plantctl.specs.Words.{Command, Check, Replay, Audit, plant_word, Ask, HasNoForm}
+use Rattle.plantctl.specs.OpensPlant.{OpensPlant, GoesOn, next_opening, opened_for}
 use Rattle.plantctl.specs.Check.{CheckEnds}
 use Rattle.plantctl.specs.Replay.{ReplayEnds}
-use Rattle.plantctl.specs.Asked.{AskCheck, AskReplay}
+use Rattle.plantctl.specs.Audit.{TraceFile, trace_files, AuditEnds}
+use Rattle.plantctl.specs.Asked.{AskCheck, AskReplay, AskAudit}
 use Rattle.plantctl.specs.Run.{CommandEnds, EndsAtWords, EndsByCommand, IsWritten, IsCutShort}
 
--- A run came to its end at its words, at the plant's word, in a check, or in a replay.
+-- A run came to its end at its words, at the plant's word, in a check, in a replay, or in an audit.
 pub data Came (words : List (List ℕ)) (before : World) (end : End) : Type 0 where
   at_words : HasNoForm words → end ≡ Usage → Came words before end
   at_plant : (command : Command) → Ask words command → OpensPlant (plant_word command) (before.held (plant_word command) 0) (Err end) → Came words before end
   in_check : (plant : PlantData) → AskCheck words before plant → CheckEnds plant end → Came words before end
   in_replay : (plant : PlantData) (name : List ℕ) (held : Held) → AskReplay words before plant name held → ReplayEnds plant name held end → Came words before end
+  in_audit : (plant : PlantData) (files : List TraceFile) → AskAudit words before plant files → AuditEnds plant files end → Came words before end
 
 -- an end at a plant's word is the word's
 at_word : (words : List (List ℕ)) (before : World) (end stopped : End) (command : Command) → Ask words command → end ≡ stopped
@@ -36,9 +38,16 @@ came_replay words before end word name (Ok plant) ask opens ends =
     in_replay plant name (before.held name (next_opening word name)) (record { word = word; ask = ask; leads = opens; held_is = refl }) ends
 came_replay words before end word name (Err stopped) ask opens ends = at_word words before end stopped (Replay word name) ask ends opens
 
+came_audit : (words : List (List ℕ)) (before : World) (end : End) (word : List ℕ) (traces : List (List ℕ)) (opened : Result PlantData End) → Ask words (Audit word traces) → OpensPlant word (before.held word 0) opened
+    → GoesOn (λ plant. AuditEnds plant (trace_files before.held (opened_for word) traces)) opened end → Came words before end
+came_audit words before end word traces (Ok plant) ask opens ends =
+    in_audit plant (trace_files before.held (opened_for word) traces) (record { word = word; traces = traces; ask = ask; leads = opens; files_are = refl }) ends
+came_audit words before end word traces (Err stopped) ask opens ends = at_word words before end stopped (Audit word traces) ask ends opens
+
 came_by : (words : List (List ℕ)) (before : World) (end : End) (command : Command) → Ask words command → CommandEnds command before end → Came words before end
 came_by words before end (Check word) ask ends = came_check words before end word ends.0 ask ends.1 ends.2
 came_by words before end (Replay word name) ask ends = came_replay words before end word name ends.0 ask ends.1 ends.2
+came_by words before end (Audit word traces) ask ends = came_audit words before end word traces ends.0 ask ends.1 ends.2
 
 abbrev pub Cause : List (List ℕ) → World → World → End → Type 0
 Cause words before now end = EndsAtWords words before now end ⊎ EndsByCommand words before now end

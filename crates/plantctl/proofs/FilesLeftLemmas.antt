@@ -1,16 +1,17 @@
 -- What a run leaves of the files.
-use Rattle.std.proofs.Common.{◌≡◌, ◌≢◌, ◌⊎◌, inl, inr, ℕ, Bool, true, false, List, refl, sym, ◌∙◌, ap, subst, arith}
-use Rattle.std.specs.Prelude.{MatchBool}
+use Rattle.std.proofs.Common.{◌≡◌, ◌≢◌, ◌⊎◌, inl, inr, ℕ, Bool, true, false, List, [], ◌∷◌, refl, sym, ◌∙◌, ap, subst, arith}
+use Rattle.std.specs.Prelude.{MatchBool, Contains}
 use Rattle.ctl_io.specs.Custody.{Custody}
 use Rattle.ctl_io.specs.Faults.{one_more, counted}
 use Rattle.ctl_io.specs.Held.{Held, Stays}
 use Rattle.plantctl.specs.World.{World, Shelf, shelf}
-use Rattle.plantctl.specs.End.{End, Done, NoMemory, Usage, FileMissing, FileFault, PlantRefused, PlantTooLong, LineRefused, ScriptTooLong, status_of, is_file_fault}
-use Rattle.plantctl.specs.Words.{Command, Check, Replay, Ask, plant_word}
+use Rattle.plantctl.specs.End.{End, Done, NoMemory, Usage, FileMissing, FileFault, PlantRefused, PlantTooLong, LineRefused, ScriptTooLong, Audited, TraceTooLong, status_of, is_file_fault}
+use Rattle.plantctl.specs.Words.{Command, Check, Replay, Audit, Ask, plant_word}
 use Rattle.plantctl.specs.OpensPlant.{is_bench}
 use Rattle.plantctl.specs.Asked.{AskFile, NamesFile}
-use Rattle.plantctl.specs.Run.{LeavesAlone, ReadsOnly, LeavesFiles, RunEnds}
+use Rattle.plantctl.specs.Run.{LeavesAlone, ReadsOnly, ReadsInOrder, LeavesFiles, RunEnds}
 use Rattle.plantctl.proofs.CauseLemmas.{Cause, is_written}
+use Rattle.plantctl.proofs.TraceFilesLemmas.{contains_first, contains_later}
 
 -- What is handed out and taken back of sources and sinks comes to the same.
 record IsEven (before now : Custody) : Type 0 where
@@ -39,10 +40,21 @@ even_over before between now first then = record {
   sinks_back = then.sinks_back ∙ first.sinks_back;
 }
 
+even_in_order : (names : List (List ℕ)) (before now : Shelf) → ReadsInOrder names before now → IsEven before.custody now.custody
+even_in_order [] before now files = record {
+  sources_out = ap (λ (s : Shelf). s.custody.sources_out) files;
+  sinks_out = ap (λ (s : Shelf). s.custody.sinks_out) files;
+  sinks_back = ap (λ (s : Shelf). s.custody.sinks_back) files;
+}
+even_in_order (name ∷ later) before now files =
+    even_over before.custody files.0.custody now.custody (even_read name before files.0 files.1) (even_in_order later files.0 now files.2)
+
 even_of : (command : Command) (before now : Shelf) (end : End) → LeavesFiles command before now end → IsEven before.custody now.custody
 even_of (Check word) before now end files = even_by (is_bench word) word before now files
 even_of (Replay word name) before now end files =
     even_over before.custody files.between.custody now.custody (even_by (is_bench word) word before files.between files.plant) (even_read name files.between now files.script)
+even_of (Audit word traces) before now end files =
+    even_over before.custody files.between.custody now.custody (even_by (is_bench word) word before files.between files.plant) (even_in_order traces files.between now files.read)
 
 even : (words : List (List ℕ)) (before now : World) (end : End) → Cause words before now end → IsEven before.custody now.custody
 even words before now end (inl at) = even_alone (shelf before) (shelf now) at.files
@@ -70,6 +82,14 @@ no_word : (words : List (List ℕ)) (name : List ℕ) (command : Command) → As
 no_word words name command ask other is same =
     other (record { command = command; ask = ask; name_is = same; is_file = ap is_bench same ∙ is })
 
+-- a name that is none of those that were read
+in_order_stay : (names : List (List ℕ)) (name : List ℕ) (before now : Shelf) → (Contains names name → ⊥) → ReadsInOrder names before now → Stays (before.held name) (now.held name)
+in_order_stay [] name before now other files opening = ap (λ (s : Shelf). s.held name opening) files
+in_order_stay (first ∷ later) name before now other files opening =
+    stays_over (before.held name) (files.0.held name) (now.held name)
+    (files.1.others name (λ same. other (contains_first first later name same)))
+    (in_order_stay later name files.0 now (λ one. other (contains_later first later name one)) files.2) opening
+
 others_by : (words : List (List ℕ)) (before now : World) (end : End) (name : List ℕ) (command : Command) → Ask words command → LeavesFiles command (shelf before) (shelf now) end → (NamesFile words name → ⊥)
     → Stays (before.held name) (now.held name)
 others_by words before now end name (Check word) ask files other =
@@ -77,7 +97,11 @@ others_by words before now end name (Check word) ask files other =
 others_by words before now end name (Replay word script) ask files other =
     stays_over (before.held name) (files.between.held name) (now.held name)
     (plant_stays (is_bench word) word name (shelf before) files.between (no_word words name (Replay word script) ask (λ a. other (inl a))) files.plant)
-    (files.script.others name (λ same. other (inr (word, subst (λ (n : List ℕ). Ask words (Replay word n)) (sym same) ask))))
+    (files.script.others name (λ same. other (inr (inl (word, subst (λ (n : List ℕ). Ask words (Replay word n)) (sym same) ask)))))
+others_by words before now end name (Audit word traces) ask files other =
+    stays_over (before.held name) (files.between.held name) (now.held name)
+    (plant_stays (is_bench word) word name (shelf before) files.between (no_word words name (Audit word traces) ask (λ a. other (inl a))) files.plant)
+    (in_order_stay traces name files.between (shelf now) (λ one. other (inr (inr (record { word = word; traces = traces; ask = ask; one = one })))) files.read)
 
 others_of : (words : List (List ℕ)) (before now : World) (end : End) (name : List ℕ) → Cause words before now end → (NamesFile words name → ⊥) → Stays (before.held name) (now.held name)
 others_of words before now end name (inl at) other = at.files.names name
@@ -86,7 +110,7 @@ others_of words before now end name (inr by) other = others_by words before now 
 pub others_stay : (words : List (List ℕ)) (before now : World) (status : ℕ) (name : List ℕ) → RunEnds words before now status → (NamesFile words name → ⊥) → Stays (before.held name) (now.held name)
 others_stay words before now status name run other = others_of words before now run.end name run.cause other
 
--- no script is opened where the plant is refused
+-- no script and no trace is opened where the plant is refused
 
 unopened_by : (words : List (List ℕ)) (before now : World) (end : End) (name : List ℕ) (command : Command) → status_of end ≡ 4 → Ask words command → LeavesFiles command (shelf before) (shelf now) end
     → (AskFile words name → ⊥) → Stays (before.held name) (now.held name)
@@ -95,6 +119,10 @@ unopened_by words before now end name (Check word) four ask files other =
 unopened_by words before now end name (Replay word script) four ask files other =
     stays_over (before.held name) (files.between.held name) (now.held name)
     (plant_stays (is_bench word) word name (shelf before) files.between (no_word words name (Replay word script) ask other) files.plant)
+    ((files.unopened four).names name)
+unopened_by words before now end name (Audit word traces) four ask files other =
+    stays_over (before.held name) (files.between.held name) (now.held name)
+    (plant_stays (is_bench word) word name (shelf before) files.between (no_word words name (Audit word traces) ask other) files.plant)
     ((files.unopened four).names name)
 
 unopened_of : (words : List (List ℕ)) (before now : World) (end : End) (name : List ℕ) → status_of end ≡ 4 → Cause words before now end → (AskFile words name → ⊥) → Stays (before.held name) (now.held name)
@@ -118,6 +146,8 @@ no_file_fault (PlantRefused fault) other = refl
 no_file_fault PlantTooLong other = refl
 no_file_fault (LineRefused number) other = refl
 no_file_fault ScriptTooLong other = refl
+no_file_fault (Audited verdict) other = refl
+no_file_fault TraceTooLong other = refl
 
 pub faults_stay : (words : List (List ℕ)) (before now : World) (status : ℕ) → RunEnds words before now status → status ≢ 3 → status ≢ 7 → now.file_faults ≡ before.file_faults
 faults_stay words before now status run not_3 not_7 =

@@ -55,6 +55,8 @@ silent (stops.PlantRefused why) end written is = front (stops.PlantRefused why) 
 silent stops.PlantTooLong end written is = front stops.PlantTooLong end written is
 silent (stops.LineRefused number) end written is = front (stops.LineRefused number) end written is
 silent stops.ScriptTooLong end written is = front stops.ScriptTooLong end written is
+silent (stops.Found verdict) end written is = front (stops.Found verdict) end written is
+silent stops.TraceTooLong end written is = front stops.TraceTooLong end written is
 silent stops.OutputFault end written is = absurd (false≢true (sym is.output))
 
 -- the plant's file was not read
@@ -91,6 +93,8 @@ text_refused fault (stops.FileFault failed) name held text whole within answers 
 text_refused fault stops.PlantTooLong name held text whole within answers says = absurd says
 text_refused fault (stops.LineRefused number) name held text whole within answers says = absurd says
 text_refused fault stops.ScriptTooLong name held text whole within answers says = absurd says
+text_refused fault (stops.Found verdict) name held text whole within answers says = absurd says
+text_refused fault stops.TraceTooLong name held text whole within answers says = absurd says
 text_refused fault stops.OutputFault name held text whole within answers says = absurd says
 
 -- a plant's word leads where the bench plant does

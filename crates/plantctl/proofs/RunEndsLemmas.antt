@@ -1,28 +1,40 @@
 -- Which statuses there are, and what each tells of the output.
 use Rattle.std.proofs.Common.{◌≡◌, ◌≢◌, inl, inr, ℕ, List, refl, sym, subst, arith}
 use Rattle.ctl_io.specs.Faults.{one_more}
+use Rattle.trace_audit.specs.declared.verdict.Verdict.{Verdict}
+use Rattle.trace_audit.specs.declared.verdict.Verdict.TheVariants.{Confirmed, BadLine, Gap, Repeat, Differs}
 use Rattle.plantctl.specs.World.{World}
-use Rattle.plantctl.specs.End.{End, Done, NoMemory, Usage, FileMissing, FileFault, PlantRefused, PlantTooLong, LineRefused, ScriptTooLong, status_of}
+use Rattle.plantctl.specs.End.{End, Done, NoMemory, Usage, FileMissing, FileFault, PlantRefused, PlantTooLong, LineRefused, ScriptTooLong, Audited, TraceTooLong, status_of, verdict_status}
 use Rattle.plantctl.specs.Run.{RunEnds}
 use Rattle.plantctl.specs.Statuses.{IsKnown}
 use Rattle.plantctl.proofs.CauseLemmas.{is_written, status_or_7}
+use Rattle.plantctl.proofs.VerdictLemmas.{other_status}
 
--- the seven statuses
-seven : (end : End) → IsKnown (status_of end)
-seven (Done output) = inl refl
-seven NoMemory = inr (inl refl)
-seven Usage = inr (inr (inl refl))
-seven (FileMissing name) = inr (inr (inr (inl refl)))
-seven (FileFault name) = inr (inr (inr (inl refl)))
-seven (PlantRefused fault) = inr (inr (inr (inr (inl refl))))
-seven PlantTooLong = inr (inr (inr (inr (inl refl))))
-seven (LineRefused number) = inr (inr (inr (inr (inr (inl refl)))))
-seven ScriptTooLong = inr (inr (inr (inr (inr (inl refl)))))
+-- the eight statuses
+of_verdict : (verdict : Verdict) → IsKnown (verdict_status verdict)
+of_verdict (Confirmed count) = inl refl
+of_verdict (BadLine number) = inr (inr (inr (inr (inr (inl refl)))))
+of_verdict (Gap position) = inr (inr (inr (inr (inr (inr (inl refl))))))
+of_verdict (Repeat position) = inr (inr (inr (inr (inr (inr (inl refl))))))
+of_verdict (Differs position kept wanted) = inr (inr (inr (inr (inr (inr (inl refl))))))
 
-pub seven_statuses : (words : List (List ℕ)) (before now : World) (status : ℕ) → RunEnds words before now status → IsKnown status
-seven_statuses words before now status run = elim (status_or_7 run.end before now status run.output) [
-  | inl same ↦ subst IsKnown (sym same) (seven run.end)
-  | inr failed ↦ inr (inr (inr (inr (inr (inr failed.0)))))
+eight : (end : End) → IsKnown (status_of end)
+eight (Done output) = inl refl
+eight NoMemory = inr (inl refl)
+eight Usage = inr (inr (inl refl))
+eight (FileMissing name) = inr (inr (inr (inl refl)))
+eight (FileFault name) = inr (inr (inr (inl refl)))
+eight (PlantRefused fault) = inr (inr (inr (inr (inl refl))))
+eight PlantTooLong = inr (inr (inr (inr (inl refl))))
+eight (LineRefused number) = inr (inr (inr (inr (inr (inl refl)))))
+eight ScriptTooLong = inr (inr (inr (inr (inr (inl refl)))))
+eight (Audited verdict) = of_verdict verdict
+eight TraceTooLong = inr (inr (inr (inr (inr (inl refl)))))
+
+pub eight_statuses : (words : List (List ℕ)) (before now : World) (status : ℕ) → RunEnds words before now status → IsKnown status
+eight_statuses words before now status run = elim (status_or_7 run.end before now status run.output) [
+  | inl same ↦ subst IsKnown (sym same) (eight run.end)
+  | inr failed ↦ inr (inr (inr (inr (inr (inr (inr failed.0))))))
 ]
 
 -- no end of its own has status 7
@@ -36,6 +48,8 @@ not_7 (PlantRefused fault) is = omega arith
 not_7 PlantTooLong is = omega arith
 not_7 (LineRefused number) is = omega arith
 not_7 ScriptTooLong is = omega arith
+not_7 (Audited verdict) is = other_status 7 verdict (λ h. omega arith) (λ h. omega arith) (λ h. omega arith) (sym is)
+not_7 TraceTooLong is = omega arith
 
 pub output_cause : (words : List (List ℕ)) (before now : World) → RunEnds words before now 7 → now.output_faults ≡ one_more before.output_faults
 output_cause words before now run = elim (status_or_7 run.end before now 7 run.output) [

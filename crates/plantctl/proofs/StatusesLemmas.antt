@@ -8,16 +8,19 @@ use Rattle.plant_file.specs.declared.fault.PlantFault.{PlantFault}
 use Rattle.plant_file.specs.PlantFile.{fault_text}
 use Rattle.plant_config.specs.Plant.{PlantData}
 use Rattle.plant_config.specs.Bench.{bench}
+use Rattle.trace_audit.specs.declared.verdict.Verdict.{Verdict}
+use Rattle.trace_audit.specs.declared.verdict.Verdict.TheVariants.{Confirmed, BadLine, Gap, Repeat, Differs}
 use Rattle.plantctl.specs.World.{World}
-use Rattle.plantctl.specs.End.{End, Done, NoMemory, Usage, FileMissing, FileFault, PlantRefused, PlantTooLong, LineRefused, ScriptTooLong, status_of, text_of, is_file_fault}
+use Rattle.plantctl.specs.End.{End, Done, NoMemory, Usage, FileMissing, FileFault, PlantRefused, PlantTooLong, LineRefused, ScriptTooLong, Audited, TraceTooLong, status_of, text_of, is_file_fault, verdict_line}
 use Rattle.plantctl.specs.Lines.{no_memory, usage, file_missing, file_fault, plant_refused, plant_too_long}
-use Rattle.plantctl.specs.Words.{Command, Check, Replay, plant_word, Ask, HasNoForm}
+use Rattle.plantctl.specs.Words.{Command, Check, Replay, Audit, plant_word, Ask, HasNoForm}
 use Rattle.plantctl.specs.OpensPlant.{is_bench, OpensBench, OpensFile, OpensPlant, Reads}
 use Rattle.plantctl.specs.Asked.{AskFile}
 use Rattle.plantctl.specs.Run.{IsWritten, RunEnds}
-use Rattle.plantctl.specs.Statuses.{WasChecked, WasReplayed, RanOutOfMemory, WasMissing, HadFileFault, HadPlantFault, WasTooLong}
+use Rattle.plantctl.specs.Outcomes.{WasChecked, WasReplayed, WereAudited, RanOutOfMemory, WasMissing, HadFileFault, HadPlantFault, WasTooLong}
 use Rattle.plantctl.proofs.OpensLemmas.{if_held, opened_file}
-use Rattle.plantctl.proofs.CauseLemmas.{Came, at_words, at_plant, in_check, in_replay, came, is_written, status_or_7}
+use Rattle.plantctl.proofs.CauseLemmas.{Came, at_words, at_plant, in_check, in_replay, in_audit, came, is_written, status_or_7}
+use Rattle.plantctl.proofs.VerdictLemmas.{other_status}
 
 -- no plant's word leads to an end that neither the bench plant nor a plant file has
 pub nowhere : (word : List ℕ) (held : Held) (end : End) → (OpensBench (Err end) → ⊥) → (OpensFile word held (Err end) → ⊥) → OpensPlant word held (Err end) → ⊥
@@ -27,14 +30,29 @@ nowhere word held end no_bench no_file opens = no_file (opened_file word held en
 file_asked : (words : List (List ℕ)) (command : Command) → Ask words command → is_bench (plant_word command) ≡ false → AskFile words (plant_word command)
 file_asked words command ask is = record { command = command; ask = ask; name_is = refl; is_file = is }
 
+-- an audit's verdict
+
+pub audited_at : (words : List (List ℕ)) (before now : World) (verdict : Verdict) → Came words before (Audited verdict) → now.written ≡ appended before.written (verdict_line verdict)
+    → WereAudited words before now verdict
+audited_at words before now verdict (at_words none is) appends = absurd (cc)
+audited_at words before now verdict (at_plant command ask opens) appends =
+    absurd (nowhere (plant_word command) (before.held (plant_word command) 0) (Audited verdict) (λ h. h) (λ h. h) opens)
+audited_at words before now verdict (in_check plant asks ends) appends = absurd ends
+audited_at words before now verdict (in_replay plant name held asks ends) appends = absurd ends
+audited_at words before now verdict (in_audit plant files asks ends) appends = record { plant = plant; files = files; asks = asks; have = ends; appends = appends }
+
 -- status 0
 
-done_at : (words : List (List ℕ)) (before now : World) (output : List ℕ) → Came words before (Done output) → now.written ≡ appended before.written output → WasChecked words before now ⊎ WasReplayed words before now
+-- what a status of 0 tells
+abbrev WasDone : List (List ℕ) → World → World → Type 0
+WasDone words before now = WasChecked words before now ⊎ WasReplayed words before now ⊎ ((count : ℕ) × WereAudited words before now (Confirmed count))
+
+done_at : (words : List (List ℕ)) (before now : World) (output : List ℕ) → Came words before (Done output) → now.written ≡ appended before.written output → WasDone words before now
 done_at words before now output (at_words none is) appends = absurd (cc)
 done_at words before now output (at_plant command ask opens) appends =
     absurd (nowhere (plant_word command) (before.held (plant_word command) 0) (Done output) (λ h. h) (λ h. h) opens)
 done_at words before now output (in_check plant asks ends) appends = inl (record { plant = plant; asks = asks; appends = appends ∙ ap (appended before.written) ends })
-done_at words before now output (in_replay plant name held asks ends) appends = inr (record {
+done_at words before now output (in_replay plant name held asks ends) appends = inr (inl (record {
   plant = plant;
   name = name;
   held = held;
@@ -43,9 +61,17 @@ done_at words before now output (in_replay plant name held asks ends) appends = 
   within = if_held held (λ bytes h. h.0) ends;
   replay = if_held held (λ bytes h. h.1) ends;
   appends = appends;
-})
+}))
+done_at words before now output (in_audit plant files asks ends) appends = absurd ends
 
-done_of : (words : List (List ℕ)) (before now : World) (end : End) → Came words before end → IsWritten end before now 0 → WasChecked words before now ⊎ WasReplayed words before now
+verdict_done : (words : List (List ℕ)) (before now : World) (verdict : Verdict) → Came words before (Audited verdict) → IsWritten (Audited verdict) before now 0 → WasDone words before now
+verdict_done words before now (Confirmed count) from written = inr (inr (count, audited_at words before now (Confirmed count) from written.appends))
+verdict_done words before now (BadLine number) from written = absurd (let h = written.status_is in omega arith)
+verdict_done words before now (Gap position) from written = absurd (let h = written.status_is in omega arith)
+verdict_done words before now (Repeat position) from written = absurd (let h = written.status_is in omega arith)
+verdict_done words before now (Differs position kept wanted) from written = absurd (let h = written.status_is in omega arith)
+
+done_of : (words : List (List ℕ)) (before now : World) (end : End) → Came words before end → IsWritten end before now 0 → WasDone words before now
 done_of words before now (Done output) from written = done_at words before now output from written.appends
 done_of words before now NoMemory from written = absurd (let h = written.status_is in omega arith)
 done_of words before now Usage from written = absurd (let h = written.status_is in omega arith)
@@ -55,8 +81,11 @@ done_of words before now (PlantRefused fault) from written = absurd (let h = wri
 done_of words before now PlantTooLong from written = absurd (let h = written.status_is in omega arith)
 done_of words before now (LineRefused number) from written = absurd (let h = written.status_is in omega arith)
 done_of words before now ScriptTooLong from written = absurd (let h = written.status_is in omega arith)
+done_of words before now (Audited verdict) from written = verdict_done words before now verdict from written
+done_of words before now TraceTooLong from written = absurd (let h = written.status_is in omega arith)
 
-pub done : (words : List (List ℕ)) (before now : World) → RunEnds words before now 0 → WasChecked words before now ⊎ WasReplayed words before now
+pub done : (words : List (List ℕ)) (before now : World) → RunEnds words before now 0
+    → WasChecked words before now ⊎ WasReplayed words before now ⊎ ((count : ℕ) × WereAudited words before now (Confirmed count))
 done words before now run =
     done_of words before now run.end (came words before now run.end run.cause) (is_written run.end before now 0 (λ h. omega arith) run.output)
 
@@ -85,6 +114,8 @@ memory_at words before now (in_check plant asks ends) appends =
     record { command = Check asks.word; ask = asks.ask; there = led asks.word (before.held asks.word 0) plant asks.leads; appends = appends }
 memory_at words before now (in_replay plant name held asks ends) appends =
     record { command = Replay asks.word name; ask = asks.ask; there = led asks.word (before.held asks.word 0) plant asks.leads; appends = appends }
+memory_at words before now (in_audit plant files asks ends) appends =
+    record { command = Audit asks.word asks.traces; ask = asks.ask; there = led asks.word (before.held asks.word 0) plant asks.leads; appends = appends }
 
 memory_of : (words : List (List ℕ)) (before now : World) (end : End) → Came words before end → IsWritten end before now 1 → RanOutOfMemory words before now
 memory_of words before now NoMemory from written = memory_at words before now from written.appends
@@ -96,6 +127,8 @@ memory_of words before now (PlantRefused fault) from written = absurd (let h = w
 memory_of words before now PlantTooLong from written = absurd (let h = written.status_is in omega arith)
 memory_of words before now (LineRefused number) from written = absurd (let h = written.status_is in omega arith)
 memory_of words before now ScriptTooLong from written = absurd (let h = written.status_is in omega arith)
+memory_of words before now (Audited verdict) from written = absurd (other_status 1 verdict (λ h. omega arith) (λ h. omega arith) (λ h. omega arith) written.status_is)
+memory_of words before now TraceTooLong from written = absurd (let h = written.status_is in omega arith)
 
 pub ran_out : (words : List (List ℕ)) (before now : World) → RunEnds words before now 1 → RanOutOfMemory words before now
 ran_out words before now run =
@@ -113,12 +146,15 @@ usage_of (PlantRefused fault) is = absurd (omega arith)
 usage_of PlantTooLong is = absurd (omega arith)
 usage_of (LineRefused number) is = absurd (omega arith)
 usage_of ScriptTooLong is = absurd (omega arith)
+usage_of (Audited verdict) is = absurd (other_status 2 verdict (λ h. omega arith) (λ h. omega arith) (λ h. omega arith) is)
+usage_of TraceTooLong is = absurd (omega arith)
 
 usage_at : (words : List (List ℕ)) (before : World) → Came words before Usage → HasNoForm words
 usage_at words before (at_words none is) = none
 usage_at words before (at_plant command ask opens) = absurd (nowhere (plant_word command) (before.held (plant_word command) 0) Usage (λ h. h) (λ h. h) opens)
 usage_at words before (in_check plant asks ends) = absurd ends
 usage_at words before (in_replay plant name held asks ends) = absurd ends
+usage_at words before (in_audit plant files asks ends) = absurd ends
 
 pub usage_no_form : (words : List (List ℕ)) (before now : World) → RunEnds words before now 2 → HasNoForm words
 usage_no_form words before now run =
@@ -136,6 +172,7 @@ no_form_end words before end none (at_words without is) = is
 no_form_end words before end none (at_plant command ask opens) = absurd (none command ask)
 no_form_end words before end none (in_check plant asks ends) = absurd (none (Check asks.word) asks.ask)
 no_form_end words before end none (in_replay plant name held asks ends) = absurd (none (Replay asks.word name) asks.ask)
+no_form_end words before end none (in_audit plant files asks ends) = absurd (none (Audit asks.word asks.traces) asks.ask)
 
 pub usage_always : (words : List (List ℕ)) (before now : World) (status : ℕ) → HasNoForm words → RunEnds words before now status → (status ≡ 2) ⊎ (status ≡ 7)
 usage_always words before now status none run = elim (status_or_7 run.end before now status run.output) [
@@ -162,10 +199,18 @@ missing_at words before now name (in_check plant asks ends) count appends = absu
 missing_at words before now name (in_replay plant script held asks ends) count appends = record {
   name = script;
   held = held;
-  wants = inr (plant, asks);
+  wants = inr (inl (plant, asks));
   missing = ends.1;
   no_fault = count;
   appends = appends ∙ ap (λ (n : List ℕ). appended before.written (file_missing n)) ends.0;
+}
+missing_at words before now name (in_audit plant files asks ends) count appends = record {
+  name = ends.0.name;
+  held = ends.0.held;
+  wants = inr (inr (plant, (files, asks, ends.1)));
+  missing = ends.3;
+  no_fault = count;
+  appends = appends ∙ ap (λ (n : List ℕ). appended before.written (file_missing n)) ends.2;
 }
 
 fault_at : (words : List (List ℕ)) (before now : World) (name : List ℕ) → Came words before (FileFault name) → now.file_faults ≡ one_more before.file_faults
@@ -184,9 +229,16 @@ fault_at words before now name (in_check plant asks ends) count appends = absurd
 fault_at words before now name (in_replay plant script held asks ends) count appends = record {
   name = script;
   held = held;
-  wants = inr (plant, asks);
+  wants = inr (inl (plant, asks));
   fault = count;
   appends = appends ∙ ap (λ (n : List ℕ). appended before.written (file_fault n)) ends;
+}
+fault_at words before now name (in_audit plant files asks ends) count appends = record {
+  name = ends.0.name;
+  held = ends.0.held;
+  wants = inr (inr (plant, (files, asks, ends.1)));
+  fault = count;
+  appends = appends ∙ ap (λ (n : List ℕ). appended before.written (file_fault n)) ends.2;
 }
 
 file_of : (words : List (List ℕ)) (before now : World) (end : End) → Came words before end → IsWritten end before now 3 → now.file_faults ≡ counted (is_file_fault end) before.file_faults
@@ -200,6 +252,8 @@ file_of words before now (PlantRefused fault) from written count = absurd (let h
 file_of words before now PlantTooLong from written count = absurd (let h = written.status_is in omega arith)
 file_of words before now (LineRefused number) from written count = absurd (let h = written.status_is in omega arith)
 file_of words before now ScriptTooLong from written count = absurd (let h = written.status_is in omega arith)
+file_of words before now (Audited verdict) from written count = absurd (other_status 3 verdict (λ h. omega arith) (λ h. omega arith) (λ h. omega arith) written.status_is)
+file_of words before now TraceTooLong from written count = absurd (let h = written.status_is in omega arith)
 
 pub file_cause : (words : List (List ℕ)) (before now : World) → RunEnds words before now 3 → WasMissing words before now ⊎ HadFileFault words before now
 file_cause words before now run =
@@ -215,6 +269,7 @@ plant_fault_at words before now fault (at_plant command ask opens) appends =
     record { name = plant_word command; asks = file_asked words command ask o.0; fault = fault; reads = o.1; appends = appends }
 plant_fault_at words before now fault (in_check plant asks ends) appends = absurd ends
 plant_fault_at words before now fault (in_replay plant script held asks ends) appends = absurd ends
+plant_fault_at words before now fault (in_audit plant files asks ends) appends = absurd ends
 
 too_long_at : (words : List (List ℕ)) (before now : World) → Came words before PlantTooLong → now.written ≡ appended before.written plant_too_long → WasTooLong words before now
 too_long_at words before now (at_words none is) appends = absurd (cc)
@@ -223,6 +278,7 @@ too_long_at words before now (at_plant command ask opens) appends =
     record { name = plant_word command; asks = file_asked words command ask o.0; too_long = o.1; appends = appends }
 too_long_at words before now (in_check plant asks ends) appends = absurd ends
 too_long_at words before now (in_replay plant script held asks ends) appends = absurd ends
+too_long_at words before now (in_audit plant files asks ends) appends = absurd ends
 
 plant_of : (words : List (List ℕ)) (before now : World) (end : End) → Came words before end → IsWritten end before now 4
     → HadPlantFault words before now ⊎ WasTooLong words before now
@@ -235,6 +291,8 @@ plant_of words before now (FileMissing name) from written = absurd (let h = writ
 plant_of words before now (FileFault name) from written = absurd (let h = written.status_is in omega arith)
 plant_of words before now (LineRefused number) from written = absurd (let h = written.status_is in omega arith)
 plant_of words before now ScriptTooLong from written = absurd (let h = written.status_is in omega arith)
+plant_of words before now (Audited verdict) from written = absurd (other_status 4 verdict (λ h. omega arith) (λ h. omega arith) (λ h. omega arith) written.status_is)
+plant_of words before now TraceTooLong from written = absurd (let h = written.status_is in omega arith)
 
 pub plant_cause : (words : List (List ℕ)) (before now : World) → RunEnds words before now 4 → HadPlantFault words before now ⊎ WasTooLong words before now
 plant_cause words before now run =

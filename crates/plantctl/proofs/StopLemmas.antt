@@ -11,7 +11,7 @@ use Rattle.ctl_io.proofs.SinkLemmas.{appended-nil, appended-appended}
 use Rattle.plantctl.specs.declared.stop.Stop.{Stop}
 use Rattle.plantctl.specs.declared.stop.Stop.TheVariants as stops
 use Rattle.plantctl.specs.World.{World}
-use Rattle.plantctl.specs.Lines.{plant_refused, line_refused}
+use Rattle.plantctl.specs.Lines.{line, plant_refused}
 use Rattle.plantctl.specs.End.{End, text_of, status_of}
 use Rattle.plantctl.specs.Run.{EndsAtWords, EndsByCommand, IsWritten, IsCutShort, RunEnds}
 use Rattle.plantctl.specs.StopInside.{line_of, stop_status, stopped_by_output, IsFrontOf, ComesTo, Reports, RunStops}
@@ -39,14 +39,11 @@ pub both-front : (done : Bool) (front line : List ℕ) (before mid now : Option 
 both-front true front line before mid now wrote part = part
 both-front false front line before mid now wrote part = front-part front line before mid now wrote part
 
--- the line of a refused line, by its parts
-pub refused-all : (done : Bool) (number : ℕ) (digits : List ℕ) (before now : Option (List ℕ)) → digits ≡ decimal number
-    → OnTrue done (now ≡ appended before (codes "script line " ++ digits ++ codes " refused\n")) → OnTrue done (now ≡ appended before (line_refused number))
-refused-all false number digits before now is all = all
-refused-all true number digits before now is all =
-    all
-    ∙ ap (λ (d : List ℕ). appended before (codes "script line " ++ d ++ codes " refused\n")) is
-    ∙ ap (appended before) (sym (append_assoc (codes "script line " ++ decimal number) (codes " refused") (10 ∷ [])))
+-- a line with a number in it, by its parts
+pub number-all : (done : Bool) (front end : List ℕ) (number : ℕ) (before now : Option (List ℕ)) → OnTrue done (now ≡ appended before (front ++ decimal number ++ (end ++ 10 ∷ [])))
+    → OnTrue done (now ≡ appended before (line (front ++ decimal number ++ end)))
+number-all false front end number before now all = all
+number-all true front end number before now all = all ∙ ap (appended before) (sym (append_assoc (front ++ decimal number) end (10 ∷ [])))
 
 -- the line of a refused plant, by its parts
 pub plant-all : (done : Bool) (why text : List ℕ) (before now : Option (List ℕ)) → text ≡ why → OnTrue done (now ≡ appended before (codes "plant refused: " ++ text ++ codes "\n"))
@@ -100,6 +97,8 @@ output_of (Err (stops.PlantRefused why)) end before mid now fb fm fn status come
 output_of (Err stops.PlantTooLong) end before mid now fb fm fn status comes kept reports = left_line stops.PlantTooLong end before mid now fb fm fn status comes kept reports
 output_of (Err (stops.LineRefused number)) end before mid now fb fm fn status comes kept reports = left_line (stops.LineRefused number) end before mid now fb fm fn status comes kept reports
 output_of (Err stops.ScriptTooLong) end before mid now fb fm fn status comes kept reports = left_line stops.ScriptTooLong end before mid now fb fm fn status comes kept reports
+output_of (Err (stops.Found verdict)) end before mid now fb fm fn status comes kept reports = left_line (stops.Found verdict) end before mid now fb fm fn status comes kept reports
+output_of (Err stops.TraceTooLong) end before mid now fb fm fn status comes kept reports = left_line stops.TraceTooLong end before mid now fb fm fn status comes kept reports
 output_of (Err stops.OutputFault) end before mid now fb fm fn status comes kept (inl reported) =
     inr (reported.0, subst (AppendsPart (text_of end) before) (sym (reported.1 ∙ appended-nil mid)) comes, reported.2 ∙ kept)
 output_of (Err stops.OutputFault) end before mid now fb fm fn status comes kept (inr failed) = no-part mid now failed.1

@@ -1,12 +1,13 @@
 -- What the words of a run ask for, and of which names they ask.
-use Rattle.std.specs.Prelude.{◌≡◌, ◌⊎◌, ℕ, ◌≤◌, true, false, MatchBool, List, length, Ok}
+use Rattle.std.specs.Prelude.{◌≡◌, ◌⊎◌, ℕ, ◌≤◌, true, false, MatchBool, List, length, Contains, Ok}
 use Rattle.ctl_io.specs.Held.{Held, Unshown, NoFile, Holds, MayBeHere}
 use Rattle.plant_config.specs.Plant.{PlantData}
 use Rattle.plant_config.specs.Bench.{bench}
 use Rattle.plant_config.specs.PlantOfText.{plant_of_text}
 use Rattle.plantctl.specs.World.{World}
-use Rattle.plantctl.specs.Words.{Command, Check, Replay, plant_word, Ask}
-use Rattle.plantctl.specs.OpensPlant.{longest_plant, is_bench, OpensPlant, next_opening}
+use Rattle.plantctl.specs.Words.{Command, Check, Replay, Audit, plant_word, Ask}
+use Rattle.plantctl.specs.OpensPlant.{longest_plant, is_bench, OpensPlant, next_opening, opened_for}
+use Rattle.plantctl.specs.Audit.{TraceFile, trace_files, Reaches}
 
 -- The words ask for the plant file of this name: it is a plant's word, and not that of the bench plant.
 pub record AskFile (words : List (List ℕ)) (name : List ℕ) : Type 0 where
@@ -38,16 +39,40 @@ pub record AskReplay (words : List (List ℕ)) (before : World) (plant : PlantDa
   pub leads : LeadsTo word before plant
   pub held_is : held ≡ before.held name (next_opening word name)
 
+-- The words ask to audit these traces on this plant, each of which finds this of what the files hold behind the plant's word.
+pub record AskAudit (words : List (List ℕ)) (before : World) (plant : PlantData)
+    (files : List TraceFile) : Type 0 where
+  pub word : List ℕ
+  pub traces : List (List ℕ)
+  pub ask : Ask words (Audit word traces)
+  pub leads : LeadsTo word before plant
+  pub files_are : files ≡ trace_files before.held (opened_for word) traces
+
+-- The words ask to audit traces on this plant, and the file of this name, of which the files hold this, is one that is reached.
+abbrev pub ReachTrace : List (List ℕ) → World → PlantData → List ℕ → Held → Type 0
+ReachTrace words before plant name held = (files : List TraceFile)
+    × AskAudit words before plant files
+    × Reaches files (record { name = name; held = held })
+
 -- The words ask for the file of this name, of which the files hold this when its turn comes: the plant's, or, where that leads
--- to a plant, the script's.
+-- to a plant, the script's or a trace's.
 abbrev pub WantsFile : List (List ℕ) → World → List ℕ → Held → Type 0
 WantsFile words before name held =
     (AskFile words name × (held ≡ before.held name 0)) ⊎
-    ((plant : PlantData) × AskReplay words before plant name held)
+    ((plant : PlantData) × AskReplay words before plant name held) ⊎
+    ((plant : PlantData) × ReachTrace words before plant name held)
 
--- The words name this file: as the plant's or as the script's.
+-- The words name this file as one of the traces.
+pub record NamesTrace (words : List (List ℕ)) (name : List ℕ) : Type 0 where
+  pub word : List ℕ
+  pub traces : List (List ℕ)
+  pub ask : Ask words (Audit word traces)
+  pub one : Contains traces name
+
+-- The words name this file: as the plant's, as the script's or as a trace.
 abbrev pub NamesFile : List (List ℕ) → List ℕ → Type 0
-NamesFile words name = AskFile words name ⊎ ((word : List ℕ) × Ask words (Replay word name))
+NamesFile words name = AskFile words name ⊎
+    ((word : List ℕ) × Ask words (Replay word name)) ⊎ NamesTrace words name
 
 -- The files show a plant file with this plant.
 abbrev pub ShowsFile : Held → PlantData → Type 0
@@ -68,3 +93,13 @@ pub record AskHeld (words : List (List ℕ)) (before : World) (plant : PlantData
   pub ask : Ask words (Replay word name)
   pub shows : ShowsPlant word before plant
   pub held_is : before.held name (next_opening word name) ≡ held
+
+-- The words ask to audit these traces on this plant, which the files show, and each trace finds this of what the files hold
+-- behind the plant's word.
+pub record AskTraces (words : List (List ℕ)) (before : World) (plant : PlantData)
+    (files : List TraceFile) : Type 0 where
+  pub word : List ℕ
+  pub traces : List (List ℕ)
+  pub ask : Ask words (Audit word traces)
+  pub shows : ShowsPlant word before plant
+  pub files_are : trace_files before.held (opened_for word) traces ≡ files

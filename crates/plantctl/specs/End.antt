@@ -2,10 +2,13 @@
 use Rattle.std.specs.Prelude.{ℕ, Bool, true, false, List}
 use Rattle.plant_file.specs.declared.fault.PlantFault.{PlantFault}
 use Rattle.plant_file.specs.PlantFile.{fault_text}
+use Rattle.trace_audit.specs.declared.verdict.Verdict.{Verdict}
+use Rattle.trace_audit.specs.declared.verdict.Verdict.TheVariants.{Confirmed, BadLine, Gap, Repeat, Differs}
 use Rattle.plantctl.specs.Lines.{usage, no_memory, file_missing, file_fault, plant_refused, plant_too_long, line_refused, script_too_long}
+use Rattle.plantctl.specs.Lines.{confirmed, trace_line_refused, trace_too_long, gap_at, repeat_at, differs_at}
 
 -- An end, with what its text names: the output of what was done, the name of a file, a plant file's fault, the number of a
--- line.
+-- line, the verdict of an audit.
 pub data End : Type 0 where
   Done : (output : List ℕ) → End
   NoMemory : End
@@ -16,6 +19,24 @@ pub data End : Type 0 where
   PlantTooLong : End
   LineRefused : (number : ℕ) → End
   ScriptTooLong : End
+  Audited : (verdict : Verdict) → End
+  TraceTooLong : End
+
+-- the exit status of an audit with this verdict: the traces are confirmed, a line of theirs is refused, or something was found
+abbrev pub verdict_status : Verdict → ℕ
+verdict_status (Confirmed count) = 0
+verdict_status (BadLine number) = 5
+verdict_status (Gap position) = 6
+verdict_status (Repeat position) = 6
+verdict_status (Differs position kept wanted) = 6
+
+-- the line of a verdict
+abbrev pub verdict_line : Verdict → List ℕ
+verdict_line (Confirmed count) = confirmed count
+verdict_line (BadLine number) = trace_line_refused number
+verdict_line (Gap position) = gap_at position
+verdict_line (Repeat position) = repeat_at position
+verdict_line (Differs position kept wanted) = differs_at position kept wanted
 
 -- the exit status
 abbrev pub status_of : End → ℕ
@@ -28,6 +49,8 @@ status_of (PlantRefused fault) = 4
 status_of PlantTooLong = 4
 status_of (LineRefused number) = 5
 status_of ScriptTooLong = 5
+status_of (Audited verdict) = verdict_status verdict
+status_of TraceTooLong = 5
 
 -- the status of every end whose text could not be written
 abbrev pub output_failed : ℕ
@@ -44,6 +67,8 @@ text_of (PlantRefused fault) = plant_refused (fault_text fault)
 text_of PlantTooLong = plant_too_long
 text_of (LineRefused number) = line_refused number
 text_of ScriptTooLong = script_too_long
+text_of (Audited verdict) = verdict_line verdict
+text_of TraceTooLong = trace_too_long
 
 -- whether the files had a fault
 abbrev pub is_file_fault : End → Bool
@@ -56,3 +81,5 @@ is_file_fault (PlantRefused fault) = false
 is_file_fault PlantTooLong = false
 is_file_fault (LineRefused number) = false
 is_file_fault ScriptTooLong = false
+is_file_fault (Audited verdict) = false
+is_file_fault TraceTooLong = false

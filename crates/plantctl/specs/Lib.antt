@@ -5,7 +5,11 @@ pub mod End
 pub mod OpensPlant
 pub mod Check
 pub mod Replay
+pub mod Audit
 pub mod Run
 pub mod Asked
+pub mod Outcomes
 pub mod Statuses
 pub mod StopInside
+pub mod WordsInside
+pub mod AuditInside

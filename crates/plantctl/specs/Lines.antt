@@ -29,3 +29,24 @@ line_refused number = line (codes "script line " ++ decimal number ++ codes " re
 
 abbrev pub script_too_long : List ℕ
 script_too_long = line (codes "script too long")
+
+abbrev pub confirmed : ℕ → List ℕ
+confirmed count = line (codes "confirmed " ++ decimal count)
+
+abbrev pub trace_line_refused : ℕ → List ℕ
+trace_line_refused number = line (codes "trace line " ++ decimal number ++ codes " refused")
+
+abbrev pub trace_too_long : List ℕ
+trace_too_long = line (codes "trace too long")
+
+abbrev pub gap_at : ℕ → List ℕ
+gap_at position = line (codes "gap at " ++ decimal position)
+
+abbrev pub repeat_at : ℕ → List ℕ
+repeat_at position = line (codes "repeat at " ++ decimal position)
+
+-- the line of a reply that differs, with the text of the one that was kept and of the one that is wanted
+abbrev pub differs_at : ℕ → List ℕ → List ℕ → List ℕ
+differs_at position kept wanted =
+    line (codes "differs at " ++ decimal position ++ codes ": kept " ++ kept ++ codes " wanted "
+    ++ wanted)

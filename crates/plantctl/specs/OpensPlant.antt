@@ -1,11 +1,11 @@
 -- What a plant's word leads to: a plant, or the end of the run.
-use Rattle.std.specs.Prelude.{◌≡◌, ℕ, ◌≤◌, Bool, bytes_eq, if◌then◌else◌, MatchBool, List, length, codes, Result, Ok, Err}
+use Rattle.std.specs.Prelude.{◌≡◌, ℕ, ◌≤◌, Bool, bytes_eq, if◌then◌else◌, MatchBool, List, [], ◌∷◌, length, codes, Result, Ok, Err}
 use Rattle.ctl_io.specs.Held.{Held, IfHeld, IsLonger, MayBeHere, MayBeMissing}
 use Rattle.plant_file.specs.declared.fault.PlantFault.{PlantFault}
 use Rattle.plant_config.specs.Plant.{PlantData}
 use Rattle.plant_config.specs.Bench.{bench}
 use Rattle.plant_config.specs.PlantOfText.{plant_of_text}
-use Rattle.plantctl.specs.End.{End, Done, NoMemory, Usage, FileMissing, FileFault, PlantRefused, PlantTooLong, LineRefused, ScriptTooLong}
+use Rattle.plantctl.specs.End.{End, Done, NoMemory, Usage, FileMissing, FileFault, PlantRefused, PlantTooLong, LineRefused, ScriptTooLong, Audited, TraceTooLong}
 
 -- the most bytes of a plant file, 4 MiB
 abbrev pub longest_plant : ℕ
@@ -28,6 +28,8 @@ OpensFile name held (Err (PlantRefused fault)) = Reads held (Err fault)
 OpensFile name held (Err PlantTooLong) = IsLonger longest_plant held
 OpensFile name held (Err (LineRefused number)) = ⊥
 OpensFile name held (Err ScriptTooLong) = ⊥
+OpensFile name held (Err (Audited verdict)) = ⊥
+OpensFile name held (Err TraceTooLong) = ⊥
 
 -- The bench plant is there, or there is no memory for it.
 abbrev pub OpensBench : Result PlantData End → Type 0
@@ -41,6 +43,8 @@ OpensBench (Err (PlantRefused fault)) = ⊥
 OpensBench (Err PlantTooLong) = ⊥
 OpensBench (Err (LineRefused number)) = ⊥
 OpensBench (Err ScriptTooLong) = ⊥
+OpensBench (Err (Audited verdict)) = ⊥
+OpensBench (Err TraceTooLong) = ⊥
 
 -- whether a plant's word is that of the bench plant, for which no file is opened
 abbrev pub is_bench : List ℕ → Bool
@@ -60,3 +64,7 @@ GoesOn Next (Err stopped) end = end ≡ stopped
 -- own name, and the first of every other
 abbrev pub next_opening : List ℕ → List ℕ → ℕ
 next_opening word name = if is_bench word then 0 else (if bytes_eq word name then 1 else 0)
+
+-- the names of the files that are opened for a plant's word: that of the plant file, but none for the bench plant
+abbrev pub opened_for : List ℕ → List (List ℕ)
+opened_for word = if is_bench word then [] else word ∷ []

@@ -4,7 +4,7 @@ use Rattle.ctl_io.specs.Held.{Held, IfHeld, MayBeMissing}
 use Rattle.plant_config.specs.Plant.{PlantData}
 use Rattle.record_replay.specs.Script.{IsFirstBad}
 use Rattle.record_replay.specs.TiedReplay.{IsTiedReplay}
-use Rattle.plantctl.specs.End.{End, Done, NoMemory, Usage, FileMissing, FileFault, PlantRefused, PlantTooLong, LineRefused, ScriptTooLong}
+use Rattle.plantctl.specs.End.{End, Done, NoMemory, Usage, FileMissing, FileFault, PlantRefused, PlantTooLong, LineRefused, ScriptTooLong, Audited, TraceTooLong}
 
 -- the most bytes of a script, 64 MiB
 abbrev pub longest_script : ℕ
@@ -30,3 +30,5 @@ ReplayEnds plant name held PlantTooLong = ⊥
 ReplayEnds plant name held (LineRefused number) =
     IfHeld held (λ script. IfFits script (IsFirstBad plant script number))
 ReplayEnds plant name held ScriptTooLong = IfHeld held (λ script. longest_script < length script)
+ReplayEnds plant name held (Audited verdict) = ⊥
+ReplayEnds plant name held TraceTooLong = ⊥

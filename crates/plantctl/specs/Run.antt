@@ -1,16 +1,17 @@
 -- How a run ends: its cause, what it wrote, and what it left of the files.
-use Rattle.std.specs.Prelude.{◌≡◌, ◌⊎◌, ℕ, List, MatchBool, Result}
+use Rattle.std.specs.Prelude.{◌≡◌, ◌≢◌, ◌⊎◌, ℕ, List, [], ◌∷◌, MatchBool, Contains, Result}
 use Rattle.ctl_io.specs.Faults.{one_more, counted}
 use Rattle.ctl_io.specs.Sink.{appended, AppendsPart}
 use Rattle.ctl_io.specs.Held.{Stays, CountsOn, OthersStay}
 use Rattle.ctl_io.specs.WholeFile.{IsGivenBack}
 use Rattle.plant_config.specs.Plant.{PlantData}
 use Rattle.plantctl.specs.World.{World, Shelf, shelf}
-use Rattle.plantctl.specs.End.{End, Usage, status_of, output_failed, text_of, is_file_fault}
-use Rattle.plantctl.specs.Words.{Command, Check, Replay, Ask, HasNoForm}
-use Rattle.plantctl.specs.OpensPlant.{is_bench, OpensPlant, GoesOn, next_opening}
+use Rattle.plantctl.specs.End.{End, Usage, FileFault, status_of, output_failed, text_of, is_file_fault}
+use Rattle.plantctl.specs.Words.{Command, Check, Replay, Audit, Ask, HasNoForm}
+use Rattle.plantctl.specs.OpensPlant.{is_bench, OpensPlant, GoesOn, next_opening, opened_for}
 use Rattle.plantctl.specs.Check.{CheckEnds}
 use Rattle.plantctl.specs.Replay.{ReplayEnds}
+use Rattle.plantctl.specs.Audit.{trace_files, AuditEnds}
 
 -- A command ends so, in a world that is so before it: its plant's word leads to a plant with which it goes on, or to the end.
 abbrev pub CommandEnds : Command → World → End → Type 0
@@ -21,6 +22,11 @@ CommandEnds (Replay word name) before end =
     (opened : Result PlantData End)
     × OpensPlant word (before.held word 0) opened
     × GoesOn (λ plant. ReplayEnds plant name (before.held name (next_opening word name)))
+    opened end
+CommandEnds (Audit word traces) before end =
+    (opened : Result PlantData End)
+    × OpensPlant word (before.held word 0) opened
+    × GoesOn (λ plant. AuditEnds plant (trace_files before.held (opened_for word) traces))
     opened end
 
 -- The files were left alone.
@@ -44,17 +50,36 @@ abbrev pub LeavesPlant : List ℕ → Shelf → Shelf → Type 0
 LeavesPlant word before now =
     MatchBool (is_bench word) (LeavesAlone before now) (ReadsOnly word before now)
 
--- The plant's file was read only, and behind it the script's, which isn't opened where the plant is refused.
+-- The plant's file was read only, and behind it the script's, which isn't opened where the plant is refused or its file
+-- failed.
 pub record ReadsBoth (word name : List ℕ) (before now : Shelf) (end : End) : Type 0 where
   pub between : Shelf
   pub plant : LeavesPlant word before between
   pub script : ReadsOnly name between now
   pub unopened : status_of end ≡ 4 → LeavesAlone between now
+  pub failed : end ≡ FileFault word → word ≢ name → LeavesAlone between now
+
+-- The files of these names were read only, one after the other in order.
+abbrev pub ReadsInOrder : List (List ℕ) → Shelf → Shelf → Type 0
+ReadsInOrder [] before now = now ≡ before
+ReadsInOrder (name ∷ later) before now =
+    (between : Shelf) × ReadsOnly name before between × ReadsInOrder later between now
+
+-- The plant's file was read only, and behind it the traces' in order, of which none is opened where the plant is refused or
+-- its file failed.
+pub record ReadsTraces (word : List ℕ) (traces : List (List ℕ)) (before now : Shelf) (end : End)
+    : Type 0 where
+  pub between : Shelf
+  pub plant : LeavesPlant word before between
+  pub read : ReadsInOrder traces between now
+  pub unopened : status_of end ≡ 4 → LeavesAlone between now
+  pub failed : end ≡ FileFault word → (Contains traces word → ⊥) → LeavesAlone between now
 
 -- the files that a command leaves where it ends so
 abbrev pub LeavesFiles : Command → Shelf → Shelf → End → Type 0
 LeavesFiles (Check word) before now end = LeavesPlant word before now
 LeavesFiles (Replay word name) before now end = ReadsBoth word name before now end
+LeavesFiles (Audit word traces) before now end = ReadsTraces word traces before now end
 
 -- The words have no form, the run says so, and leaves the files alone.
 pub record EndsAtWords (words : List (List ℕ)) (before now : World) (end : End) : Type 0 where

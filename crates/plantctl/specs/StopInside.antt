@@ -1,5 +1,5 @@
 -- How a run stops in the code, before its end is written out.
-use Rattle.std.specs.Prelude.{◌≡◌, ◌≢◌, ◌⊎◌, ℕ, Bool, true, false, List, [], ◌++◌, string_bytes, Option, Result, Ok, Err}
+use Rattle.std.specs.Prelude.{◌≡◌, ◌≢◌, ◌⊎◌, ℕ, Bool, true, false, List, [], ◌++◌, ◌+◌, codes, string_bytes, Option, Result, Ok, Err}
 use Rattle.std.specs.Borrow.{Bor}
 use Rattle.ctl_io.specs.Faults.{one_more, counted}
 use Rattle.ctl_io.specs.Held.{Held}
@@ -18,10 +18,10 @@ use Rattle.plantctl.specs.declared.stop.Status.{Status}
 use Rattle.plantctl.specs.declared.stop.Status.TheVariants as statuses
 use Rattle.plantctl.specs.declared.words.Command as code
 use Rattle.plantctl.specs.declared.words.Command.TheVariants as commands
-use Rattle.plantctl.specs.Lines.{usage, no_memory, file_missing, file_fault, plant_refused, plant_too_long, line_refused, script_too_long}
-use Rattle.plantctl.specs.End.{End, status_of, output_failed, text_of, is_file_fault}
+use Rattle.plantctl.specs.Lines.{usage, no_memory, file_missing, file_fault, plant_refused, plant_too_long, line_refused, script_too_long, trace_too_long}
+use Rattle.plantctl.specs.End.{End, status_of, output_failed, text_of, is_file_fault, verdict_status, verdict_line}
 use Rattle.plantctl.specs.World.{World, shelf}
-use Rattle.plantctl.specs.Words.{Command, Check, Replay}
+use Rattle.plantctl.specs.Words.{Command, Check, Replay, Audit, texts}
 use Rattle.plantctl.specs.OpensPlant.{next_opening}
 use Rattle.plantctl.specs.Run.{CommandEnds, LeavesFiles, EndsAtWords, EndsByCommand}
 
@@ -33,7 +33,12 @@ number_of statuses.Usage = 2
 number_of statuses.File = 3
 number_of statuses.Plant = 4
 number_of statuses.Script = 5
+number_of statuses.Finding = 6
 number_of statuses.Output = 7
+
+-- what stands of the two replies in the line of one that differs
+abbrev pub replies_text : List ℕ → List ℕ → List ℕ
+replies_text kept wanted = kept ++ codes " wanted " ++ wanted ++ codes "\n"
 
 -- what a stop has still to write
 abbrev pub line_of : Stop → List ℕ
@@ -45,6 +50,8 @@ line_of (stops.PlantRefused why) = plant_refused (string_bytes why)
 line_of stops.PlantTooLong = plant_too_long
 line_of (stops.LineRefused number) = line_refused number
 line_of stops.ScriptTooLong = script_too_long
+line_of (stops.Found verdict) = verdict_line verdict
+line_of stops.TraceTooLong = trace_too_long
 line_of stops.OutputFault = []
 
 -- the status of a stop
@@ -57,6 +64,8 @@ stop_status (stops.PlantRefused why) = 4
 stop_status stops.PlantTooLong = 4
 stop_status (stops.LineRefused number) = 5
 stop_status stops.ScriptTooLong = 5
+stop_status (stops.Found verdict) = verdict_status verdict
+stop_status stops.TraceTooLong = 5
 stop_status stops.OutputFault = 7
 
 -- Whether a write failed, and whether the files did, before the report.
@@ -69,6 +78,8 @@ is_by_output (stops.PlantRefused why) = false
 is_by_output stops.PlantTooLong = false
 is_by_output (stops.LineRefused number) = false
 is_by_output stops.ScriptTooLong = false
+is_by_output (stops.Found verdict) = false
+is_by_output stops.TraceTooLong = false
 is_by_output stops.OutputFault = true
 
 abbrev pub is_by_files : Stop → Bool
@@ -80,6 +91,8 @@ is_by_files (stops.PlantRefused why) = false
 is_by_files stops.PlantTooLong = false
 is_by_files (stops.LineRefused number) = false
 is_by_files stops.ScriptTooLong = false
+is_by_files (stops.Found verdict) = false
+is_by_files stops.TraceTooLong = false
 is_by_files stops.OutputFault = false
 
 abbrev pub stopped_by_output : {T : Type 0} → Result T Stop → Bool
@@ -110,6 +123,8 @@ StopComesTo stops.PlantTooLong end before now = IsFrontOf stops.PlantTooLong end
 StopComesTo (stops.LineRefused number) end before now =
     IsFrontOf (stops.LineRefused number) end before now
 StopComesTo stops.ScriptTooLong end before now = IsFrontOf stops.ScriptTooLong end before now
+StopComesTo (stops.Found verdict) end before now = IsFrontOf (stops.Found verdict) end before now
+StopComesTo stops.TraceTooLong end before now = IsFrontOf stops.TraceTooLong end before now
 StopComesTo stops.OutputFault end before now = AppendsPart (text_of end) before now
 
 -- What was done, or a stop, comes to this end.
@@ -156,10 +171,11 @@ abbrev pub OpensAs : (Result PlantData End → Type 0) → Result PlantData Stop
 OpensAs Opens (Ok plant) = Opens (Ok plant)
 OpensAs Opens (Err stop) = (end : End) × Opens (Err end) × IsStopOf stop end
 
--- Once a plant's word has led to a plant, the next opening of a name finds this.
+-- Once a plant's word has led to a plant, each opening of a name finds this.
 abbrev pub AreNext : List ℕ → (List ℕ → ℕ → Held) → (List ℕ → ℕ → Held)
     → Type 0
-AreNext word before now = (name : List ℕ) → now name 0 ≡ before name (next_opening word name)
+AreNext word before now = (name : List ℕ) (opening : ℕ)
+    → now name opening ≡ before name (next_opening word name + opening)
 
 -- the stop for a fault of a file, which is this one where the file is too long, and for a fault of a replay
 abbrev pub stop_of_file : FileFault → Bor (List ℕ) → Stop → Stop
@@ -184,12 +200,15 @@ SaysFault fault (stops.FileFault name) = ⊥
 SaysFault fault stops.PlantTooLong = ⊥
 SaysFault fault (stops.LineRefused number) = ⊥
 SaysFault fault stops.ScriptTooLong = ⊥
+SaysFault fault (stops.Found verdict) = ⊥
+SaysFault fault stops.TraceTooLong = ⊥
 SaysFault fault stops.OutputFault = ⊥
 
 -- what the code calls this command
 abbrev pub asked : code.Command → Command
 asked (commands.Check plant) = Check plant.now
 asked (commands.Replay plant script) = Replay plant.now script.now
+asked (commands.Audit plant traces) = Audit plant.now (texts traces.now)
 
 -- A command came to the report.
 pub record CommandStops {T : Type 0} (command : Command) (before now : World)

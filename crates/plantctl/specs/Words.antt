@@ -1,5 +1,5 @@
 -- The words of the command line: what they ask, and their forms.
-use Rattle.std.specs.Prelude.{◌≡◌, ◌≢◌, ℕ, List, [], ◌∷◌, map, codes}
+use Rattle.std.specs.Prelude.{◌≡◌, ◌≢◌, ℕ, ◌≤◌, List, [], ◌∷◌, length, map, All, codes}
 use Rattle.std.specs.Global.{Global}
 use Rattle.std.specs.declared.string.String.{String}
 use Rattle.std.specs.String.{string_bytes}
@@ -8,30 +8,45 @@ use Rattle.std.specs.String.{string_bytes}
 abbrev pub texts : List (String Global) → List (List ℕ)
 texts words = map string_bytes words
 
--- A command, with its words: `check` has a plant's word, and `replay` a plant's word and the name of a script.
+-- A command, with its words: `check` has a plant's word, `replay` a plant's word and the name of a script, and `audit` a plant's
+-- word and the names of traces.
 pub data Command : Type 0 where
   Check : (plant : List ℕ) → Command
   Replay : (plant script : List ℕ) → Command
+  Audit : (plant : List ℕ) (traces : List (List ℕ)) → Command
 
 -- the words that ask for it
 abbrev pub words_of : Command → List (List ℕ)
 words_of (Check plant) = codes "check" ∷ plant ∷ []
 words_of (Replay plant script) = codes "replay" ∷ plant ∷ script ∷ []
+words_of (Audit plant traces) = codes "audit" ∷ plant ∷ traces
 
 -- the plant's word
 abbrev pub plant_word : Command → List ℕ
 plant_word (Check plant) = plant
 plant_word (Replay plant script) = plant
+plant_word (Audit plant traces) = plant
 
 -- A word that names something isn't empty and doesn't begin with a dash.
 abbrev pub IsName : List ℕ → Type 0
 IsName [] = ⊥
 IsName (byte ∷ more) = byte ≢ 45
 
--- The words of a command are such as it takes: a plant's word and a script's are names.
+-- the most traces of an audit
+abbrev pub most_traces : ℕ
+most_traces = 200
+
+-- Words name traces: there are 1 to 200 of them, and each is a name.
+pub record NameTraces (words : List (List ℕ)) : Type 0 where
+  pub some : 1 ≤ length words
+  pub few : length words ≤ most_traces
+  pub names : All IsName words
+
+-- The words of a command are such as it takes: a plant's word, a script's and those of traces are names.
 abbrev pub IsProper : Command → Type 0
 IsProper (Check plant) = IsName plant
 IsProper (Replay plant script) = IsName plant × IsName script
+IsProper (Audit plant traces) = IsName plant × NameTraces traces
 
 -- The words ask for this command.
 pub record Ask (words : List (List ℕ)) (command : Command) : Type 0 where

@@ -3,21 +3,25 @@
 ghost use Rattle.plantctl.specs.Statuses.{StatusesAreKnown, ZeroHasDone, OneRanOutOfMemory};
 ghost use Rattle.plantctl.specs.Statuses.{TwoHasNoForm, TwoTellsUsage, NoFormEndsWithTwo};
 ghost use Rattle.plantctl.specs.Statuses.{ThreeHasCause, NoPlantEndsWithThree};
-ghost use Rattle.plantctl.specs.Statuses.{NoScriptEndsWithThree};
+ghost use Rattle.plantctl.specs.Statuses.{NoScriptEndsWithThree, NoTraceEndsWithThree};
 ghost use Rattle.plantctl.specs.Statuses.{FourHasCause, RefusedPlantEndsWithFour};
 ghost use Rattle.plantctl.specs.Statuses.{FourOpensNoScript};
 ghost use Rattle.plantctl.specs.Statuses.{FiveHasCause, RefusedEndsWithFive, AcceptedEndsWithZero};
-ghost use Rattle.plantctl.specs.Statuses.{PlantEndsWithZero, SevenHasCause, OthersWriteAll};
+ghost use Rattle.plantctl.specs.Statuses.{PlantEndsWithZero, LongTracesEndWithFive};
+ghost use Rattle.plantctl.specs.Statuses.{SixHasCause, VerdictsEndRuns};
+ghost use Rattle.plantctl.specs.Statuses.{SevenHasCause, OthersWriteAll};
 ghost use Rattle.plantctl.specs.Statuses.{SourcesComeBack, NoSinkIsMade, OtherNamesStay};
 ghost use Rattle.plantctl.specs.Statuses.{FileFaultsStay, FileFaultsRiseOnce};
+
+use plant_file::a_plant_file_is_right;
 
 /// No other status is answered.
 pub fn statuses()
     ensures { StatusesAreKnown }
 {}
 
-/// Status 0: exactly the plant's ten lines or the script's replay text was appended, and in the history behind that text
-/// no tie ever carries two sources. Status 1: memory ran out.
+/// Status 0: exactly the plant's ten lines, the script's replay text, or the line that confirms the traces was appended,
+/// and in the history behind a replay text no tie ever carries two sources. Status 1: memory ran out.
 pub fn done()
     ensures done { ZeroHasDone }
     ensures checked { PlantEndsWithZero }
@@ -32,27 +36,39 @@ pub fn usage_told()
 {}
 
 /// Status 3: a file that the words ask for is missing, or the files had a fault. A missing plant file always ends
-/// so, unless the line could not be written, and a missing script, unless memory runs out or the output fails.
+/// so, unless the line could not be written, and a missing script or trace, unless memory runs out or the output fails.
 pub fn file_refused()
     ensures cause { ThreeHasCause }
     ensures no_plant { NoPlantEndsWithThree }
     ensures no_script { NoScriptEndsWithThree }
+    ensures no_trace { NoTraceEndsWithThree }
 {}
 
-/// Status 4: the plant file's first fault, or its length. Such a file ends the run before the script is opened.
+/// Status 4: the plant file's first fault, or its length. Such a file ends the run before the script or a trace is opened.
 pub fn plant_refused()
     ensures cause { FourHasCause }
     ensures refused { RefusedPlantEndsWithFour }
     ensures unopened { FourOpensNoScript }
 {}
 
-/// Status 5: the first line without a form, or the script's length. A script that is refused is never replayed,
-/// and one that is accepted is never refused.
+/// Status 5: the first line without a form, of a script or of all traces, or the length of the script or of the traces
+/// together. A script that is refused is never replayed, and one that is accepted is never refused; traces that are too
+/// long are never audited.
 pub fn script_refused()
     ensures cause { FiveHasCause }
     ensures refused { RefusedEndsWithFive }
     ensures accepted { AcceptedEndsWithZero }
+    ensures long { LongTracesEndWithFive }
 {}
+
+/// Status 6: the audit found a gap, a repeat or a difference. Traces that aren't too long lead to the status of their
+/// verdict: 0 where they are confirmed, 5 where a line is refused, and 6 where something is found.
+pub fn traces_audited()
+    ensures cause { SixHasCause }
+    ensures verdict { VerdictsEndRuns }
+{
+    a_plant_file_is_right();
+}
 
 /// Status 7: only where a write of the output failed, and no write failed behind any other status.
 pub fn output_fault()

@@ -3,17 +3,21 @@
 //! exit statuses tell are the laws of `laws`.
 #![tactic(auto)]
 
+mod audit;
 mod check;
 mod laws;
+mod parsed_words;
+mod parts;
 mod plant;
 mod replay;
 mod run;
 mod stop;
+mod verdict;
 mod words;
 
 pub use laws::{
     done, file_refused, files_stay, output_fault, plant_refused, script_refused, statuses,
-    usage_told,
+    traces_audited, usage_told,
 };
 pub use run::run_quiet;
 

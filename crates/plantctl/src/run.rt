@@ -1,10 +1,11 @@
 //! The top call.
 
 ghost use Rattle.plantctl.specs.World.{world};
-ghost use Rattle.plantctl.specs.Words.{Check, Replay, texts};
+ghost use Rattle.plantctl.specs.Words.{Check, Replay, Audit, texts};
 ghost use Rattle.plantctl.specs.Run.{RunEnds};
 ghost use Rattle.plantctl.specs.StopInside.{CommandStops, RunStops};
 
+use crate::audit::audit;
 use crate::check::check;
 use crate::plant::open_plant;
 use crate::replay::replay;
@@ -15,9 +16,10 @@ use std::alloc::Global;
 
 /// Does what the words ask, and answers the exit status. It waits for nobody.
 ///
-/// The words have two forms: `check PLANT` says what a plant has, and `replay PLANT SCRIPT` replays the script of
-/// that name on it. PLANT is the name of a plant file, or `bench`. Where one thing is wrong the run ends there, in
-/// this order: the words, the plant's file, the script's file, its lines.
+/// The words have three forms: `check PLANT` says what a plant has, `replay PLANT SCRIPT` replays the script of that
+/// name on it, and `audit PLANT TRACE..` says whether the lines of 1 to 200 traces together are a history of it. PLANT
+/// is the name of a plant file, or `bench`. Where one thing is wrong the run ends there, in this order: the words, the
+/// plant's file, the other files in the order of the words, their lines.
 pub fn run_quiet<F: Files, K: Sink>(
     alloc: Global,
     words: &[String],
@@ -45,9 +47,10 @@ fn run<'a, F: Files, K: Sink>(
         (world F.held F.custody F.faults K.written K.faults files.new out.new)
         result }
 {
-    match read_words(words) {
+    match read_words(alloc, words) {
         Some(Command::Check { plant }) => run_check(alloc, plant, files, out),
         Some(Command::Replay { plant, script }) => run_replay(alloc, plant, script, files, out),
+        Some(Command::Audit { plant, traces }) => run_audit(alloc, plant, traces, files, out),
         None => Err(Stop::Usage),
     }
 }
@@ -89,4 +92,24 @@ fn run_replay<'a, F: Files, K: Sink>(
         Err(stop) => return Err(stop),
     };
     replay(alloc, &plant, script, files, out)
+}
+
+// Audits the traces of these names on the plant of this word.
+fn run_audit<'a, F: Files, K: Sink>(
+    alloc: Global,
+    word: &'a str,
+    traces: &'a [String],
+    files: &mut F,
+    out: &mut K,
+) -> Result<(), Stop<'a>>
+    ensures { CommandStops (Audit word.now (texts traces.now))
+        (world F.held F.custody F.faults K.written K.faults files.old out.old)
+        (world F.held F.custody F.faults K.written K.faults files.new out.new)
+        result }
+{
+    let plant = match open_plant(alloc, word, files) {
+        Ok(plant) => plant,
+        Err(stop) => return Err(stop),
+    };
+    audit(alloc, &plant, traces, files, out)
 }

@@ -10,11 +10,13 @@ ghost use Rattle.plantctl.specs.StopInside.{number_of, line_of, stop_status};
 ghost use Rattle.plantctl.specs.StopInside.{stop_of_file, stop_of_replay};
 ghost use Rattle.plantctl.specs.StopInside.{SaysFault, Reports};
 
+use crate::parts::{write_number, write_parts};
+use crate::verdict::{status_of, write_verdict};
 use ctl_io::{FileFault, Sink, write_all};
-use itoa::Buffer;
 use plant_config::PlantFault;
 use record_replay::ReplayFault;
 use std::alloc::{AllocError, Global};
+use trace_audit::Verdict;
 
 const USAGE: &[u8] =
     b"usage: plantctl check PLANT, replay PLANT SCRIPT, audit PLANT TRACE.., serve PLANT [PREFIX], drill NUMBER PANELS MESSAGES\n";
@@ -30,8 +32,10 @@ pub(crate) enum Status {
     File = 3,
     /// The plant file has a fault or is too long.
     Plant = 4,
-    /// A line of the script has no form, or the script is too long.
+    /// A line of a script or a trace has no form, or the script or the traces are too long.
     Script = 5,
+    /// The audit found a gap, a repeat or a difference.
+    Finding = 6,
     /// A write of the output failed.
     Output = 7,
 }
@@ -61,6 +65,9 @@ pub(crate) enum Stop<'a> {
     /// The line of this number, counted from 1, has no form.
     LineRefused(u64),
     ScriptTooLong,
+    /// The audit of traces had this verdict, by which they aren't confirmed.
+    Found(Verdict),
+    TraceTooLong,
     /// A write of the output failed.
     OutputFault,
 }
@@ -120,7 +127,8 @@ impl<'a> Stop<'a> {
             Stop::Usage => Status::Usage,
             Stop::FileMissing(_) | Stop::FileFault(_) => Status::File,
             Stop::PlantRefused(_) | Stop::PlantTooLong => Status::Plant,
-            Stop::LineRefused(_) | Stop::ScriptTooLong => Status::Script,
+            Stop::LineRefused(_) | Stop::ScriptTooLong | Stop::TraceTooLong => Status::Script,
+            Stop::Found(verdict) => status_of(verdict),
             Stop::OutputFault => Status::Output,
         }
     }
@@ -143,37 +151,13 @@ impl<'a> Stop<'a> {
                 write_parts(out, b"plant refused: ", text, b"\n")
             }
             Stop::PlantTooLong => write_all(out, b"plant refused: too long\n"),
-            Stop::LineRefused(number) => {
-                let mut buffer = Buffer::new();
-                let digits = buffer.format(*number).as_bytes();
-                write_parts(out, b"script line ", digits, b" refused\n")
-            }
+            Stop::LineRefused(number) => write_number(out, b"script line ", *number, b" refused\n"),
             Stop::ScriptTooLong => write_all(out, b"script too long\n"),
+            Stop::Found(verdict) => write_verdict(out, verdict),
+            Stop::TraceTooLong => write_all(out, b"trace too long\n"),
             Stop::OutputFault => true,
         }
     }
-}
-
-// Appends these parts one after the other, and answers whether it could.
-fn write_parts<K: Sink>(out: &mut K, front: &[u8], middle: &[u8], end: &[u8]) -> bool
-    ensures all { OnTrue result
-        (K.written out.new ≡ appended (K.written out.old) (front.now ++ middle.now ++ end.now)) }
-    ensures front { OnFalse result
-        (AppendsPart (front.now ++ middle.now ++ end.now) (K.written out.old) (K.written out.new)) }
-    ensures count { K.faults out.new ≡ counted (not result) (K.faults out.old) }
-{
-    write_pair(out, front, middle) && write_all(out, end)
-}
-
-// Appends two parts one after the other, and answers whether it could.
-fn write_pair<K: Sink>(out: &mut K, front: &[u8], end: &[u8]) -> bool
-    ensures all { OnTrue result
-        (K.written out.new ≡ appended (K.written out.old) (front.now ++ end.now)) }
-    ensures front { OnFalse result
-        (AppendsPart (front.now ++ end.now) (K.written out.old) (K.written out.new)) }
-    ensures count { K.faults out.new ≡ counted (not result) (K.faults out.old) }
-{
-    write_all(out, front) && write_all(out, end)
 }
 
 /// Appends the line of a stop, and answers the status. Where the line can't be written, that is the output's.

@@ -1,5 +1,7 @@
 //! Runs over files and an output in memory, by subject.
 
+mod audits;
+mod changes;
 mod day;
 mod ends;
 mod frames;
@@ -63,7 +65,7 @@ fn files_of(alloc: Global, texts: &[(&str, &str)]) -> Result<MemFiles, AllocErro
             source: MemSource::new(alloc, text.as_bytes().to_vec(alloc)?, Vec::new(alloc))?,
         })?;
     }
-    MemFiles::new(alloc, files, Vec::new(alloc), 2, Vec::new(alloc))
+    MemFiles::new(alloc, files, Vec::new(alloc), texts.len(), Vec::new(alloc))
 }
 
 // The words as the program has them.

@@ -1,26 +1,57 @@
 //! The words of the command line.
 
-ghost use Rattle.std.specs.Prelude.{◌↔◌, [], ◌∷◌, codes, IsTrue, MatchOption};
-ghost use Rattle.plantctl.specs.Words.{HasNoForm, Ask, IsName, texts};
+ghost use Rattle.std.specs.Prelude.{◌↔◌, [], ◌∷◌, codes, All, IsTrue, MatchOption};
+ghost use Rattle.plantctl.specs.Words.{HasNoForm, Ask, IsName, NameTraces, texts};
 ghost use Rattle.plantctl.specs.StopInside.{asked};
 
+use crate::parsed_words::{command_of, parse};
+use std::alloc::Global;
 use std::rt::Env;
 use std::{env, io};
 
 // No word that names something begins with it.
 const DASH: u8 = b'-';
 
+// The most traces of an audit.
+pub(crate) const MAX_TRACES: usize = 200;
+
 /// What the words ask.
 #[derive(Clone, Copy, Debug, PartialEq, Eq)]
 pub(crate) enum Command<'a> {
     /// Say what the plant of this word has.
-    Check { plant: &'a str },
+    Check {
+        plant: &'a str,
+    },
     /// Replay the script of this name on the plant of this word.
-    Replay { plant: &'a str, script: &'a str },
+    Replay {
+        plant: &'a str,
+        script: &'a str,
+    },
+    /// Audit the traces of these names on the plant of this word.
+    Audit {
+        plant: &'a str,
+        traces: &'a [String],
+    },
 }
 
-// `None` where the words have no form.
-pub(crate) fn read_words(words: &[String]) -> Option<Command<'_>>
+// `None` where the words have no form. Without memory for `clap` the own reading stands.
+pub(crate) fn read_words<'a>(alloc: Global, words: &'a [String]) -> Option<Command<'a>>
+    ensures { MatchOption result
+        (HasNoForm (texts words.now))
+        (λ command. Ask (texts words.now) (asked command)) }
+{
+    let own = match own_reading(words) {
+        Some(own) => own,
+        None => return None,
+    };
+    match parse(alloc, words) {
+        Ok(matches) => command_of(&matches, words),
+        Err(_) => Some(own),
+    }
+}
+
+// What the program itself makes of the words. `clap` would take more: `help`, `-h`, `--`.
+fn own_reading(words: &[String]) -> Option<Command<'_>>
     ensures { MatchOption result
         (HasNoForm (texts words.now))
         (λ command. Ask (texts words.now) (asked command)) }
@@ -31,6 +62,7 @@ pub(crate) fn read_words(words: &[String]) -> Option<Command<'_>>
     match first.as_str() {
         "check" => read_check(others),
         "replay" => read_replay(others),
+        "audit" => read_audit(others),
         _ => None,
     }
 }
@@ -68,6 +100,42 @@ fn read_replay(words: &[String]) -> Option<Command<'_>>
     } else {
         None
     }
+}
+
+// The command of the words behind `audit`.
+fn read_audit(words: &[String]) -> Option<Command<'_>>
+    ensures { MatchOption result
+        (HasNoForm (codes "audit" ∷ texts words.now))
+        (λ command. Ask (codes "audit" ∷ texts words.now) (asked command)) }
+{
+    let [plant, traces @ ..] = words else {
+        return None;
+    };
+    let plant = plant.as_str();
+    if is_name(plant) && name_traces(traces) {
+        Some(Command::Audit { plant, traces })
+    } else {
+        None
+    }
+}
+
+// Whether words name traces: there are 1 to 200 of them, and each is a name.
+fn name_traces(words: &[String]) -> bool
+    ensures { IsTrue result ↔ NameTraces (texts words.now) }
+{
+    1 <= words.len() && words.len() <= MAX_TRACES && are_names(words)
+}
+
+// Whether each word names something.
+fn are_names(words: &[String]) -> bool
+    ensures { IsTrue result ↔ All IsName (texts words.now) }
+{
+    for word in words {
+        if !is_name(word.as_str()) {
+            return false;
+        }
+    }
+    true
 }
 
 // Whether a word names something: it isn't empty and doesn't begin with a dash.

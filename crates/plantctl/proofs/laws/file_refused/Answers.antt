@@ -1,5 +1,6 @@
 use Rattle.plantctl.proofs.StatusesLemmas.{file_cause}
 use Rattle.plantctl.proofs.AlwaysLemmas.{no_plant, no_script}
+use Rattle.plantctl.proofs.TracesLemmas.{no_trace}
 use Rattle.plantctl.proofs.laws.file_refused.Goals as goal
 
 pub returns-clause-cause : goal.returns-clause-cause
@@ -10,3 +11,6 @@ returns-clause-no_plant c = no_plant
 
 pub returns-clause-no_script : goal.returns-clause-no_script
 returns-clause-no_script c = no_script
+
+pub returns-clause-no_trace : goal.returns-clause-no_trace
+returns-clause-no_trace c = no_trace

@@ -1,5 +1,6 @@
 use Rattle.plantctl.proofs.ScriptLemmas.{script_cause}
 use Rattle.plantctl.proofs.AlwaysLemmas.{refused_always, accepted_always}
+use Rattle.plantctl.proofs.TracesLemmas.{long_always}
 use Rattle.plantctl.proofs.laws.script_refused.Goals as goal
 
 pub returns-clause-cause : goal.returns-clause-cause
@@ -10,3 +11,6 @@ returns-clause-refused c = refused_always
 
 pub returns-clause-accepted : goal.returns-clause-accepted
 returns-clause-accepted c = accepted_always
+
+pub returns-clause-long : goal.returns-clause-long
+returns-clause-long c = long_always

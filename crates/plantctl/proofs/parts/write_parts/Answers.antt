@@ -1,6 +1,6 @@
 use Rattle.std.proofs.Common.{◌++◌}
 use Rattle.plantctl.proofs.StopLemmas.{both-all, both-front}
-use Rattle.plantctl.proofs.stop.write_parts.Goals as goal
+use Rattle.plantctl.proofs.parts.write_parts.Goals as goal
 
 pub returns-then-write_pair-clause-all : goal.returns-then-write_pair-clause-all
 returns-then-write_pair-clause-all g c =

@@ -1,5 +1,5 @@
 use Rattle.plantctl.proofs.StopLemmas.{both-all, both-front}
-use Rattle.plantctl.proofs.stop.write_pair.Goals as goal
+use Rattle.plantctl.proofs.parts.write_pair.Goals as goal
 
 pub returns-then-write_all-clause-all : goal.returns-then-write_all-clause-all
 returns-then-write_all-clause-all g c =

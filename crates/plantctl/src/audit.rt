@@ -1,0 +1,93 @@
+//! The command `audit`.
+
+ghost use Rattle.std.specs.Prelude.{◌≡◌, [], false, IfOk, IfErr};
+ghost use Rattle.ctl_io.specs.Faults.{counted};
+ghost use Rattle.plantctl.specs.World.{shelf_of};
+ghost use Rattle.plantctl.specs.Words.{texts};
+ghost use Rattle.plantctl.specs.End.{Audited};
+ghost use Rattle.plantctl.specs.Audit.{trace_files, AuditEnds};
+ghost use Rattle.plantctl.specs.Run.{ReadsInOrder};
+ghost use Rattle.plantctl.specs.StopInside.{stopped_by_files, stopped_by_output, StopsFor, ComesTo};
+ghost use Rattle.plantctl.specs.AuditInside.{AreJoined, StopsReading};
+
+use crate::stop::Stop;
+use crate::verdict::write_verdict;
+use ctl_io::{Files, Sink, read_file};
+use line_text::join_lines;
+use plant_config::Plant;
+use std::alloc::Global;
+use trace_audit::Verdict;
+
+// The most bytes of all traces together, 256 MiB.
+const MAX_TRACES: usize = 256 << 20;
+
+// Audits the traces of these names on the plant, and tells the verdict.
+pub(crate) fn audit<'a, F: Files, K: Sink>(
+    alloc: Global,
+    plant: &Plant,
+    names: &'a [String],
+    files: &mut F,
+    out: &mut K,
+) -> Result<(), Stop<'a>>
+    ensures ends { StopsFor result
+        (AuditEnds plant.now (trace_files (F.held files.old) [] (texts names.now)))
+        (K.written out.old) (K.written out.new) }
+    ensures files { ReadsInOrder (texts names.now)
+        (shelf_of F.held F.custody files.old) (shelf_of F.held F.custody files.new) }
+    ensures file_count { F.faults files.new
+        ≡ counted (stopped_by_files result) (F.faults files.old) }
+    ensures output_count { K.faults out.new
+        ≡ counted (stopped_by_output result) (K.faults out.old) }
+{
+    let text = match read_traces(alloc, names, files) {
+        Ok(text) => text,
+        Err(stop) => return Err(stop),
+    };
+    match trace_audit::audit(alloc, plant, &text) {
+        Ok(verdict) => tell(verdict, out),
+        Err(_) => Err(Stop::NoMemory),
+    }
+}
+
+// All lines of the traces of these names, in order.
+fn read_traces<'a, F: Files>(
+    alloc: Global,
+    names: &'a [String],
+    files: &mut F,
+) -> Result<Vec<u8>, Stop<'a>>
+    ensures joined { IfOk result
+        (λ text. AreJoined (trace_files (F.held files.old) [] (texts names.now)) text.items) }
+    ensures stops { IfErr result
+        (λ stop. StopsReading (trace_files (F.held files.old) [] (texts names.now)) stop) }
+    ensures files { ReadsInOrder (texts names.now)
+        (shelf_of F.held F.custody files.old) (shelf_of F.held F.custody files.new) }
+    ensures count { F.faults files.new
+        ≡ counted (stopped_by_files result) (F.faults files.old) }
+{
+    let mut text = Vec::new(alloc);
+    let mut left = MAX_TRACES;
+    for name in names {
+        let name = name.as_str();
+        let more = match read_file(alloc, files, name, left) {
+            Ok(more) => more,
+            Err(fault) => return Err(Stop::of_file(fault, name, Stop::TraceTooLong)),
+        };
+        left -= more.len();
+        join_lines(&mut text, more)?;
+    }
+    Ok(text)
+}
+
+// Writes that the traces are confirmed, or stops the run by what was found.
+fn tell<'a, K: Sink>(verdict: Verdict, out: &mut K) -> Result<(), Stop<'a>>
+    ensures comes { ComesTo result (Audited verdict) (K.written out.old) (K.written out.new) }
+    ensures no_file { stopped_by_files result ≡ false }
+    ensures output_count { K.faults out.new
+        ≡ counted (stopped_by_output result) (K.faults out.old) }
+{
+    match verdict {
+        Verdict::Confirmed(_) if write_verdict(out, &verdict) => Ok(()),
+        Verdict::Confirmed(_) => Err(Stop::OutputFault),
+        found => Err(Stop::Found(found)),
+    }
+}
