@@ -28,7 +28,7 @@ use Rattle.panel_session.specs.Text.{frames_of, with_frames, nothing_sent}
 use Rattle.panel_session.specs.StandsInside.{Kept, Keeps, IsAtStage}
 use Rattle.panel_session.specs.Session.{Stands, kept_of}
 use Rattle.panel_session.specs.ReadingInside.{IsReading, HasRead}
-use Rattle.panel_session.specs.MostAnswers.{most_answers}
+use Rattle.plant_core.specs.Answer.{room_of}
 use Rattle.panel_session.specs.MovesInside.{next, took, took_answers, ended_turn}
 use Rattle.panel_session.proofs.KeptTurnLemmas.{keeps_so_far, keeps_polled_more, keeps_turn, keeps_nothing, keeps_text, turn_over, bytes_of-append}
 use Rattle.panel_session.proofs.KeptItemLemmas.{reading, read-more}
@@ -37,8 +37,8 @@ use Rattle.panel_session.proofs.StandsLemmas.{next-small, fewer_items, stage-is,
 
 -- The plant answered the last poll of a turn.
 pub stands_polled_last : (plant : PlantData) (panel seat : ℕ) (session : Session) (past : Past) (polls : ℕ) (answers : List Answer) (unsent : Bool) → Stands plant panel session past
-    → session.stage ≡ PollStage → session.unsent ≡ false → (unsent ≡ false → (with_frames (frames_of answers) (emptied session.outgoing)).bytes ≡ [])
-    → (unsent ≡ true → (with_frames (frames_of answers) (emptied session.outgoing)).bytes ≢ [])
+    → session.stage ≡ PollStage → session.unsent ≡ false → (unsent ≡ false → (with_frames (frames_of answers) (emptied session.sender.output)).bytes ≡ [])
+    → (unsent ≡ true → (with_frames (frames_of answers) (emptied session.sender.output)).bytes ≢ [])
     → polls ≡ session.polls + 1 → (answers ≡ []) ⊎ (polls ≡ 32)
     → Stands plant panel (took_answers answers unsent (record session { stage = End; polls = polls }))
     (with_entry (record { seat = seat; request = Poll session.panel session.items session.counts.turns; answers = answers }) past)
@@ -52,18 +52,18 @@ stands_polled_last plant panel seat session past polls answers unsent stands pol
       items = session.items;
       turns = session.counts.turns;
       polls = polls;
-      output = with_frames (frames_of answers) (emptied session.outgoing);
+      output = with_frames (frames_of answers) (emptied session.sender.output);
       unsent = unsent;
     }) later in
     let full : (answers ≡ []) ⊎ (session.polls + 1 ≡ 32) = elim last [ (inl none) ↦ inl none | (inr full) ↦ inr (sym is ∙ full) ] in
     stands_with plant panel session (took_answers answers unsent (record session { stage = End; polls = polls })) past later stands refl refl refl refl refl refl refl refl
-    (subst KeepsAt (sym is) (keeps_polled_last plant session.panel session.items session.counts.turns session.polls seat session.outgoing past answers unsent k empty full))
+    (subst KeepsAt (sym is) (keeps_polled_last plant session.panel session.items session.counts.turns session.polls seat session.sender.output past answers unsent k empty full))
     some
 
 -- It answered another.
 pub stands_polled_more : (plant : PlantData) (panel seat : ℕ) (session : Session) (past : Past) (polls : ℕ) (answers : List Answer) (unsent : Bool) → Stands plant panel session past
-    → session.stage ≡ PollStage → session.unsent ≡ false → (unsent ≡ false → (with_frames (frames_of answers) (emptied session.outgoing)).bytes ≡ [])
-    → (unsent ≡ true → (with_frames (frames_of answers) (emptied session.outgoing)).bytes ≢ [])
+    → session.stage ≡ PollStage → session.unsent ≡ false → (unsent ≡ false → (with_frames (frames_of answers) (emptied session.sender.output)).bytes ≡ [])
+    → (unsent ≡ true → (with_frames (frames_of answers) (emptied session.sender.output)).bytes ≢ [])
     → polls ≡ session.polls + 1 → answers ≢ [] → polls ≢ 32
     → Stands plant panel (took_answers answers unsent (record session { stage = PollStage; polls = polls }))
     (with_entry (record { seat = seat; request = Poll session.panel session.items session.counts.turns; answers = answers }) past)
@@ -77,11 +77,11 @@ stands_polled_more plant panel seat session past polls answers unsent stands pol
       items = session.items;
       turns = session.counts.turns;
       polls = polls;
-      output = with_frames (frames_of answers) (emptied session.outgoing);
+      output = with_frames (frames_of answers) (emptied session.sender.output);
       unsent = unsent;
     }) later in
     stands_with plant panel session (took_answers answers unsent (record session { stage = PollStage; polls = polls })) past later stands refl refl refl refl refl refl refl refl
-    (subst KeepsAt (sym is) (keeps_polled_more plant session.panel session.items session.counts.turns session.polls seat session.outgoing past answers unsent k empty one (λ full. below (is ∙ full))))
+    (subst KeepsAt (sym is) (keeps_polled_more plant session.panel session.items session.counts.turns session.polls seat session.sender.output past answers unsent k empty one (λ full. below (is ∙ full))))
     some
 
 -- a session that polls has polled fewer than 32 times in the turn
@@ -105,19 +105,19 @@ stands_turn plant panel session past stands over none small =
     let TurnOf : ℕ → Type 0 = λ panel. IsTurn panel past.turns past.now in
     let read : read_so_far (with_turn past) ≡ read_so_far past = append-nil (bytes_of (past.turns ++ past.now ∷ [])) ∙ bytes_of-append past.turns past.now in (
       record {
-        turn = subst TurnOf stands.panel_is (turn_over plant session.panel session.items session.counts.turns session.polls session.outgoing past k);
+        turn = subst TurnOf stands.panel_is (turn_over plant session.panel session.items session.counts.turns session.polls session.sender.output past k);
         text = keeps_text plant (kept_of session) past none stands.keeps;
       },
       stands_with plant panel session (ended_turn session) past (with_turn past) stands read refl refl refl refl refl refl refl
           (subst KeepsThen
-          (sym (kept_same session.panel 0 session.outgoing Read Read session.items session.items (next session.counts.turns) (session.counts.turns + 1) session.unsent false refl refl one_more none))
-          (keeps_turn plant session.panel session.items session.counts.turns session.polls session.outgoing past k))
+          (sym (kept_same session.panel 0 session.sender.output Read Read session.items session.items (next session.counts.turns) (session.counts.turns + 1) session.unsent false refl refl one_more none))
+          (keeps_turn plant session.panel session.items session.counts.turns session.polls session.sender.output past k))
           stands.some,
     )
 
 -- A session to which nothing happened.
-pub stands_new : (plant : PlantData) (panel : ℕ) (session : Session) → session.plant.now ≡ plant → session.names.now ≡ plant → session.panel ≡ panel → panel < length plant.panels → framer.StandsFor session.framer []
-    → kept_of session ≡ reading panel 0 0 0 nothing_sent → session.unsent ≡ false → session.counts.goods ≡ 0 → session.counts.bads ≡ 0 → session.outbox.places ≡ most_answers
+pub stands_new : (plant : PlantData) (panel : ℕ) (session : Session) → session.plant.now ≡ plant → session.sender.names ≡ plant → session.panel ≡ panel → panel < length plant.panels → framer.StandsFor session.framer []
+    → kept_of session ≡ reading panel 0 0 0 nothing_sent → session.unsent ≡ false → session.counts.goods ≡ 0 → session.counts.bads ≡ 0 → session.outbox.places ≡ room_of plant
     → Stands plant panel session nothing_yet
 stands_new plant panel session plant_is names_are panel_is has_panel fed kept unsent goods bads places =
     let KeepsOf : Kept → Type 0 = λ kept. Keeps plant kept nothing_yet in
@@ -188,23 +188,23 @@ no_poll_stage (Sent message) is = cc
 -- An item was taken, and something is to be sent or not.
 pub has_read_item : (plant : PlantData) (panel : ℕ) (session after : Session) (past : Past) (piece : List ℕ) (used : ℕ) (a : Asked) (framer_then : Framer) (send : Bool) → IsReading plant panel session past
     → length (items (read_so_far past ++ piece)) < 2 ^ 62 → FoundAsks (read_so_far past) piece used (Some a) → framer.StandsFor framer_then (read_so_far past ++ take used piece)
-    → after ≡ took plant a (record session { framer = framer_then }) → (send ≡ true → sent_by plant a session.outgoing ≢ []) → (send ≡ true → after.outgoing.bytes ≡ sent_by plant a session.outgoing)
-    → (send ≡ false → sent_by plant a session.outgoing ≡ []) → (send ≡ false → after.stage ≡ session.stage)
+    → after ≡ took plant a (record session { framer = framer_then }) → (send ≡ true → sent_by plant a session.sender.output ≢ []) → (send ≡ true → after.sender.output.bytes ≡ sent_by plant a session.sender.output)
+    → (send ≡ false → sent_by plant a session.sender.output ≡ []) → (send ≡ false → after.stage ≡ session.stage)
     → HasRead plant panel (with_bytes (take used piece) past) send after
 has_read_item plant panel session after past piece used a framer_then send reading small found fed is some sent none quiet =
     let now = with_bytes (take used piece) past in
     let one = the_item found.item a found.asks in
     let adds : items (read_so_far past ++ take used piece) ≡ items (read_so_far past) ++ one.0 ∷ [] =
     found.feeds.adds ∙ ap (λ (item : Option (Item (List ℕ))). items (read_so_far past) ++ option_to_list item) one.1 in
-    let At : Session → Type 0 = λ after. Stands plant panel after (with_sent (sent_by plant a session.outgoing) now) in
-    let stands : Stands plant panel after (with_sent (sent_by plant a session.outgoing) now) =
+    let At : Session → Type 0 = λ after. Stands plant panel after (with_sent (sent_by plant a session.sender.output) now) in
+    let stands : Stands plant panel after (with_sent (sent_by plant a session.sender.output) now) =
     subst At (sym is) (stands_item plant panel session past (take used piece) one.0 a framer_then reading.stands reading.stage reading.none_unsent adds one.2 fed (front_small (read_so_far past) piece used small)) in
     let SentAt : List ℕ → Type 0 = λ bytes. Stands plant panel after (with_sent bytes now) in
     let empty : after.outbox.items ≡ [] = ap (λ (session : Session). session.outbox.items) is ∙ reading.none_asked in
     let quiet_then : after.unsent ≡ false = ap (λ (session : Session). session.unsent) is ∙ reading.none_unsent in
     let staged : after.stage ≡ taken_stage a = ap (λ (session : Session). session.stage) is ∙ stage-is a session.stage reading.stage in
-    (elim send as (λ send. (send ≡ true → sent_by plant a session.outgoing ≢ []) → (send ≡ true → after.outgoing.bytes ≡ sent_by plant a session.outgoing)
-    → (send ≡ false → sent_by plant a session.outgoing ≡ []) → (send ≡ false → after.stage ≡ session.stage) → HasRead plant panel now send after) [
+    (elim send as (λ send. (send ≡ true → sent_by plant a session.sender.output ≢ []) → (send ≡ true → after.sender.output.bytes ≡ sent_by plant a session.sender.output)
+    → (send ≡ false → sent_by plant a session.sender.output ≡ []) → (send ≡ false → after.stage ≡ session.stage) → HasRead plant panel now send after) [
       | true ↦ λ some sent none quiet. (
         subst SentAt (sym (sent refl)) stands,
         empty,

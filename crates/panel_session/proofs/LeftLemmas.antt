@@ -1,5 +1,5 @@
 -- How many calls a turn may still take.
-use Rattle.std.proofs.Common.{◌≡◌, ℕ, ◌+◌, ◌-◌, ◌*◌, ◌%◌, ◌^◌, ◌<◌, ◌≤◌, true, false, Bool, refl, sym, ap, ◌∙◌, subst, arith, inl, inr}
+use Rattle.std.proofs.Common.{◌≡◌, ℕ, ◌+◌, ◌-◌, ◌*◌, ◌%◌, ◌^◌, ◌<◌, ◌≤◌, true, false, Bool, List, refl, sym, ap, ◌∙◌, subst, arith, inl, inr}
 use Rattle.std.proofs.Math.Nat.{mod-eq_of_lt}
 use Rattle.plant_config.specs.Plant.{PlantData}
 use Rattle.history_lock.specs.Places.{Placed}
@@ -27,16 +27,16 @@ pub left-by : (session : Session) → calls_left session ≡ stage_left session.
 unfolding calls_left
 left-by session = refl
 
-pub left_told : (session after : Session) (message : Message) → session.stage ≡ Tell message → after ≡ took_answers session.outbox.items after.unsent (record session { stage = Read }) → calls_left after < calls_left session
-left_told session after message tell is =
+pub left_told : (session after : Session) (message : Message) (answers : List Answer) → session.stage ≡ Tell message → after ≡ took_answers answers after.unsent (record session { stage = Read }) → calls_left after < calls_left session
+left_told session after message answers tell is =
     let staged : after.stage ≡ Read = ap (λ (session : Session). session.stage) is in
     omega (arith, left-by session, left-by after, ap (λ (stage : Stage). stage_left stage session.polls) tell, ap (λ (stage : Stage). stage_left stage after.polls) staged, unsent-most after.unsent)
 
-pub left_poll : (plant : PlantData) (panel : ℕ) (session after : Session) (past : Past) (request : Request) (stage : Stage) (polls : ℕ) → Awaits plant panel session past request → session.stage ≡ PollStage
+pub left_poll : (plant : PlantData) (panel : ℕ) (session after : Session) (past : Past) (request : Request) (stage : Stage) (polls : ℕ) (answers : List Answer) → Awaits plant panel session past request → session.stage ≡ PollStage
     → polls ≡ (session.polls + 1) % 2 ^ 32 → HasPolled session.outbox.items polls stage
-    → after ≡ took_answers session.outbox.items after.unsent (record session { stage = stage; polls = polls }) → calls_left after < calls_left session
+    → after ≡ took_answers answers after.unsent (record session { stage = stage; polls = polls }) → calls_left after < calls_left session
 unfolding Awaits
-left_poll plant panel session after past request stage polls awaits poll counted polled is =
+left_poll plant panel session after past request stage polls answers awaits poll counted polled is =
     let below = polls_below plant panel session past awaits.0 poll in
     let one_more : polls ≡ session.polls + 1 = counted ∙ mod-eq_of_lt (omega arith) in
     let staged : after.stage ≡ stage = ap (λ (session : Session). session.stage) is in

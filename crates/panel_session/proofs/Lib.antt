@@ -9,6 +9,7 @@ pub mod SessionLemmas
 pub mod FrameRoom
 pub mod FrameLemmas
 pub mod AddLemmas
+pub mod RoomLemmas
 pub mod NamePageLemmas
 pub mod LeftLemmas
 pub mod RunLemmas

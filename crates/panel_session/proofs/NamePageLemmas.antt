@@ -9,6 +9,8 @@ use Rattle.plant_names.specs.declared.paged.Paged.{Paged}
 use Rattle.plant_names.specs.declared.paged.Paged.TheVariants.{Nothing, Last, More}
 use Rattle.plant_names.specs.Pages.{AreFew, most_names, page_data, page_end, page_names, page_text}
 use Rattle.panel_session.specs.NamePages.{page_count, page_from, all_pages}
+use Rattle.panel_session.specs.RoomsInside.{most_named}
+use Rattle.panel_session.proofs.RoomLemmas.{names-most}
 use Rattle.dle_framing.specs.Frame.{frame}
 use Rattle.plant_config.specs.Plant.{PlantData}
 use Rattle.panel_session.specs.declared.name_page.NamePage.{NamePage}
@@ -142,10 +144,10 @@ module _ (command matrix level size : ℕ) where
       ]
 
   -- A page that is there has bytes, and a number below the most names of a level.
-  written : (one : Bool) (first : ℕ) (names : Option (List (List ℕ))) → page_end one size first names ≢ Nothing → IfSome names AreFew
-      → (first < 1024) × (1 ≤ length (page_data command matrix level one size first names))
-  written one first None some few = absurd (some refl)
-  written one first (Some names) some few =
+  written : (most : ℕ) (one : Bool) (first : ℕ) (names : Option (List (List ℕ))) → page_end one size first names ≢ Nothing → IfSome names (λ names. length names ≤ most)
+      → (first < most) × (1 ≤ length (page_data command matrix level one size first names))
+  written most one first None some few = absurd (some refl)
+  written most one first (Some names) some few =
       let its = page_text command matrix level size first (page_names one size first names) in
       let Long : Bool → Type 0 = λ test. 1 ≤ length (if test then its else []) in
       elim (cases_lt first (length names)) [
@@ -155,10 +157,10 @@ module _ (command matrix level size : ℕ) where
       ]
 
 module _ (plant : PlantData) (page : NamePage) where
-  pub is_written : (end : Paged) → end ≡ end_of plant page → end ≢ Nothing → IfSome (names_of plant page.matrix page.names) AreFew
-      → (page.first < 1024) × (1 ≤ length (data_of plant page))
-  is_written end is some few =
-      written (command_of page.names) page.matrix (level_of page.names) page.size page.one page.first (names_of plant page.matrix page.names) (λ none. some (is ∙ none)) few
+  pub is_written : (end : Paged) → end ≡ end_of plant page → end ≢ Nothing → (page.first < most_named plant) × (1 ≤ length (data_of plant page))
+  is_written end is some =
+      written (command_of page.names) page.matrix (level_of page.names) page.size (most_named plant) page.one page.first (names_of plant page.matrix page.names) (λ none. some (is ∙ none))
+      (names-most plant page.matrix page.names)
 
   pub next_page : (next : ℕ) → More next ≡ end_of plant page → IfSome (names_of plant page.matrix page.names) AreFew → (page.first + 10 ≤ next) × (next < 1024)
   next_page next is few =

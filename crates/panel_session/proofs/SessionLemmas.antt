@@ -1,5 +1,5 @@
 -- What the calls of a session do.
-use Rattle.std.proofs.Common.{◌≡◌, ◌≢◌, ℕ, ◌+◌, ◌-◌, ◌%◌, ◌^◌, ◌<◌, true, false, Bool, List, [], ◌∷◌, ◌++◌, length, refl, sym, ap, ◌∙◌, subst, arith, ◌⊎◌, inl, inr}
+use Rattle.std.proofs.Common.{◌≡◌, ◌≢◌, ℕ, ◌+◌, ◌-◌, ◌%◌, ◌^◌, ◌<◌, ◌≤◌, true, false, Bool, List, [], ◌∷◌, ◌++◌, length, refl, sym, ap, ◌∙◌, subst, arith, ◌⊎◌, inl, inr}
 use Rattle.std.proofs.Math.Nat.{mod-eq_of_lt}
 use Rattle.std.proofs.lemmas.List.{length-append}
 use Rattle.dle_framing.specs.Items.{items}
@@ -8,6 +8,7 @@ use Rattle.panel_session.specs.OutgoingInside.{emptied}
 use Rattle.panel_session.specs.Turns.{bytes_of}
 use Rattle.plant_config.specs.Plant.{PlantData}
 use Rattle.history_lock.specs.Places.{Placed}
+use Rattle.plant_core.specs.Answer.{room_of}
 use Rattle.plant_core.specs.declared.answer.Answer.{Answer}
 use Rattle.plant_core.specs.declared.request.Request.{Request}
 use Rattle.plant_core.specs.declared.request.Request.TheVariants.{Told, Poll}
@@ -25,7 +26,8 @@ use Rattle.panel_session.specs.PolledInside.{HasPolled}
 use Rattle.panel_session.specs.ReadingInside.{IsReading, HasRead}
 use Rattle.panel_session.specs.Acting.{Acts, MayGoOn}
 use Rattle.panel_session.specs.declared.act.Act.TheVariants.{Send, Ask, Rest}
-use Rattle.panel_session.specs.MostAnswers.{most_answers}
+use Rattle.panel_session.specs.RoomsInside.{fitting}
+use Rattle.panel_session.proofs.RoomLemmas.{fits-all}
 use Rattle.panel_session.specs.MovesInside.{took_answers, ended_turn}
 use Rattle.panel_session.proofs.KeptItemLemmas.{reading, length-asked}
 use Rattle.panel_session.proofs.KeptTurnLemmas.{keeps_text}
@@ -40,7 +42,7 @@ sends plant panel session now piece used send is read =
     let has = subst P is read in (
       has.3,
       (has.0, has.1, λ poll. absurd (has.4 poll)),
-      keeps_text plant (kept_of session) (with_sent session.outgoing.bytes now) has.2 has.0.keeps,
+      keeps_text plant (kept_of session) (with_sent session.sender.output.bytes now) has.2 has.0.keeps,
     )
 
 -- or the session reads on
@@ -57,7 +59,7 @@ sends_unsent plant panel session past piece stands unsent =
     subst P (sym (no_bytes past)) (
       stands.0.some unsent,
       (after, stands.1, stands.2),
-      keeps_text plant (kept_of (record session { unsent = false })) (with_sent session.outgoing.bytes past) refl after.keeps,
+      keeps_text plant (kept_of (record session { unsent = false })) (with_sent session.sender.output.bytes past) refl after.keeps,
     )
 
 -- A session that stands for a past reads on, where it is at that stage.
@@ -68,8 +70,8 @@ is_reading plant panel session past stands read none = record { stands = stands.
 has_panel : (plant : PlantData) (panel : ℕ) (session : Session) (past : Past) → Stands plant panel session past → session.panel < length plant.panels
 has_panel plant panel session past stands = let P : ℕ → Type 0 = λ panel. panel < length plant.panels in subst P (sym stands.panel_is) stands.has_panel
 
-box_is : (box : Placed Answer) → box.items ≡ [] → box.places ≡ most_answers → box ≡ record { items = []; places = most_answers }
-box_is box empty places = ap (λ (items : List Answer). record { items = items; places = box.places }) empty ∙ ap (λ (places : ℕ). record { items = []; places = places }) places
+box_is : (box : Placed Answer) (room : ℕ) → box.items ≡ [] → box.places ≡ room → box ≡ record { items = []; places = room }
+box_is box room empty places = ap (λ (items : List Answer). record { items = items; places = box.places }) empty ∙ ap (λ (places : ℕ). record { items = []; places = places }) places
 
 -- A poll is asked.
 asks_a_poll : (plant : PlantData) (panel : ℕ) (session : Session) (now : Past) (piece : List ℕ) (used : ℕ) (request : Request) → Stands plant panel session now → session.outbox.items ≡ [] → session.stage ≡ PollStage
@@ -80,7 +82,7 @@ asks_a_poll plant panel session now piece used request stands empty poll none al
     let AskAt : Stage → Type 0 = λ stage. AsksAt stage (kept_of session) (Poll session.panel session.items session.counts.turns) in
     subst P (sym is) (
       (stands, none, subst AskAt (sym poll) refl),
-      box_is session.outbox empty stands.places,
+      box_is session.outbox (room_of plant) empty stands.places,
       has_panel plant panel session now stands,
       all,
       keeps_text plant (kept_of session) now none stands.keeps,
@@ -120,7 +122,7 @@ asks_told plant panel session past piece request message stands may tell none is
     let AskAt : Stage → Type 0 = λ stage. AsksAt stage (kept_of session) (Told session.panel (session.items - 1) message) in
     subst P (sym (no_bytes past)) (subst Q (sym (is some few)) (
       (stands.0, none, subst AskAt (sym tell) refl),
-      box_is session.outbox stands.1 stands.0.places,
+      box_is session.outbox (room_of plant) stands.1 stands.0.places,
       (has_panel plant panel session past stands.0, at.6),
       at.3,
       keeps_text plant (kept_of session) past none stands.0.keeps,
@@ -146,17 +148,26 @@ rests plant panel session past piece stands may over none =
       (after.1, stands.1, λ poll. cc),
     )
 
+-- There is room for the answers of a step.
+all_fit : (plant : PlantData) (panel : ℕ) (session : Session) (past : Past) (request : Request) → Awaits plant panel session past request → length session.outbox.items ≤ room_of plant
+    → fitting session.sender.names session.outbox.items ≡ session.outbox.items
+unfolding Awaits
+all_fit plant panel session past request awaits few =
+    ap (λ (plant : PlantData). fitting plant session.outbox.items) awaits.0.names_are ∙ fits-all plant session.outbox.items few
+
 -- The plant answered what an item sent to it.
-pub answered_told : (plant : PlantData) (panel seat : ℕ) (session after : Session) (past : Past) (request : Request) (message : Message) → Awaits plant panel session past request → session.stage ≡ Tell message
-    → after ≡ took_answers session.outbox.items after.unsent (record session { stage = Read })
-    → (after.unsent ≡ true → after.outgoing.bytes ≢ []) → (after.unsent ≡ false → after.outgoing.bytes ≡ [])
+pub answered_told : (plant : PlantData) (panel seat : ℕ) (session after : Session) (past : Past) (request : Request) (message : Message) → Awaits plant panel session past request → length session.outbox.items ≤ room_of plant → session.stage ≡ Tell message
+    → after ≡ took_answers (fitting session.sender.names session.outbox.items) after.unsent (record session { stage = Read })
+    → (after.unsent ≡ true → after.sender.output.bytes ≢ []) → (after.unsent ≡ false → after.sender.output.bytes ≡ [])
     → StandsFor plant panel after (with_entry (record { seat = seat; request = request; answers = session.outbox.items }) past)
 unfolding StandsFor Awaits
-answered_told plant panel seat session after past request message awaits tell is some none =
+answered_told plant panel seat session after past request message awaits few tell took some none =
+    let is : after ≡ took_answers session.outbox.items after.unsent (record session { stage = Read }) =
+    took ∙ ap (λ (answers : List Answer). took_answers answers after.unsent (record session { stage = Read })) (all_fit plant panel session past request awaits few) in
     let AskAt : Stage → Type 0 = λ stage. AsksAt stage (kept_of session) request in
     let asked : request ≡ Told session.panel (session.items - 1) message = subst AskAt tell awaits.2 in
     let P : Request → Type 0 = λ request. StandsFor plant panel after (with_entry (record { seat = seat; request = request; answers = session.outbox.items }) past) in
-    let sent : after.outgoing.bytes ≡ (with_frames (frames_of session.outbox.items) (emptied session.outgoing)).bytes = ap (λ (session : Session). session.outgoing.bytes) is in
+    let sent : after.sender.output.bytes ≡ (with_frames (frames_of session.outbox.items) (emptied session.sender.output)).bytes = ap (λ (session : Session). session.sender.output.bytes) is in
     let At : Session → Type 0 = λ after. Stands plant panel after (with_entry (record { seat = seat; request = Told session.panel (session.items - 1) message; answers = session.outbox.items }) past) in
     subst P (sym asked) (
       subst At (sym is) (stands_told plant panel seat session past message session.outbox.items after.unsent awaits.0 tell awaits.1 (λ quiet. sym sent ∙ none quiet) (λ unsent gone. some unsent (sent ∙ gone))),
@@ -165,23 +176,25 @@ answered_told plant panel seat session after past request message awaits tell is
     )
 
 -- The plant answered a poll.
-pub answered_poll : (plant : PlantData) (panel seat : ℕ) (session after : Session) (past : Past) (request : Request) (stage : Stage) (polls : ℕ) → Awaits plant panel session past request → session.stage ≡ PollStage
+pub answered_poll : (plant : PlantData) (panel seat : ℕ) (session after : Session) (past : Past) (request : Request) (stage : Stage) (polls : ℕ) → Awaits plant panel session past request → length session.outbox.items ≤ room_of plant → session.stage ≡ PollStage
     → polls ≡ (session.polls + 1) % 2 ^ 32 → HasPolled session.outbox.items polls stage
-    → after ≡ took_answers session.outbox.items after.unsent (record session { stage = stage; polls = polls })
-    → (after.unsent ≡ true → after.outgoing.bytes ≢ []) → (after.unsent ≡ false → after.outgoing.bytes ≡ [])
+    → after ≡ took_answers (fitting session.sender.names session.outbox.items) after.unsent (record session { stage = stage; polls = polls })
+    → (after.unsent ≡ true → after.sender.output.bytes ≢ []) → (after.unsent ≡ false → after.sender.output.bytes ≡ [])
     → StandsFor plant panel after (with_entry (record { seat = seat; request = request; answers = session.outbox.items }) past)
 unfolding StandsFor Awaits
-answered_poll plant panel seat session after past request stage polls awaits poll counted polled is some none =
+answered_poll plant panel seat session after past request stage polls awaits few poll counted polled took some none =
+    let is : after ≡ took_answers session.outbox.items after.unsent (record session { stage = stage; polls = polls }) =
+    took ∙ ap (λ (answers : List Answer). took_answers answers after.unsent (record session { stage = stage; polls = polls })) (all_fit plant panel session past request awaits few) in
     let AskAt : Stage → Type 0 = λ stage. AsksAt stage (kept_of session) request in
     let asked : request ≡ Poll session.panel session.items session.counts.turns = subst AskAt poll awaits.2 in
     let P : Request → Type 0 = λ request. StandsFor plant panel after (with_entry (record { seat = seat; request = request; answers = session.outbox.items }) past) in
-    let sent : after.outgoing.bytes ≡ (with_frames (frames_of session.outbox.items) (emptied session.outgoing)).bytes = ap (λ (session : Session). session.outgoing.bytes) is in
+    let sent : after.sender.output.bytes ≡ (with_frames (frames_of session.outbox.items) (emptied session.sender.output)).bytes = ap (λ (session : Session). session.sender.output.bytes) is in
     let entry : PlantEntry = record { seat = seat; request = Poll session.panel session.items session.counts.turns; answers = session.outbox.items } in
     let At : Session → Type 0 = λ after. Stands plant panel after (with_entry entry past) in
     let below = polls_below plant panel session past awaits.0 poll in
     let one_more : polls ≡ session.polls + 1 = counted ∙ mod-eq_of_lt (omega arith) in
-    let quiet : after.unsent ≡ false → (with_frames (frames_of session.outbox.items) (emptied session.outgoing)).bytes ≡ [] = λ quiet. sym sent ∙ none quiet in
-    let loud : after.unsent ≡ true → (with_frames (frames_of session.outbox.items) (emptied session.outgoing)).bytes ≢ [] = λ unsent gone. some unsent (sent ∙ gone) in
+    let quiet : after.unsent ≡ false → (with_frames (frames_of session.outbox.items) (emptied session.sender.output)).bytes ≡ [] = λ quiet. sym sent ∙ none quiet in
+    let loud : after.unsent ≡ true → (with_frames (frames_of session.outbox.items) (emptied session.sender.output)).bytes ≢ [] = λ unsent gone. some unsent (sent ∙ gone) in
     let StageAt : Stage → Type 0 = λ stage. Stands plant panel (took_answers session.outbox.items after.unsent (record session { stage = stage; polls = polls })) (with_entry entry past) in
     let stands : Stands plant panel (took_answers session.outbox.items after.unsent (record session { stage = stage; polls = polls })) (with_entry entry past) =
     elim polled [

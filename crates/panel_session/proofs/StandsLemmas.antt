@@ -130,21 +130,21 @@ kept_same panel polls output stage stage_then count count_then turns turns_then 
 
 -- a session at a stage, with nothing to be sent
 pub at_stage : (session : Session) (stage : Stage) → session.stage ≡ stage → session.unsent ≡ false
-    → kept_of session ≡ record { panel = session.panel; stage = stage; items = session.items; turns = session.counts.turns; polls = session.polls; output = session.outgoing; unsent = false }
-at_stage session stage at none = kept_same session.panel session.polls session.outgoing session.stage stage session.items session.items session.counts.turns session.counts.turns session.unsent false at refl refl none
+    → kept_of session ≡ record { panel = session.panel; stage = stage; items = session.items; turns = session.counts.turns; polls = session.polls; output = session.sender.output; unsent = false }
+at_stage session stage at none = kept_same session.panel session.polls session.sender.output session.stage stage session.items session.items session.counts.turns session.counts.turns session.unsent false at refl refl none
 
 -- An item was read.
 pub stands_item : (plant : PlantData) (panel : ℕ) (session : Session) (past : Past) (bytes : List ℕ) (item : Item (List ℕ)) (a : Asked) (framer_then : Framer) → Stands plant panel session past
     → session.stage ≡ Read → session.unsent ≡ false → items (read_so_far past ++ bytes) ≡ items (read_so_far past) ++ item ∷ [] → Asks item a
     → framer.StandsFor framer_then (read_so_far past ++ bytes) → length (items (read_so_far past ++ bytes)) < 2 ^ 62
-    → Stands plant panel (took plant a (record session { framer = framer_then })) (with_sent (sent_by plant a session.outgoing) (with_bytes bytes past))
+    → Stands plant panel (took plant a (record session { framer = framer_then })) (with_sent (sent_by plant a session.sender.output) (with_bytes bytes past))
 stands_item plant panel session past bytes item a framer_then stands read none adds asks fed small =
     let its = items (read_so_far past) in
     let later = with_bytes bytes past in
     let counted : length (items (read_so_far past ++ bytes)) ≡ length its + 1 = ap (length {A = Item (List ℕ)}) adds ∙ length-append its (item ∷ []) in
     let KeepsOf : Kept → Type 0 = λ kept. Keeps plant kept past in
-    let k : Keeps plant (reading session.panel session.items session.counts.turns session.polls session.outgoing) past = subst KeepsOf (at_stage session Read read none) stands.keeps in
-    let KeepsThen : Kept → Type 0 = λ kept. Keeps plant kept (with_sent (sent_by plant a session.outgoing) later) in
+    let k : Keeps plant (reading session.panel session.items session.counts.turns session.polls session.sender.output) past = subst KeepsOf (at_stage session Read read none) stands.keeps in
+    let KeepsThen : Kept → Type 0 = λ kept. Keeps plant kept (with_sent (sent_by plant a session.sender.output) later) in
     let FedOf : List ℕ → Type 0 = λ text. framer.StandsFor framer_then text in
     let all : items (read_so_far later) ≡ its ++ item ∷ [] = ap items (sym (read-more past bytes)) ∙ adds in
     let items_are : session.items ≡ length its = k.items_are in
@@ -157,10 +157,10 @@ stands_item plant panel session past bytes item a framer_then stands read none a
       has_panel = stands.has_panel;
       framer = subst FedOf (read-more past bytes) fed;
       keeps = subst KeepsThen
-          (sym (kept_same session.panel session.polls (taken_output plant a session.outgoing) (stage_with a session.stage) (taken_stage a) (next session.items) (session.items + 1)
+          (sym (kept_same session.panel session.polls (taken_output plant a session.sender.output) (stage_with a session.stage) (taken_stage a) (next session.items) (session.items + 1)
           (counts_with a session.counts).turns session.counts.turns session.unsent false
           (stage-is a session.stage read) (next-small session.items (omega arith)) (turns-with a session.counts) none))
-          (keeps_item plant a item session.panel session.items session.counts.turns session.polls session.outgoing past bytes k adds asks);
+          (keeps_item plant a item session.panel session.items session.counts.turns session.polls session.sender.output past bytes k adds asks);
       goods = goods-with a item session.counts asks goods_small ∙ ap (λ (n : ℕ). n + goods_of (item ∷ [])) stands.goods ∙ sym (goods-more its item) ∙ ap goods_of (sym all);
       bads = bads-with a item session.counts asks bads_small ∙ ap (λ (n : ℕ). n + bads_of (item ∷ [])) stands.bads ∙ sym (bads-more its item) ∙ ap bads_of (sym all);
       some = λ unsent. absurd (false≢true (sym none ∙ unsent));
@@ -174,7 +174,7 @@ pub stands_none : (plant : PlantData) (panel : ℕ) (session : Session) (past : 
 stands_none plant panel session past bytes framer_then stands read none adds fed =
     let later = with_bytes bytes past in
     let KeepsOf : Kept → Type 0 = λ kept. Keeps plant kept past in
-    let k : Keeps plant (reading session.panel session.items session.counts.turns session.polls session.outgoing) past = subst KeepsOf (at_stage session Read read none) stands.keeps in
+    let k : Keeps plant (reading session.panel session.items session.counts.turns session.polls session.sender.output) past = subst KeepsOf (at_stage session Read read none) stands.keeps in
     let KeepsThen : Kept → Type 0 = λ kept. Keeps plant kept later in
     let FedOf : List ℕ → Type 0 = λ text. framer.StandsFor framer_then text in
     let all : items (read_so_far later) ≡ items (read_so_far past) = ap items (sym (read-more past bytes)) ∙ adds in
@@ -184,7 +184,7 @@ stands_none plant panel session past bytes framer_then stands read none adds fed
       panel_is = stands.panel_is;
       has_panel = stands.has_panel;
       framer = subst FedOf (read-more past bytes) fed;
-      keeps = subst KeepsThen (sym (at_stage session Read read none)) (keeps_none plant session.panel session.items session.counts.turns session.polls session.outgoing past bytes k adds);
+      keeps = subst KeepsThen (sym (at_stage session Read read none)) (keeps_none plant session.panel session.items session.counts.turns session.polls session.sender.output past bytes k adds);
       goods = stands.goods ∙ ap goods_of (sym all);
       bads = stands.bads ∙ ap bads_of (sym all);
       some = λ unsent. absurd (false≢true (sym none ∙ unsent));
@@ -192,15 +192,15 @@ stands_none plant panel session past bytes framer_then stands read none adds fed
     }
 
 -- Other parts of a session that keep the same past.
-pub stands_with : (plant : PlantData) (panel : ℕ) (session after : Session) (past later : Past) → Stands plant panel session past → read_so_far later ≡ read_so_far past → after.plant ≡ session.plant → after.names ≡ session.names → after.framer ≡ session.framer
+pub stands_with : (plant : PlantData) (panel : ℕ) (session after : Session) (past later : Past) → Stands plant panel session past → read_so_far later ≡ read_so_far past → after.plant ≡ session.plant → after.sender.names ≡ session.sender.names → after.framer ≡ session.framer
     → after.counts.goods ≡ session.counts.goods → after.counts.bads ≡ session.counts.bads → after.outbox.places ≡ session.outbox.places → after.panel ≡ session.panel
-    → Keeps plant (kept_of after) later → (after.unsent ≡ true → after.outgoing.bytes ≢ []) → Stands plant panel after later
+    → Keeps plant (kept_of after) later → (after.unsent ≡ true → after.sender.output.bytes ≢ []) → Stands plant panel after later
 stands_with plant panel session after past later stands read same_plant same_names same_framer same_goods same_bads same_places same_panel keeps some =
     let FedBy : Framer → Type 0 = λ one. framer.StandsFor one (read_so_far past) in
     let FedOf : List ℕ → Type 0 = λ text. framer.StandsFor after.framer text in
     record {
       plant_is = ap (λ (plant : _). plant.now) same_plant ∙ stands.plant_is;
-      names_are = ap (λ (names : _). names.now) same_names ∙ stands.names_are;
+      names_are = same_names ∙ stands.names_are;
       panel_is = same_panel ∙ stands.panel_is;
       has_panel = stands.has_panel;
       framer = subst FedOf (sym read) (subst FedBy (sym same_framer) stands.framer);
@@ -216,23 +216,23 @@ pub stands_to_poll : (plant : PlantData) (panel : ℕ) (session : Session) (past
     → Stands plant panel (record session { stage = PollStage }) past
 stands_to_poll plant panel session past stands read none =
     let KeepsOf : Kept → Type 0 = λ kept. Keeps plant kept past in
-    let k : Keeps plant (reading session.panel session.items session.counts.turns session.polls session.outgoing) past = subst KeepsOf (at_stage session Read read none) stands.keeps in
+    let k : Keeps plant (reading session.panel session.items session.counts.turns session.polls session.sender.output) past = subst KeepsOf (at_stage session Read read none) stands.keeps in
     stands_with plant panel session (record session { stage = PollStage }) past past stands refl refl refl refl refl refl refl refl
-    (subst KeepsOf (sym (at_stage (record session { stage = PollStage }) PollStage refl none)) (keeps_to_poll plant session.panel session.items session.counts.turns session.polls session.outgoing past k))
+    (subst KeepsOf (sym (at_stage (record session { stage = PollStage }) PollStage refl none)) (keeps_to_poll plant session.panel session.items session.counts.turns session.polls session.sender.output past k))
     stands.some
 
 -- What was to be sent is sent.
 pub stands_sent : (plant : PlantData) (panel : ℕ) (session : Session) (past : Past) → Stands plant panel session past → session.unsent ≡ true
-    → Stands plant panel (record session { unsent = false }) (with_sent session.outgoing.bytes past)
+    → Stands plant panel (record session { unsent = false }) (with_sent session.sender.output.bytes past)
 stands_sent plant panel session past stands unsent =
-    stands_with plant panel session (record session { unsent = false }) past (with_sent session.outgoing.bytes past) stands refl refl refl refl refl refl refl refl
+    stands_with plant panel session (record session { unsent = false }) past (with_sent session.sender.output.bytes past) stands refl refl refl refl refl refl refl refl
     (keeps_sent plant (kept_of session) past unsent stands.keeps)
     (λ unsent. absurd (false≢true unsent))
 
 -- The plant answered what an item sent to it.
 pub stands_told : (plant : PlantData) (panel seat : ℕ) (session : Session) (past : Past) (message : Message) (answers : List Answer) (unsent : Bool) → Stands plant panel session past
-    → session.stage ≡ Tell message → session.unsent ≡ false → (unsent ≡ false → (with_frames (frames_of answers) (emptied session.outgoing)).bytes ≡ [])
-    → (unsent ≡ true → (with_frames (frames_of answers) (emptied session.outgoing)).bytes ≢ [])
+    → session.stage ≡ Tell message → session.unsent ≡ false → (unsent ≡ false → (with_frames (frames_of answers) (emptied session.sender.output)).bytes ≡ [])
+    → (unsent ≡ true → (with_frames (frames_of answers) (emptied session.sender.output)).bytes ≢ [])
     → Stands plant panel (took_answers answers unsent (record session { stage = Read }))
     (with_entry (record { seat = seat; request = Told session.panel (session.items - 1) message; answers = answers }) past)
 stands_told plant panel seat session past message answers unsent stands tell none empty some =
@@ -240,5 +240,5 @@ stands_told plant panel seat session past message answers unsent stands tell non
     let k = subst KeepsOf (at_stage session (Tell message) tell none) stands.keeps in
     stands_with plant panel session (took_answers answers unsent (record session { stage = Read })) past
     (with_entry (record { seat = seat; request = Told session.panel (session.items - 1) message; answers = answers }) past) stands refl refl refl refl refl refl refl refl
-    (keeps_told plant session.panel session.items session.counts.turns session.polls seat message session.outgoing past answers unsent k empty)
+    (keeps_told plant session.panel session.items session.counts.turns session.polls seat message session.sender.output past answers unsent k empty)
     some

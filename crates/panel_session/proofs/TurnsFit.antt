@@ -45,7 +45,7 @@ pub turns_text_lem : (plant : PlantData) (panel : ℕ) (session : Session) (past
     → IsText plant (items (bytes_of past.turns)) (entries_of past.turns) past.sent ⊎ IsText plant (items (bytes_of past.turns)) (entries_of past.turns) (past.sent ++ outgoing_of session)
 turns_text_lem plant panel session past stands begins =
     let TextOf : List ℕ → Type 0 = λ text. IsText plant (items (bytes_of past.turns)) (entries_of past.turns) text in
-    (elim (session.unsent) as (λ unsent. TextOf (past.sent ++ (if unsent then session.outgoing else emptied session.outgoing).bytes) → TextOf past.sent ⊎ TextOf (past.sent ++ outgoing_of session)) [
+    (elim (session.unsent) as (λ unsent. TextOf (past.sent ++ (if unsent then session.sender.output else emptied session.sender.output).bytes) → TextOf past.sent ⊎ TextOf (past.sent ++ outgoing_of session)) [
       | true ↦ λ text. inr text
       | false ↦ λ text. inl (subst TextOf (append-nil past.sent) text)
     ]) (text_over plant past (past.sent ++ (pending (kept_of session)).bytes) begins (text_left plant (kept_of session) past stands.keeps))

@@ -2,6 +2,7 @@
 use Rattle.std.specs.Prelude.{◌≡◌, ◌≢◌, ℕ, ◌^◌, ◌<◌, List, [], ◌++◌, length, take}
 use Rattle.dle_framing.specs.Items.{items}
 use Rattle.plant_config.specs.Plant.{PlantData}
+use Rattle.plant_core.specs.Answer.{room_of}
 use Rattle.plant_core.specs.State.{FitsPlant}
 use Rattle.plant_core.specs.declared.request.Request.{Request}
 use Rattle.plant_core.specs.declared.request.Request.TheVariants.{Told, Poll, Leave, DisplayPoll}
@@ -11,7 +12,6 @@ use Rattle.panel_session.specs.declared.session.Session.{Session}
 use Rattle.panel_session.specs.SoFar.{Past, read_so_far, entries_so_far, with_bytes, with_sent, with_turn, IsOver}
 use Rattle.panel_session.specs.Text.{IsText}
 use Rattle.panel_session.specs.Session.{StandsFor, Awaits, outgoing_of, outbox_of}
-use Rattle.panel_session.specs.MostAnswers.{most_answers}
 
 -- A piece may go on a past: there are fewer than 2^62 items with it and fewer than 2^62 turns, and it is used up where the
 -- turn has polled.
@@ -29,7 +29,7 @@ IsInPlace now (DisplayPoll screen refresh) used piece = ⊥
 
 -- What `act` does behind a past that now has the bytes that it used. `Send`: some bytes are to be sent, and once they are,
 -- all of the session's text so far is. `Ask`: a request that fits the plant is to be answered into the
--- outbox, which is empty. `Rest`: the piece is used up and the turn is over.
+-- outbox, which is empty and has room for those of a step. `Rest`: the piece is used up and the turn is over.
 abbrev pub Acts : PlantData → ℕ → Past → List ℕ → ℕ → Act → Session → Type 0
 Acts plant panel now piece used Send session =
     (outgoing_of session ≢ [])
@@ -37,7 +37,7 @@ Acts plant panel now piece used Send session =
     × IsText plant (items (read_so_far now)) (entries_so_far now) (now.sent ++ outgoing_of session)
 Acts plant panel now piece used (Ask request) session =
     Awaits plant panel session now request
-    × (outbox_of session ≡ record { items = []; places = most_answers })
+    × (outbox_of session ≡ record { items = []; places = room_of plant })
     × FitsPlant plant request
     × IsInPlace now request used piece
     × IsText plant (items (read_so_far now)) (entries_so_far now) now.sent

@@ -5,9 +5,11 @@ pub mod Turns
 pub mod NamePages
 pub mod Text
 pub mod MostAnswers
+pub mod RoomsInside
 pub mod OutgoingInside
 pub mod NamePagesInside
 pub mod OutgoingKept
+pub mod SenderKept
 pub mod PageKept
 pub mod SoFar
 pub mod TakenInside

@@ -11,6 +11,7 @@ use Rattle.panel_session.specs.declared.stage.Stage.TheVariants.{Read, Tell}
 use Rattle.panel_session.specs.TakenInside.{taken_output}
 use Rattle.panel_session.specs.Text.{with_frames, frames_of}
 use Rattle.panel_session.specs.OutgoingInside.{emptied}
+use Rattle.panel_session.specs.SenderKept.{sending}
 
 -- one more, as the code counts
 abbrev pub next : ℕ → ℕ
@@ -37,14 +38,14 @@ abbrev pub took : PlantData → Asked → Session → Session
 took plant asked session = record session {
   stage = stage_with asked session.stage;
   items = next session.items;
-  outgoing = taken_output plant asked session.outgoing;
+  sender = sending (taken_output plant asked session.sender.output) session.sender;
   counts = counts_with asked session.counts;
 }
 
 -- The answers in the outbox are what is to be sent.
 abbrev pub took_answers : List Answer → Bool → Session → Session
 took_answers answers unsent session = record session {
-  outgoing = with_frames (frames_of answers) (emptied session.outgoing);
+  sender = sending (with_frames (frames_of answers) (emptied session.sender.output)) session.sender;
   unsent = unsent;
   outbox = record session.outbox { items = [] };
 }

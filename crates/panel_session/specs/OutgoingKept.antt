@@ -15,8 +15,13 @@ abbrev pub most_frame : ℕ
 most_frame = 276
 
 -- the bytes that so many answers may take
-abbrev pub room_of : ℕ → ℕ
-room_of answers = most_message_frame * answers
+abbrev pub answer_bytes : ℕ → ℕ
+answer_bytes answers = most_message_frame * answers
+
+-- What is sent next, and for how many bytes there is room.
+pub record Buffer : Type 0 where
+  pub output : Output
+  pub room : ℕ
 
 -- a frame is never empty: no bytes stand for none
 abbrev pub some_frame : List ℕ → Option (List ℕ)
@@ -38,13 +43,13 @@ output_of outgoing =
       repeats = outgoing.repeats;
     }
 
--- the most bytes that are sent at once: an ACK and the pages of all names of a level
-abbrev pub most_bytes : ℕ
-most_bytes = 28706
+abbrev pub buffer_of : Inside → Buffer
+buffer_of outgoing =
+    record { output = output_of outgoing; room = vec_capacity outgoing.bytes }
 
--- There is room for what may be sent.
+-- There is room for an ACK or a NAK, and for the DATA of a page.
 pub record IsKept (outgoing : Inside) : Type 0 where
-  pub bytes : most_bytes ≤ vec_capacity outgoing.bytes
+  pub bytes : 2 ≤ vec_capacity outgoing.bytes
   pub last : outgoing.last_from ≤ length outgoing.bytes.items
   pub repeats : outgoing.repeats ≤ 5
   pub spelled : max_page_len ≤ vec_capacity outgoing.spelled

@@ -4,7 +4,7 @@ use Rattle.dle_framing.specs.Items.{items}
 use Rattle.history_lock.specs.History.{run, IsLegal}
 use Rattle.history_lock.specs.Step.{Stepped}
 use Rattle.plant_config.specs.Plant.{PlantData}
-use Rattle.plant_core.specs.Answer.{IsSayable}
+use Rattle.plant_core.specs.Answer.{IsSayable, room_of}
 use Rattle.plant_core.specs.State.{FitsPlant}
 use Rattle.plant_core.specs.declared.answer.Answer.{Answer}
 use Rattle.plant_core.specs.declared.request.Request.{Request}
@@ -12,7 +12,6 @@ use Rattle.panel_session.specs.declared.session.Session.{Session}
 use Rattle.panel_session.specs.Acting.{MayGoOn}
 use Rattle.panel_session.specs.Entry.{PlantEntry}
 use Rattle.panel_session.specs.Session.{StandsFor}
-use Rattle.panel_session.specs.MostAnswers.{most_answers}
 use Rattle.panel_session.specs.SoFar.{Past, unread}
 use Rattle.panel_session.specs.Text.{IsText}
 use Rattle.panel_session.specs.Turns.{Turn, bytes_of, entries_in, entries_of, IsTurn}
@@ -56,7 +55,7 @@ pub record Serves {State : Type 0} (step : State → Request → Stepped State A
     (plant : PlantData) (machine : State) : Type 0 where
   pub takes : (request : Request) → FitsPlant plant request → Fits machine request
   pub sayable : GivesSayableAnswers step Fits machine
-  pub within : most machine ≤ most_answers
+  pub within : most machine ≤ room_of plant
 
 -- A piece may be a turn behind a past.
 pub record MayTurn {State : Type 0} (step : State → Request → Stepped State Answer)

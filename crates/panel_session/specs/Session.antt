@@ -1,23 +1,23 @@
 -- Which pasts a session stands for.
-use Rattle.std.specs.Prelude.{◌≡◌, ◌≢◌, ℕ, ◌-◌, ◌<◌, true, false, List, [], length}
+use Rattle.std.specs.Prelude.{◌≡◌, ◌≢◌, ℕ, ◌-◌, ◌<◌, ◌≤◌, true, false, List, [], length}
 use Rattle.dle_framing.specs.Framer as framer
 use Rattle.dle_framing.specs.Items.{items}
 use Rattle.history_lock.specs.Places.{Placed}
 use Rattle.plant_config.specs.Plant.{PlantData}
+use Rattle.plant_core.specs.Answer.{room_of}
 use Rattle.plant_core.specs.declared.answer.Answer.{Answer}
 use Rattle.plant_core.specs.declared.request.Request.{Request}
 use Rattle.plant_core.specs.declared.request.Request.TheVariants.{Told, Poll}
 use Rattle.panel_session.specs.declared.session.Session.{Session}
 use Rattle.panel_session.specs.declared.stage.Stage.{Stage}
 use Rattle.panel_session.specs.declared.stage.Stage.TheVariants.{Read, Tell, Poll as PollStage, End}
-use Rattle.panel_session.specs.MostAnswers.{most_answers}
 use Rattle.panel_session.specs.SoFar.{Past, nothing_yet, read_so_far, with_entry}
 use Rattle.panel_session.specs.StandsInside.{Kept, Keeps}
 use Rattle.panel_session.specs.Counted.{goods_of, bads_of}
 
 -- the bytes that a session sends next
 abbrev pub outgoing_of : Session → List ℕ
-outgoing_of session = session.outgoing.bytes
+outgoing_of session = session.sender.output.bytes
 
 -- a session's outbox
 abbrev pub outbox_of : Session → Placed Answer
@@ -34,22 +34,22 @@ kept_of session = record {
   items = session.items;
   turns = session.counts.turns;
   polls = session.polls;
-  output = session.outgoing;
+  output = session.sender.output;
   unsent = session.unsent;
 }
 
 -- The session of this panel of a plant keeps what it needs of this past.
 pub record Stands (plant : PlantData) (panel : ℕ) (session : Session) (past : Past) : Type 0 where
   pub plant_is : session.plant.now ≡ plant
-  pub names_are : session.names.now ≡ plant
+  pub names_are : session.sender.names ≡ plant
   pub panel_is : session.panel ≡ panel
   pub has_panel : panel < length plant.panels
   pub framer : framer.StandsFor session.framer (read_so_far past)
   pub keeps : Keeps plant (kept_of session) past
   pub goods : session.counts.goods ≡ goods_of (items (read_so_far past))
   pub bads : session.counts.bads ≡ bads_of (items (read_so_far past))
-  pub some : session.unsent ≡ true → session.outgoing.bytes ≢ []
-  pub places : session.outbox.places ≡ most_answers
+  pub some : session.unsent ≡ true → session.sender.output.bytes ≢ []
+  pub places : session.outbox.places ≡ room_of plant
 
 -- The session of this panel of a plant stands for this past, with nothing asked that wasn't answered: where it polls it has
 -- polled before.
@@ -71,11 +71,12 @@ Awaits plant panel session past request =
     Stands plant panel session past × (session.unsent ≡ false)
     × AsksAt session.stage (kept_of session) request
 
--- These answers to a request were taken: the session stands for each past in which it awaited them, with the entry of the
--- request and the answers, whichever seat asked.
+-- These answers to a request were taken, where they are no more than those of a step: the session stands for each past in
+-- which it awaited them, with the entry of the request and the answers, whichever seat asked.
 abbrev pub TakesAnswers : Session → Request → List Answer → Session → Type 0
 TakesAnswers before request answers after =
     (plant : PlantData) (panel seat : ℕ) (past : Past) → Awaits plant panel before past request
+    → length answers ≤ room_of plant
     → StandsFor plant panel after
     (with_entry (record { seat = seat; request = request; answers = answers }) past)
 

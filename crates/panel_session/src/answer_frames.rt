@@ -6,8 +6,7 @@ ghost use Rattle.plant_core.specs.declared.answer.Answer.TheVariants.{Say, Dumpe
 ghost use Rattle.swp08_messages.specs.Text.{InRange};
 ghost use Rattle.panel_session.specs.Text.{page_frames, frames_of, with_frames};
 ghost use Rattle.panel_session.specs.OutgoingInside.{emptied, Adds};
-ghost use Rattle.panel_session.specs.OutgoingKept.{room_of};
-ghost use Rattle.panel_session.specs.MostAnswers.{most_answers};
+ghost use Rattle.panel_session.specs.OutgoingKept.{answer_bytes};
 
 use crate::dump_page::DumpPage;
 use crate::outgoing::Outgoing;
@@ -19,11 +18,13 @@ impl Outgoing {
     // of a dump comes: what is said before it has frames of its own.
     pub(crate) fn answer(&mut self, answers: &[Answer]) -> bool
         requires sayable { All IsSayable answers.now }
-        requires room { length answers.now ≤ most_answers }
-        ensures output { self.new ≡ with_frames (frames_of answers.now) (emptied self.old) }
-        ensures some { result ≡ true → self.new.bytes ≢ [] }
-        ensures none { result ≡ false → self.new.bytes ≡ [] }
-        ensures most { length self.new.bytes ≤ room_of most_answers }
+        requires room { answer_bytes (length answers.now) ≤ self.old.room }
+        ensures output { self.new.output
+            ≡ with_frames (frames_of answers.now) (emptied self.old.output) }
+        ensures room { self.new.room ≡ self.old.room }
+        ensures some { result ≡ true → self.new.output.bytes ≢ [] }
+        ensures none { result ≡ false → self.new.output.bytes ≡ [] }
+        ensures most { length self.new.output.bytes ≤ answer_bytes (length answers.now) }
     {
         self.clear();
         let said = self.say_first(answers);
@@ -36,12 +37,14 @@ impl Outgoing {
     // The frames of what is said before all else are to be sent too. It answers how many answers that are.
     fn say_first(&mut self, answers: &[Answer]) -> usize
         requires sayable { All IsSayable answers.now }
-        requires room { length self.old.bytes + room_of (length answers.now)
-            ≤ room_of most_answers }
+        requires room { length self.old.output.bytes + answer_bytes (length answers.now)
+            ≤ self.old.room }
         ensures within { result ≤ length answers.now }
-        ensures output { with_frames (frames_of (drop result answers.now)) self.new
-            ≡ with_frames (frames_of answers.now) self.old }
-        ensures most { length self.new.bytes ≤ length self.old.bytes + room_of result }
+        ensures output { with_frames (frames_of (drop result answers.now)) self.new.output
+            ≡ with_frames (frames_of answers.now) self.old.output }
+        ensures room { self.new.room ≡ self.old.room }
+        ensures most { length self.new.output.bytes
+            ≤ length self.old.output.bytes + answer_bytes result }
     {
         let mut said = 0;
         while said < answers.len() {
@@ -57,11 +60,13 @@ impl Outgoing {
     // The frames of these answers are to be sent too, in order, with those of dumps in pages.
     fn add_pages(&mut self, answers: &[Answer])
         requires sayable { All IsSayable answers.now }
-        requires room { length self.old.bytes + room_of (length answers.now)
-            ≤ room_of most_answers }
-        ensures output { self.new ≡ with_frames (frames_of answers.now) self.old }
-        ensures most { length self.new.bytes
-            ≤ length self.old.bytes + room_of (length answers.now) }
+        requires room { length self.old.output.bytes + answer_bytes (length answers.now)
+            ≤ self.old.room }
+        ensures output { self.new.output
+            ≡ with_frames (frames_of answers.now) self.old.output }
+        ensures room { self.new.room ≡ self.old.room }
+        ensures most { length self.new.output.bytes
+            ≤ length self.old.output.bytes + answer_bytes (length answers.now) }
     {
         let mut page = DumpPage::new();
         for answer in answers {
@@ -73,11 +78,12 @@ impl Outgoing {
     // This answer comes behind what the page has, which goes on with it or is sent before it. No lamp is sent to panels.
     fn add(&mut self, page: &mut DumpPage, answer: &Answer)
         requires sayable { IsSayable answer.now }
-        requires room { length self.old.bytes + room_of (length page.old.sources + 1)
-            ≤ room_of most_answers }
-        ensures output { Adds answer.now page.old self.old page.new self.new }
-        ensures most { length self.new.bytes + room_of (length page.new.sources)
-            ≤ length self.old.bytes + room_of (length page.old.sources + 1) }
+        requires room { length self.old.output.bytes + answer_bytes (length page.old.sources + 1)
+            ≤ self.old.room }
+        ensures output { Adds answer.now page.old self.old.output page.new self.new.output }
+        ensures room { self.new.room ≡ self.old.room }
+        ensures most { length self.new.output.bytes + answer_bytes (length page.new.sources)
+            ≤ length self.old.output.bytes + answer_bytes (length page.old.sources + 1) }
     {
         match *answer {
             Answer::Say(message) => self.add_said(page, message),
@@ -94,11 +100,13 @@ impl Outgoing {
     // This message comes behind the page.
     fn add_said(&mut self, page: &mut DumpPage, message: Message)
         requires in_range { InRange message }
-        requires room { length self.old.bytes + room_of (length page.old.sources + 1)
-            ≤ room_of most_answers }
-        ensures output { Adds (Say message) page.old self.old page.new self.new }
-        ensures most { length self.new.bytes + room_of (length page.new.sources)
-            ≤ length self.old.bytes + room_of (length page.old.sources + 1) }
+        requires room { length self.old.output.bytes + answer_bytes (length page.old.sources + 1)
+            ≤ self.old.room }
+        ensures output { Adds (Say message) page.old self.old.output
+            page.new self.new.output }
+        ensures room { self.new.room ≡ self.old.room }
+        ensures most { length self.new.output.bytes + answer_bytes (length page.new.sources)
+            ≤ length self.old.output.bytes + answer_bytes (length page.old.sources + 1) }
     {
         self.send_filled(page);
         page.clear();
@@ -115,12 +123,13 @@ impl Outgoing {
         source: Option<u16>,
     )
         requires sayable { IsSayable (Dumped matrix level dest source) }
-        requires room { length self.old.bytes + room_of (length page.old.sources + 1)
-            ≤ room_of most_answers }
-        ensures output { Adds (Dumped matrix level dest source) page.old self.old
-            page.new self.new }
-        ensures most { length self.new.bytes + room_of (length page.new.sources)
-            ≤ length self.old.bytes + room_of (length page.old.sources + 1) }
+        requires room { length self.old.output.bytes + answer_bytes (length page.old.sources + 1)
+            ≤ self.old.room }
+        ensures output { Adds (Dumped matrix level dest source) page.old self.old.output
+            page.new self.new.output }
+        ensures room { self.new.room ≡ self.old.room }
+        ensures most { length self.new.output.bytes + answer_bytes (length page.new.sources)
+            ≤ length self.old.output.bytes + answer_bytes (length page.old.sources + 1) }
     {
         if page.goes_on(matrix, level, dest) {
             page.push(source);
@@ -132,11 +141,13 @@ impl Outgoing {
 
     // The frame of the page is to be sent too, if it has destinations.
     fn send_filled(&mut self, page: &DumpPage)
-        requires room { length self.old.bytes + room_of (length page.now.sources)
-            ≤ room_of most_answers }
-        ensures output { self.new ≡ with_frames (page_frames page.now) self.old }
-        ensures most { length self.new.bytes
-            ≤ length self.old.bytes + room_of (length page.now.sources) }
+        requires room { length self.old.output.bytes + answer_bytes (length page.now.sources)
+            ≤ self.old.room }
+        ensures output { self.new.output
+            ≡ with_frames (page_frames page.now) self.old.output }
+        ensures room { self.new.room ≡ self.old.room }
+        ensures most { length self.new.output.bytes
+            ≤ length self.old.output.bytes + answer_bytes (length page.now.sources) }
     {
         if !page.is_empty() {
             self.send_page(page);

@@ -16,6 +16,7 @@ mod name_page;
 mod outgoing;
 mod outlet;
 mod packet;
+mod sender;
 mod sending;
 mod session;
 mod spell;

@@ -13,8 +13,9 @@ ghost use Rattle.panel_session.specs.NamePagesInside.{data_of, end_of};
 ghost use Rattle.plant_names.specs.Pages.{AreFew};
 ghost use Rattle.plant_names.specs.declared.paged.Paged.TheVariants.{Nothing};
 ghost use Rattle.panel_session.specs.OutgoingInside.{emptied};
-ghost use Rattle.panel_session.specs.OutgoingKept.{most_message_frame, most_frame, room_of};
-ghost use Rattle.panel_session.specs.MostAnswers.{most_answers};
+ghost use Rattle.panel_session.specs.OutgoingKept.{most_message_frame, most_frame};
+ghost use Rattle.panel_session.specs.OutgoingKept.{answer_bytes};
+ghost use Rattle.panel_session.specs.RoomsInside.{room_to_send};
 
 use crate::dump_page::DumpPage;
 use crate::name_page::NamePage;
@@ -29,19 +30,12 @@ use swp08_messages::Message;
 // How often a frame is sent again since it was newly sent.
 const MOST_REPEATS: u32 = 5;
 
-// The most bytes of the DATA of a page, which are more than those of a message, and of its frame: the DATA, their length and
-// the check byte may all be doubled.
+// The most bytes of the DATA of a page, which are more than those of a message.
 const MAX_PAGE: usize = 134;
 
-const MAX_FRAME: usize = 2 * (MAX_PAGE + 2) + 4;
-
-// The most bytes sent at once: an ACK and the pages of 1,024 names, ten a page or more. As many answers take fewer.
-const MAX_BYTES: usize = 2 + 104 * MAX_FRAME;
-
-// What is sent next, the last message frame, and how often that was sent again. It has room for an ACK or a NAK, for the
-// frames of the most answers of a step (no page of a dump is longer than the messages of as many answers), and for the
-// pages of all names of a level. Only `new` takes memory. A frame is spelled where it is sent from, and stands there until
-// another is sent, so that it can be sent again.
+// What is sent next, the last message frame, and how often that was sent again, in the room that `new` is asked for. Only
+// `new` takes memory. A frame is spelled where it is sent from, and stands there until another is sent, so that it can be
+// sent again.
 #[derive(Drop)]
 pub(crate) struct Outgoing {
     sending: Sending,
@@ -53,25 +47,25 @@ pub(crate) struct Outgoing {
 }
 
 impl Model for Outgoing {
-    ghost use Rattle.panel_session.specs.Text.{Output};
+    ghost use Rattle.panel_session.specs.OutgoingKept.{Buffer, buffer_of, IsKept};
 
-    ghost Value = { Output };
+    ghost Value = { Buffer };
 
-    ghost use Rattle.panel_session.specs.OutgoingKept.{output_of, IsKept};
-
-    ghost view = { λ outgoing. output_of outgoing };
+    ghost view = { λ outgoing. buffer_of outgoing };
 
     ghost invariant = { λ outgoing. IsKept outgoing };
 }
 
 impl Outgoing {
-    // Nothing is to be sent or was.
-    pub(crate) fn new(alloc: Global) -> Result<Outgoing, AllocError>
-        ensures { IfOk result (λ outgoing. outgoing ≡ nothing_sent) }
+    // Nothing is to be sent or was. There is room for so many bytes.
+    pub(crate) fn new(alloc: Global, room: usize) -> Result<Outgoing, AllocError>
+        requires { 2 ≤ room }
+        ensures output { IfOk result (λ outgoing. outgoing.output ≡ nothing_sent) }
+        ensures room { IfOk result (λ outgoing. room ≤ outgoing.room) }
     {
         Ok(Outgoing {
             sending: Sending::Nothing,
-            bytes: Vec::with_capacity(alloc, MAX_BYTES)?,
+            bytes: Vec::with_capacity(alloc, room)?,
             last_from: 0,
             repeats: 0,
             spelled: Vec::with_capacity(alloc, MAX_PAGE)?,
@@ -80,7 +74,8 @@ impl Outgoing {
 
     // Makes it as a new one.
     pub(crate) fn reset(&mut self)
-        ensures { self.new ≡ nothing_sent }
+        ensures output { self.new.output ≡ nothing_sent }
+        ensures room { self.new.room ≡ self.old.room }
     {
         self.sending = Sending::Nothing;
         self.bytes.clear();
@@ -90,7 +85,7 @@ impl Outgoing {
 
     // What is to be sent.
     pub(crate) fn as_slice(&self) -> &[u8]
-        ensures { result.now ≡ self.now.bytes }
+        ensures { result.now ≡ self.now.output.bytes }
     {
         match self.sending {
             Sending::Nothing => b"",
@@ -102,30 +97,33 @@ impl Outgoing {
 
     // Nothing is to be sent.
     pub(crate) fn clear(&mut self)
-        ensures { self.new ≡ emptied self.old }
+        ensures { self.new ≡ record self.old { output = emptied self.old.output } }
     {
         self.sending = Sending::Nothing;
     }
 
     // An ACK is to be sent.
     pub(crate) fn ack(&mut self)
-        ensures { self.new ≡ with_control ack (emptied self.old) }
+        ensures output { self.new.output ≡ with_control ack (emptied self.old.output) }
+        ensures room { self.new.room ≡ self.old.room }
     {
         self.sending = Sending::Ack;
     }
 
     // A NAK is to be sent.
     pub(crate) fn nak(&mut self)
-        ensures { self.new ≡ with_control nak (emptied self.old) }
+        ensures output { self.new.output ≡ with_control nak (emptied self.old.output) }
+        ensures room { self.new.room ≡ self.old.room }
     {
         self.sending = Sending::Nak;
     }
 
     // The last message frame is to be sent again, if there is one that was sent again fewer than 5 times: whether there is.
     pub(crate) fn repeat(&mut self) -> bool
-        ensures output { self.new ≡ repeated (emptied self.old) }
-        ensures some { result ≡ true → self.new.bytes ≢ [] }
-        ensures none { result ≡ false → self.new.bytes ≡ [] }
+        ensures output { self.new.output ≡ repeated (emptied self.old.output) }
+        ensures room { self.new.room ≡ self.old.room }
+        ensures some { result ≡ true → self.new.output.bytes ≢ [] }
+        ensures none { result ≡ false → self.new.output.bytes ≡ [] }
     {
         if self.last_from >= self.bytes.len() || self.repeats >= MOST_REPEATS {
             self.clear();
@@ -141,11 +139,13 @@ impl Outgoing {
     // The frame of this page is to be sent too.
     pub(crate) fn send_page(&mut self, page: &DumpPage)
         requires some { 1 ≤ length page.now.sources }
-        requires room { length self.old.bytes + room_of (length page.now.sources)
-            ≤ room_of most_answers }
-        ensures output { self.new ≡ with_frame (frame (page_text page.now)) self.old }
-        ensures most { length self.new.bytes
-            ≤ length self.old.bytes + room_of (length page.now.sources) }
+        requires room { length self.old.output.bytes + answer_bytes (length page.now.sources)
+            ≤ self.old.room }
+        ensures output { self.new.output
+            ≡ with_frame (frame (page_text page.now)) self.old.output }
+        ensures room { self.new.room ≡ self.old.room }
+        ensures most { length self.new.output.bytes
+            ≤ length self.old.output.bytes + answer_bytes (length page.now.sources) }
     {
         let Outgoing {
             sending,
@@ -161,9 +161,11 @@ impl Outgoing {
     // The frame of this message is to be sent too.
     pub(crate) fn say(&mut self, message: Message)
         requires in_range { InRange message }
-        requires room { length self.old.bytes + most_message_frame ≤ room_of most_answers }
-        ensures output { self.new ≡ with_frame (frame (text message)) self.old }
-        ensures most { length self.new.bytes ≤ length self.old.bytes + most_message_frame }
+        requires room { length self.old.output.bytes + most_message_frame ≤ self.old.room }
+        ensures output { self.new.output ≡ with_frame (frame (text message)) self.old.output }
+        ensures room { self.new.room ≡ self.old.room }
+        ensures most { length self.new.output.bytes
+            ≤ length self.old.output.bytes + most_message_frame }
     {
         let Outgoing {
             sending,
@@ -179,13 +181,16 @@ impl Outgoing {
     // The frame of this page of names is to be sent too, if there is such a page. It answers how the page ends.
     pub(crate) fn send_names(&mut self, names: &Names, page: NamePage) -> Paged
         requires page { IsNamePage page }
-        requires room { HasRoomFor page self.old }
+        requires names { room_to_send names.now ≤ self.old.room }
+        requires room { HasRoomFor page self.old.output }
         ensures end { result ≡ end_of names.now page }
         ensures few { IfSome (names_of names.now page.matrix page.names) AreFew }
-        ensures none { result ≡ Nothing → self.new ≡ self.old }
+        ensures none { result ≡ Nothing → self.new.output ≡ self.old.output }
         ensures sent { result ≢ Nothing
-            → self.new ≡ with_frame (frame (data_of names.now page)) self.old }
-        ensures most { length self.new.bytes ≤ length self.old.bytes + most_frame }
+            → self.new.output ≡ with_frame (frame (data_of names.now page)) self.old.output }
+        ensures room { self.new.room ≡ self.old.room }
+        ensures most { length self.new.output.bytes
+            ≤ length self.old.output.bytes + most_frame }
     {
         let Outgoing {
             sending,

@@ -6,9 +6,9 @@ ghost use Rattle.std.specs.Borrow.{sem};
 ghost use Rattle.plant_config.specs.Plant.{PlantData};
 ghost use Rattle.plant_core.specs.declared.request.Request.{Request};
 ghost use Rattle.plant_core.specs.declared.request.Request.TheVariants.{Leave};
-ghost use Rattle.plant_core.specs.Answer.{IsSayable};
+ghost use Rattle.plant_core.specs.Answer.{IsSayable, room_of};
 ghost use Rattle.panel_session.specs.SoFar.{Past, nothing_yet};
-ghost use Rattle.panel_session.specs.MostAnswers.{most_answers};
+ghost use Rattle.panel_session.specs.RoomsInside.{fitting};
 ghost use Rattle.panel_session.specs.TraceLine.{trace_line};
 ghost use Rattle.panel_session.specs.TakenInside.{IsSending, IsAnswer, IsNoAnswer};
 
@@ -18,12 +18,12 @@ use crate::act::Act;
 use crate::asked::{Asked, next_asked};
 use crate::counts::Counts;
 use crate::leave_line::LeaveLine;
-use crate::outgoing::Outgoing;
-use crate::stage::{MOST_ANSWERS, Stage, stage_behind};
+use crate::sender::Sender;
+use crate::stage::{Stage, stage_behind};
 use dle_framing::Framer;
 use history_lock::OutBox;
 use plant_config::{PanelNo, Plant};
-use plant_core::{Answer, Request};
+use plant_core::{Answer, PlantState, Request};
 use plant_names::Names;
 use std::alloc::{AllocError, Global};
 use swp08_messages::Message;
@@ -33,11 +33,10 @@ use swp08_messages::Message;
 #[derive(Drop)]
 pub struct Session<'p> {
     plant: &'p Plant,
-    names: &'p Names,
     panel: PanelNo,
     framer: Framer,
     stage: Stage,
-    outgoing: Outgoing,
+    sender: Sender<'p>,
     // Whether the outgoing bytes were not yet handed out.
     unsent: bool,
     outbox: OutBox<Answer>,
@@ -60,7 +59,8 @@ impl<'p> Session<'p> {
     ghost use Rattle.panel_session.specs.Session.{outgoing_of, outbox_of, StandsFor, Awaits};
     ghost use Rattle.panel_session.specs.Session.{TakesAnswers, BeginsAnew, BeginsAnewUnanswered};
 
-    /// A session of a panel of the plant, to which nothing was sent. The names are those of the plant.
+    /// A session of a panel of the plant, to which nothing was sent. The names are those of the plant. Its room is enough for
+    /// the longest pages of this plant, and for the answers of a step.
     pub fn start(
         alloc: Global,
         plant: &'p Plant,
@@ -70,17 +70,17 @@ impl<'p> Session<'p> {
         requires panel { panel < length plant.now.panels }
         requires names { names.now ≡ plant.now }
         ensures new { IfOk result (λ session. StandsFor plant.now panel session nothing_yet) }
-        ensures places { IfOk result (λ session. (outbox_of session).places ≡ most_answers) }
+        ensures places { IfOk result (λ session.
+            (outbox_of session).places ≡ room_of plant.now) }
     {
         Ok(Session {
             plant,
-            names,
             panel,
             framer: Framer::new(),
             stage: Stage::Read,
-            outgoing: Outgoing::new(alloc)?,
+            sender: Sender::new(alloc, plant, names)?,
             unsent: false,
-            outbox: OutBox::new(alloc, MOST_ANSWERS)?,
+            outbox: OutBox::new(alloc, PlantState::room_of(plant))?,
             items: 0,
             polls: 0,
             counts: Counts {
@@ -99,7 +99,7 @@ impl<'p> Session<'p> {
     {
         self.framer.reset();
         self.stage = Stage::Read;
-        self.outgoing.reset();
+        self.sender.reset();
         self.unsent = false;
         self.outbox.clear();
         self.items = 0;
@@ -135,7 +135,7 @@ impl<'p> Session<'p> {
     pub fn outgoing(&self) -> &[u8]
         ensures { result.now ≡ outgoing_of self.now }
     {
-        self.outgoing.as_slice()
+        self.sender.as_slice()
     }
 
     /// Where the plant puts its answers after `Act::Ask`.
@@ -181,10 +181,10 @@ impl<'p> Session<'p> {
         }
     }
 
-    /// The plant answered the request that was asked: its answers are in the outbox.
+    /// The plant answered the request that was asked: its answers are in the outbox. There is room for those of a step of the
+    /// plant; where there are more they are no answers of this plant, and none is sent.
     pub fn answered(&mut self)
-        requires sayable { All IsSayable (outbox_of self.old).items }
-        requires room { length (outbox_of self.old).items ≤ most_answers }
+        requires { All IsSayable (outbox_of self.old).items }
         ensures answered { (request : Request)
             → TakesAnswers self.old request (outbox_of self.old).items self.new }
         ensures ends { (request : Request) → IsNearer self.old request self.new }
@@ -241,35 +241,37 @@ impl<'p> Session<'p> {
     // Does what an item asks, and answers whether something is to be sent.
     fn take(&mut self, asked: Asked) -> bool
         requires names { NamesInRange (Some asked) }
-        ensures session { self.new ≡ took self.old.names.now asked self.old }
-        ensures some { result ≡ true → IsAnswer self.old.names.now asked self.old.outgoing }
-        ensures bytes { result ≡ true
-            → IsSending self.old.names.now asked self.old.outgoing self.new.outgoing }
-        ensures none { result ≡ false → IsNoAnswer self.old.names.now asked self.old.outgoing }
+        ensures session { self.new ≡ took self.old.sender.names asked self.old }
+        ensures some { result ≡ true
+            → IsAnswer self.old.sender.names asked self.old.sender.output }
+        ensures bytes { result ≡ true → IsSending self.old.sender.names asked
+            self.old.sender.output self.new.sender.output }
+        ensures none { result ≡ false
+            → IsNoAnswer self.old.sender.names asked self.old.sender.output }
         ensures quiet { result ≡ false → self.new.stage ≡ self.old.stage }
     {
         self.items = self.items.wrapping_add(1);
         match asked {
             Asked::Nothing => false,
-            Asked::Repeat => self.outgoing.repeat(),
+            Asked::Repeat => self.sender.repeat(),
             Asked::Refused => {
                 self.counts.bads = self.counts.bads.wrapping_add(1);
-                self.outgoing.nak();
+                self.sender.nak();
                 true
             }
             Asked::Noted => {
                 self.counts.goods = self.counts.goods.wrapping_add(1);
-                self.outgoing.ack();
+                self.sender.ack();
                 true
             }
             Asked::Named(message) => {
                 self.counts.goods = self.counts.goods.wrapping_add(1);
-                self.outgoing.names(self.names, message);
+                self.sender.names(message);
                 true
             }
             Asked::Sent(message) => {
                 self.counts.goods = self.counts.goods.wrapping_add(1);
-                self.outgoing.ack();
+                self.sender.ack();
                 self.stage = Stage::Tell(message);
                 true
             }
@@ -278,13 +280,13 @@ impl<'p> Session<'p> {
 
     // Makes the answers in the outbox what is to be sent.
     fn take_answers(&mut self)
-        requires sayable { All IsSayable self.old.outbox.items }
-        requires room { length self.old.outbox.items ≤ most_answers }
-        ensures took { self.new ≡ took_answers self.old.outbox.items self.new.unsent self.old }
-        ensures some { self.new.unsent ≡ true → self.new.outgoing.bytes ≢ [] }
-        ensures none { self.new.unsent ≡ false → self.new.outgoing.bytes ≡ [] }
+        requires { All IsSayable self.old.outbox.items }
+        ensures took { self.new ≡ took_answers
+            (fitting self.old.sender.names self.old.outbox.items) self.new.unsent self.old }
+        ensures some { self.new.unsent ≡ true → self.new.sender.output.bytes ≢ [] }
+        ensures none { self.new.unsent ≡ false → self.new.sender.output.bytes ≡ [] }
     {
-        self.unsent = self.outgoing.answer(self.outbox.items());
+        self.unsent = self.sender.answer(self.outbox.items());
         self.outbox.clear();
     }
 

@@ -7,7 +7,7 @@ ghost use Rattle.swp08_messages.specs.Dump.{page_text};
 ghost use Rattle.plant_names.specs.Pages.{max_page_len, AreFew};
 ghost use Rattle.panel_session.specs.NamePagesInside.{IsNamePage, names_of, data_of, end_of};
 ghost use Rattle.swp08_messages.specs.Text.{InRange, text};
-ghost use Rattle.panel_session.specs.OutgoingKept.{most_message_frame, room_of};
+ghost use Rattle.panel_session.specs.OutgoingKept.{most_message_frame, answer_bytes};
 
 use crate::dump_page::DumpPage;
 use crate::name_page::NamePage;
@@ -34,10 +34,10 @@ pub(crate) fn spell_frame(message: Message, spelled: &mut Vec<u8>, out: &mut Vec
 pub(crate) fn spell_page(page: &DumpPage, spelled: &mut Vec<u8>, out: &mut Vec<u8>)
     requires some { 1 ≤ length page.now.sources }
     requires room { max_page_len ≤ vec_capacity spelled.old }
-    requires frame_room { vec_len out.old + room_of (length page.now.sources)
+    requires frame_room { vec_len out.old + answer_bytes (length page.now.sources)
         ≤ vec_capacity out.old }
     ensures frame { out.new.items ≡ out.old.items ++ frame (page_text page.now) }
-    ensures most { vec_len out.new ≤ vec_len out.old + room_of (length page.now.sources) }
+    ensures most { vec_len out.new ≤ vec_len out.old + answer_bytes (length page.now.sources) }
     ensures room { vec_capacity spelled.new ≡ vec_capacity spelled.old }
     ensures frame_room { vec_capacity out.new ≡ vec_capacity out.old }
 {

@@ -5,9 +5,6 @@ ghost use Rattle.panel_session.specs.PolledInside.{HasPolled};
 use plant_core::Answer;
 use swp08_messages::Message;
 
-// The most answers of a step: there are no more destinations in a level.
-pub(crate) const MOST_ANSWERS: usize = 1024;
-
 // The most polls of a turn.
 const MOST_POLLS: u32 = 32;
 

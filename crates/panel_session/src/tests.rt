@@ -3,6 +3,7 @@
 ghost use Rattle.std.specs.Prelude.{◌≡◌, ◌≤◌, length};
 
 mod board;
+mod dumps;
 mod frames;
 mod packets;
 mod traces;
@@ -174,32 +175,6 @@ const NOTICES: &[Line] = &[
 #[test]
 fn notices_come_behind_the_answers(rt: HostRuntime) -> Result<(), Fail> {
     assert_eq!(rt; play(rt.alloc(), NOTICES)?, None);
-    Ok(())
-}
-
-// A level of 130 destinations comes in pages of 64, 64 and 2, and a NAK repeats the last one.
-const PAGES_OF_130: &str = "10 02 15 02 02 E7 10 03";
-
-const LAST_PAGE: &str = "10 02 17 02 02 00 80 03 FF 03 FF 09 58 10 03";
-
-#[test]
-fn a_dump_comes_in_pages_of_64(rt: HostRuntime) -> Result<(), Fail> {
-    let alloc = rt.alloc();
-    let plant = Plant::bench(alloc)?;
-    let names = Names::new(alloc, &plant)?;
-    let mut session = Session::start(alloc, &plant, &names, PanelNo::of(0))?;
-    let mut board = Board::new();
-    let asked = bytes_of(alloc, PAGES_OF_130)?;
-    let sent = turn(alloc, &mut session, &mut board, &asked)?;
-    let last = bytes_of(alloc, LAST_PAGE)?;
-    // The ACK, and each page: 5 bytes and 2 for each destination, their length and check byte, and 4 of the frame.
-    assert_eq!(rt; sent.len(), 295);
-    assert_eq!(rt; sent.as_slice().ends_with(&last), true);
-    let nak = bytes_of(alloc, "10 15")?;
-    assert_eq!(rt;
-        turn(alloc, &mut session, &mut board, &nak)?.as_slice(),
-        last.as_slice()
-    );
     Ok(())
 }
 

@@ -10,6 +10,7 @@ ghost use Rattle.plant_core.specs.declared.request.Request.TheVariants.{Told, Po
 ghost use Rattle.plant_core.specs.declared.request.Request.TheVariants.{DisplayPoll};
 ghost use Rattle.panel_session.specs.DisplayPacket.{AreLamps, longest_packet};
 ghost use Rattle.panel_session.specs.MostAnswers.{most_answers};
+ghost use Rattle.panel_session.specs.OutgoingKept.{answer_bytes};
 ghost use Rattle.panel_session.specs.Text.{frames_of};
 ghost use Rattle.panel_session.specs.TraceLine.{trace_limit, trace_line, longest_trace_line};
 ghost use Rattle.panel_session.specs.TraceLine.{request_text, reply_text, told_bytes};
@@ -26,6 +27,9 @@ use std::alloc::{AllocError, Global};
 use std::marker::Model;
 use swp08_messages::Message;
 
+// The most bytes of the frames of 1,024 answers: no page of a dump is longer than the messages of as many answers.
+const MAX_SENT: usize = 1024 * 24;
+
 // The most bytes of the packet of a display poll. The DATA of a message have fewer.
 const MAX_PACKET: usize = 1158;
 
@@ -41,19 +45,22 @@ pub struct TraceLines {
 impl Model for TraceLines {
     ghost use Rattle.std.specs.Prelude.{◌≤◌, vec_capacity};
     ghost use Rattle.panel_session.specs.DisplayPacket.{longest_packet};
+    ghost use Rattle.panel_session.specs.MostAnswers.{most_answers};
+    ghost use Rattle.panel_session.specs.OutgoingKept.{answer_bytes};
 
     ghost Value = { Unit {0} };
 
     ghost view = { λ lines. tt };
 
-    ghost invariant = { λ lines. longest_packet ≤ vec_capacity lines.spelled };
+    ghost invariant = { λ lines. (answer_bytes most_answers ≤ lines.outgoing.room)
+        × (longest_packet ≤ vec_capacity lines.spelled) };
 }
 
 impl TraceLines {
     /// Lines can be made with it, of any plant and in any order.
     pub fn new(alloc: Global) -> Result<TraceLines, AllocError> {
         Ok(TraceLines {
-            outgoing: Outgoing::new(alloc)?,
+            outgoing: Outgoing::new(alloc, MAX_SENT)?,
             spelled: Vec::with_capacity(alloc, MAX_PACKET)?,
         })
     }
@@ -213,6 +220,7 @@ fn put_reply(
     requires sayable { All IsSayable answers.now }
     requires few { length answers.now ≤ most_answers }
     requires reply { MayReply plant.now request.now answers.now }
+    requires sent { answer_bytes most_answers ≤ outgoing.old.room }
     requires spelled { longest_packet ≤ vec_capacity spelled.old }
     requires room { vec_len out.old + most_reply ≤ vec_capacity out.old }
     ensures text { out.new.items
@@ -220,6 +228,7 @@ fn put_reply(
     ensures most { vec_len out.new ≤ vec_len out.old + most_reply }
     ensures room { vec_capacity out.new ≡ vec_capacity out.old }
     ensures spelled { vec_capacity spelled.new ≡ vec_capacity spelled.old }
+    ensures sent { outgoing.new.room ≡ outgoing.old.room }
 {
     match *request {
         Request::Told { .. } | Request::Poll { .. } | Request::Leave { .. } => {
@@ -235,11 +244,13 @@ fn put_reply(
 fn append_sent(answers: &[Answer], outgoing: &mut Outgoing, out: &mut Vec<u8>)
     requires sayable { All IsSayable answers.now }
     requires few { length answers.now ≤ most_answers }
+    requires sent { answer_bytes most_answers ≤ outgoing.old.room }
     requires room { vec_len out.old + most_reply ≤ vec_capacity out.old }
     ensures text { out.new.items
         ≡ out.old.items ++ told_bytes (flat_map (λ sent. sent) (frames_of answers.now)) }
     ensures most { vec_len out.new ≤ vec_len out.old + most_reply }
     ensures room { vec_capacity out.new ≡ vec_capacity out.old }
+    ensures sent { outgoing.new.room ≡ outgoing.old.room }
 {
     outgoing.answer(answers);
     append_bytes(outgoing.as_slice(), out);

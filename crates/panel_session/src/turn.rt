@@ -1,12 +1,11 @@
 //! A whole turn of a session, over any machine that takes the plant's requests and any outlet.
 
-ghost use Rattle.std.specs.Prelude.{◌≡◌, ◌≤◌, [], All};
+ghost use Rattle.std.specs.Prelude.{◌≡◌, ◌≤◌, [], All, length};
 ghost use Rattle.plant_core.specs.Answer.{IsSayable};
 ghost use Rattle.plant_core.specs.declared.request.Request.{Request};
 ghost use Rattle.panel_session.specs.CallsLeft.{IsNearer};
 ghost use Rattle.panel_session.specs.Run.{IsReady, RunsOn};
 ghost use Rattle.panel_session.specs.Session.{outbox_of, TakesAnswers};
-ghost use Rattle.panel_session.specs.MostAnswers.{most_answers};
 
 use crate::act::Act;
 use crate::outlet::Outlet;
@@ -41,13 +40,14 @@ fn ask<M>(session: &mut Session<'_>, machine: &mut M, request: &Request)
 where
     M: Machine<Request = Request, Answer = Answer>,
     requires fits { M.Fits machine.old request.now }
-    requires within { M.room machine.old ≤ most_answers }
+    requires within { M.room machine.old ≤ (outbox_of session.old).places }
     requires sayable { All IsSayable (M.step machine.old request.now).answers }
-    requires outbox { outbox_of session.old ≡ record { items = []; places = most_answers } }
+    requires outbox { (outbox_of session.old).items ≡ [] }
     ensures machine { machine.new ≡ (M.step machine.old request.now).state }
     ensures session { TakesAnswers session.old request.now
         (M.step machine.old request.now).answers session.new }
     ensures ends { IsNearer session.old request.now session.new }
+    ensures few { length (M.step machine.old request.now).answers ≤ M.room machine.old }
     ensures goes_on { (other : Request) → M.Fits machine.old other → M.Fits machine.new other }
     ensures same { M.room machine.new ≡ M.room machine.old }
 {

@@ -1,12 +1,11 @@
 -- That the plant's state serves its plant.
-use Rattle.std.proofs.Common.{◌≡◌, sym, subst}
+use Rattle.std.proofs.Common.{◌≡◌, sym, ap, subst, arith}
 use Rattle.history_lock.specs.History.{run}
 use Rattle.plant_config.specs.Plant.{PlantData}
 use Rattle.plant_core.specs.Answer.{room_of}
 use Rattle.plant_core.specs.State.{State, IsValid, FitsPlant, Fits}
 use Rattle.plant_core.specs.Step.{step}
 use Rattle.plant_core.proofs.AnswerLemmas.{All-sayable}
-use Rattle.plant_core.proofs.CountLemmas.{room_within}
 use Rattle.panel_session.specs.Run.{Serves}
 use Rattle.record_replay.proofs.WorksLemmas.{run-valid}
 
@@ -14,5 +13,5 @@ pub serves : (plant : PlantData) (state : State) → state.plant ≡ plant → I
 serves plant state is valid = record {
   takes = λ request fits. subst (λ (plant : PlantData). FitsPlant plant request) (sym is) fits;
   sayable = λ history request legal fits. All-sayable (run step state history) request (run-valid state history valid) fits;
-  within = room_within state.plant valid.is_plant;
+  within = omega (arith, ap room_of is);
 }

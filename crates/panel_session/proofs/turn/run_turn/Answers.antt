@@ -1,10 +1,11 @@
-use Rattle.std.proofs.Common.{ℕ, ◌+◌, ◌-◌, ◌*◌, ◌≤◌, ◌<◌, List, [], ◌++◌, length, take, refl, sym, ap, ◌∙◌, subst, arith}
+use Rattle.std.proofs.Common.{ℕ, ◌+◌, ◌-◌, ◌*◌, ◌≤◌, ◌<◌, List, [], ◌++◌, length, take, refl, ap, ◌∙◌, subst, arith}
 use Rattle.std.proofs.lemmas.List.{take_rest, length-drop}
 use Rattle.history_lock.specs.History.{entry_at}
+use Rattle.history_lock.specs.Places.{Placed}
+use Rattle.plant_core.specs.declared.answer.Answer.{Answer}
 use Rattle.panel_session.specs.declared.act.Act.{Act}
 use Rattle.panel_session.specs.declared.act.Act.TheVariants.{Send, Ask, Rest}
 use Rattle.panel_session.specs.CallsLeft.{calls_left, Leaves}
-use Rattle.panel_session.specs.MostAnswers.{most_answers}
 use Rattle.panel_session.specs.Session.{outgoing_of}
 use Rattle.panel_session.specs.SoFar.{with_bytes, with_sent, with_entry}
 use Rattle.panel_session.proofs.RunLemmas.{way_begins, acts_on_way, sayable_now, way_sent, way_asked, way_over}
@@ -55,7 +56,7 @@ loop-out-preserved g c = record {
         w.1,
         w.2,
         way_asked used request w.3 (take_rest c.loop-out.rest.now used) acts.3 (c.loop-out.invariant.fits request (may.serves.takes request acts.2))
-            c.ask.ensures.machine (c.ask.ensures.session plant panel panel now acts.0),
+            c.ask.ensures.machine (c.ask.ensures.session plant panel panel now acts.0 (omega (arith, c.ask.ensures.few, c.loop-out.invariant.room, may.serves.within))),
       );
   fits = λ request fits. c.ask.ensures.goes_on request (c.loop-out.invariant.fits request fits);
   room = c.ask.ensures.same ∙ c.loop-out.invariant.room;
@@ -82,8 +83,9 @@ ask-requires-clause-fits g c =
 
 pub ask-requires-clause-within : goal.ask-requires-clause-within
 ask-requires-clause-within g c =
-    let P : ℕ → Type 0 = λ room. room ≤ most_answers in
-    subst P (sym c.loop-out.invariant.room) c.requires.may.serves.within
+    let w = c.loop-out.invariant.way c.requires.plant c.requires.panel c.requires.past c.requires.may in
+    let acts = acts_on_way c.act-used.result.0 c.act-used.result.1 (Ask c.in-Ask.request) c.act-used.new.self c.requires.may w.3 c.act-used.ensures.acts c.in-Ask.is in
+    omega (arith, ap (λ (box : Placed Answer). box.places) acts.1, c.loop-out.invariant.room, c.requires.may.serves.within)
 
 pub ask-requires-clause-sayable : goal.ask-requires-clause-sayable
 ask-requires-clause-sayable g c =
@@ -94,7 +96,7 @@ pub ask-requires-clause-outbox : goal.ask-requires-clause-outbox
 ask-requires-clause-outbox g c =
     let w = c.loop-out.invariant.way c.requires.plant c.requires.panel c.requires.past c.requires.may in
     let acts = acts_on_way c.act-used.result.0 c.act-used.result.1 (Ask c.in-Ask.request) c.act-used.new.self c.requires.may w.3 c.act-used.ensures.acts c.in-Ask.is in
-    acts.1
+    ap (λ (box : Placed Answer). box.items) acts.1
 
 pub returns-in-Rest : goal.returns-in-Rest
 returns-in-Rest g c = λ plant panel past may.

@@ -4,8 +4,8 @@ use Rattle.panel_session.proofs.outgoing.Outgoing.add_dumped.Goals as goal
 
 pub returns-then-goes_on-clause-output : goal.returns-then-goes_on-clause-output
 returns-then-goes_on-clause-output c =
-    adds_next c.args.matrix c.args.level c.args.dest c.args.source c.args.page.now c.args.self.now _ (sym c.goes_on.ensures.goes_on ∙ c.if-goes_on.true) c.push.ensures
+    adds_next c.args.matrix c.args.level c.args.dest c.args.source c.args.page.now c.args.self.now.output _ (sym c.goes_on.ensures.goes_on ∙ c.if-goes_on.true) c.push.ensures
 
 pub returns-clause-output : goal.returns-clause-output
 returns-clause-output c =
-    adds_page c.args.matrix c.args.level c.args.dest c.args.source c.args.page.now c.args.self.now _ _ (sym c.goes_on.ensures.goes_on ∙ c.if-goes_on.false) c.begin.ensures c.send_filled.ensures.output
+    adds_page c.args.matrix c.args.level c.args.dest c.args.source c.args.page.now c.args.self.now.output _ _ (sym c.goes_on.ensures.goes_on ∙ c.if-goes_on.false) c.begin.ensures c.send_filled.ensures.output

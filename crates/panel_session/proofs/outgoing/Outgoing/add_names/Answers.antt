@@ -8,13 +8,13 @@ use Rattle.panel_session.proofs.outgoing.Outgoing.add_names.Goals as goal
 
 pub returns-in-Nothing-clause-output : goal.returns-in-Nothing-clause-output
 returns-in-Nothing-clause-output c =
-    let At : Output → Type 0 = λ after. AddsNames c.args.names.now c.args.page c.args.self.now None after in
-    subst At (sym (c.send_names.ensures.none c.in-Nothing.is)) (adds_nothing c.args.names.now c.args.page c.args.self.now (sym c.in-Nothing.is ∙ c.send_names.ensures.end))
+    let At : Output → Type 0 = λ after. AddsNames c.args.names.now c.args.page c.args.self.now.output None after in
+    subst At (sym (c.send_names.ensures.none c.in-Nothing.is)) (adds_nothing c.args.names.now c.args.page c.args.self.now.output (sym c.in-Nothing.is ∙ c.send_names.ensures.end))
 
 pub returns-in-Last-clause-output : goal.returns-in-Last-clause-output
 returns-in-Last-clause-output c =
     let some : c.send_names.result ≢ Nothing = λ none. let both : Last ≡ Nothing = sym c.in-Last.is ∙ none in cc in
-    adds_last c.args.names.now c.args.page c.args.self.now c.send_names.new.self (sym c.in-Last.is ∙ c.send_names.ensures.end) (c.send_names.ensures.sent some)
+    adds_last c.args.names.now c.args.page c.args.self.now.output c.send_names.new.self.output (sym c.in-Last.is ∙ c.send_names.ensures.end) (c.send_names.ensures.sent some)
 
 pub returns-in-More : goal.returns-in-More
 returns-in-More c =
@@ -22,10 +22,11 @@ returns-in-More c =
     let some : c.send_names.result ≢ Nothing = λ none. let both : More c.in-More.first ≡ Nothing = sym c.in-More.is ∙ none in cc in
     let grows = next_page c.args.names.now c.args.page c.in-More.first is c.send_names.ensures.few in
     let next : NamePage = record c.args.page { first = c.in-More.first } in
-    let Adds : NamePage → Type 0 = λ next. AddsNames c.args.names.now c.args.page c.args.self.now (Some next) c.send_names.new.self in
+    let Adds : NamePage → Type 0 = λ next. AddsNames c.args.names.now c.args.page c.args.self.now.output (Some next) c.send_names.new.self.output in
     let Next : NamePage → Type 0 = λ next. GoesOnWith c.args.page next in
     record {
-      output = subst Adds (sym c.at.ensures) (adds_more c.args.names.now c.args.page c.args.self.now c.in-More.first c.send_names.new.self is (c.send_names.ensures.sent some));
+      output = subst Adds (sym c.at.ensures) (adds_more c.args.names.now c.args.page c.args.self.now.output c.in-More.first c.send_names.new.self.output is (c.send_names.ensures.sent some));
       next = subst Next (sym c.at.ensures) (record { size = c.requires.page.size; first = omega (arith, grows.1) }, omega (arith, grows.0));
-      room = omega (arith, grows.0, c.send_names.ensures.most, c.requires.room, ap (λ (page : NamePage). page.first) c.at.ensures);
+      more = omega (arith, grows.0, c.send_names.ensures.most, c.requires.room, ap (λ (page : NamePage). page.first) c.at.ensures);
+      room = c.send_names.ensures.room;
     }

@@ -6,7 +6,7 @@ use Rattle.panel_session.proofs.outgoing.Outgoing.add_pages.Goals as goal
 
 pub loop-answer-preserved : goal.loop-answer-preserved
 loop-answer-preserved c =
-    let Left : List Answer → Output = λ left. with_frames (frames_behind c.loop-answer.page left) c.loop-answer.self in
+    let Left : List Answer → Output = λ left. with_frames (frames_behind c.loop-answer.page left) c.loop-answer.self.output in
     let later = drop (c.loop-answer.answer-index + 1) c.args.answers.now in
     record {
       output = c.add.ensures.output later
@@ -14,4 +14,5 @@ loop-answer-preserved c =
           ∙ sym (at_drop_more Left c.args.answers.now c.loop-answer.answer-index c.answer-item.result c.loop-answer-test.true)
           ∙ c.loop-answer.invariant.output;
       most = omega (arith, c.add.ensures.most, c.loop-answer.invariant.most);
+      same = c.add.ensures.room ∙ c.loop-answer.invariant.same;
     }

@@ -9,9 +9,10 @@ use Rattle.panel_session.proofs.outgoing.Outgoing.names.Given as goal
 -- With the pages that are left, all frames are to be sent.
 abbrev pub invariant-loop-left : goal.invariant-loop-left
 invariant-loop-left l = record {
-  output : with_frames (frames_left l.names l.left) l.self ≡ with_frames (name_frames l.names l.fn.message) (with_control ack (emptied l.fn.self));
+  output : with_frames (frames_left l.names l.left) l.self.output ≡ with_frames (name_frames l.names l.fn.message) (with_control ack (emptied l.fn.self.output));
   page : IfSome l.left IsNamePage;
-  room : IfSome l.left (λ page. HasRoomFor page l.self);
+  room : IfSome l.left (λ page. HasRoomFor page l.self.output);
+  same : l.self.room ≡ l.fn.self.room;
 }
 
 -- The numbers that are left for a page to begin at.

@@ -6,7 +6,7 @@ use Rattle.panel_session.proofs.outgoing.Outgoing.say_first.Goals as goal
 
 pub loop-said-preserved : goal.loop-said-preserved
 loop-said-preserved c =
-    let Left : List Answer → Output = λ left. with_frames (frames_of left) c.loop-said.self in
+    let Left : List Answer → Output = λ left. with_frames (frames_of left) c.loop-said.self.output in
     let later = drop (c.loop-said.said + 1) c.args.answers.now in
     record {
       within = omega arith;
@@ -15,4 +15,5 @@ loop-said-preserved c =
           ∙ sym (at_drop_more Left c.args.answers.now c.loop-said.said _ c.loop-said-test.true)
           ∙ c.loop-said.invariant.output;
       most = omega (arith, c.say.ensures.most, c.loop-said.invariant.most);
+      same = c.say.ensures.room ∙ c.loop-said.invariant.same;
     }

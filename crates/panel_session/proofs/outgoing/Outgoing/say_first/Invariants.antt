@@ -6,8 +6,9 @@ use Rattle.panel_session.proofs.outgoing.Outgoing.say_first.Given as goal
 abbrev pub invariant-loop-said : goal.invariant-loop-said
 invariant-loop-said l = record {
   within : l.said ≤ length l.answers;
-  output : with_frames (frames_of (drop l.said l.answers)) l.self ≡ with_frames (frames_of l.answers) l.fn.self;
-  most : length l.self.bytes ≤ length l.fn.self.bytes + 24 * l.said;
+  output : with_frames (frames_of (drop l.said l.answers)) l.self.output ≡ with_frames (frames_of l.answers) l.fn.self.output;
+  most : length l.self.output.bytes ≤ length l.fn.self.output.bytes + 24 * l.said;
+  same : l.self.room ≡ l.fn.self.room;
 }
 
 abbrev pub decreases-loop-said : goal.decreases-loop-said

@@ -1,8 +1,7 @@
 use Rattle.std.proofs.Common.{◌≡◌, ℕ, List, ◌++◌, length, drop, ap, ◌∙◌, arith, length-append}
 use Rattle.dle_framing.specs.Frame.{frame}
 use Rattle.panel_session.specs.NamePagesInside.{data_of}
-use Rattle.panel_session.specs.OutgoingKept.{some_frame, sent_as}
-use Rattle.panel_session.specs.Text.{Output}
+use Rattle.panel_session.specs.OutgoingKept.{Buffer, some_frame, sent_as}
 use Rattle.panel_session.specs.declared.sending.Sending.{Sending}
 use Rattle.panel_session.proofs.FrameLemmas.{framed}
 use Rattle.panel_session.proofs.FrameRoom.{frame-most}
@@ -13,25 +12,26 @@ pub encode_frame-requires-clause-bytes : goal.encode_frame-requires-clause-bytes
 encode_frame-requires-clause-bytes c =
     let page = data_of c.args.names.now c.args.page in
     let is : c.deref.result.now ≡ page = c.deref.ensures.value ∙ c.spell_names-end.ensures.text in
-    let some = is_written c.args.names.now c.args.page c.spell_names-end.result c.spell_names-end.ensures.end c.in_default.not-Nothing c.spell_names-end.ensures.few in (
+    let some = is_written c.args.names.now c.args.page c.spell_names-end.result c.spell_names-end.ensures.end c.in_default.not-Nothing in (
       omega (arith, ap (length {A = ℕ}) is, some.1),
       omega (arith, c.deref.ensures.len, c.spell_names-end.ensures.most),
     )
 
 pub encode_frame-requires-clause-room : goal.encode_frame-requires-clause-room
 encode_frame-requires-clause-room c =
-    let some = is_written c.args.names.now c.args.page c.spell_names-end.result c.spell_names-end.ensures.end c.in_default.not-Nothing c.spell_names-end.ensures.few in
+    let some = is_written c.args.names.now c.args.page c.spell_names-end.result c.spell_names-end.ensures.end c.in_default.not-Nothing in
     omega (
       arith,
       some.0,
+      c.requires.names,
       c.requires.room,
-      ap (λ (output : Output). length output.bytes) c.self.view_is,
+      ap (λ (buffer : Buffer). buffer.room) c.self.view_is,
+      ap (λ (buffer : Buffer). length buffer.output.bytes) c.self.view_is,
       ap (length {A = ℕ}) c.begin.ensures.bytes,
       c.begin.ensures.room,
       frame-most c.deref.result.now,
       c.deref.ensures.len,
       c.spell_names-end.ensures.most,
-      c.self.invariant.bytes,
     )
 
 pub returns-clause-sent : goal.returns-clause-sent
@@ -44,8 +44,8 @@ returns-clause-sent c = λ some.
     c.encode_frame.ensures.frame ∙ ap (λ (carried : List ℕ). before ++ frame carried) is in
     ap (λ (sending : Sending). record { bytes = sent_as sending after; last = some_frame (drop c.begin.new.last_from after); repeats = c.begin.new.repeats }) c.begin.ensures.sending
     ∙ ap (λ (repeats : ℕ). record { bytes = after; last = some_frame (drop c.begin.new.last_from after); repeats = repeats }) c.begin.ensures.repeats
-    ∙ framed (data_of c.args.names.now c.args.page) before after c.begin.new.last_from c.args.self.now at
-    (c.begin.ensures.bytes ∙ ap (λ (output : Output). output.bytes) c.self.view_is) appended
+    ∙ framed (data_of c.args.names.now c.args.page) before after c.begin.new.last_from c.args.self.now.output at
+    (c.begin.ensures.bytes ∙ ap (λ (buffer : Buffer). buffer.output.bytes) c.self.view_is) appended
 
 pub returns-clause-most : goal.returns-clause-most
 returns-clause-most c =
@@ -54,7 +54,7 @@ returns-clause-most c =
     omega (
       arith,
       is,
-      ap (λ (output : Output). length output.bytes) c.self.view_is,
+      ap (λ (buffer : Buffer). length buffer.output.bytes) c.self.view_is,
       ap (length {A = ℕ}) c.begin.ensures.bytes,
       ap (length {A = ℕ}) c.encode_frame.ensures.frame,
       length-append c.begin.new.bytes.items (frame c.deref.result.now),

@@ -1,29 +1,30 @@
 use Rattle.std.proofs.Common.{◌+◌, ◌%◌, ◌^◌, List, refl, subst}
 use Rattle.plant_core.specs.declared.answer.Answer.{Answer}
 use Rattle.panel_session.specs.PolledInside.{HasPolled}
+use Rattle.panel_session.specs.RoomsInside.{fitting}
 use Rattle.panel_session.proofs.SessionLemmas.{answered_told, answered_poll, nothing_asked}
 use Rattle.panel_session.proofs.LeftLemmas.{left_told, left_poll}
 use Rattle.panel_session.proofs.session.Session.answered.Goals as goal
 
 pub returns-in-Tell-clause-answered : goal.returns-in-Tell-clause-answered
-returns-in-Tell-clause-answered c = λ request plant panel seat past awaits.
-    answered_told plant panel seat c.args.self.now c.take_answers.new.self past request c.in-Tell.field-0 awaits c.in-Tell.is c.take_answers.ensures.took c.take_answers.ensures.some c.take_answers.ensures.none
+returns-in-Tell-clause-answered c = λ request plant panel seat past awaits few.
+    answered_told plant panel seat c.args.self.now c.take_answers.new.self past request c.in-Tell.field-0 awaits few c.in-Tell.is c.take_answers.ensures.took c.take_answers.ensures.some c.take_answers.ensures.none
 
 pub returns-in-Poll-clause-answered : goal.returns-in-Poll-clause-answered
-returns-in-Poll-clause-answered c = λ request plant panel seat past awaits.
+returns-in-Poll-clause-answered c = λ request plant panel seat past awaits few.
     let Polled : List Answer → Type 0 = λ answers. HasPolled answers ((c.args.self.now.polls + 1) % 2 ^ 32) c.stage_behind-self.result in
-    answered_poll plant panel seat c.args.self.now c.take_answers-in-Poll.new.self past request c.stage_behind-self.result _ awaits c.in-Poll.is refl (subst Polled c.items.ensures c.stage_behind-self.ensures) c.take_answers-in-Poll.ensures.took c.take_answers-in-Poll.ensures.some c.take_answers-in-Poll.ensures.none
+    answered_poll plant panel seat c.args.self.now c.take_answers-in-Poll.new.self past request c.stage_behind-self.result _ awaits few c.in-Poll.is refl (subst Polled c.items.ensures c.stage_behind-self.ensures) c.take_answers-in-Poll.ensures.took c.take_answers-in-Poll.ensures.some c.take_answers-in-Poll.ensures.none
 
 pub returns-in-Read-clause-answered : goal.returns-in-Read-clause-answered
-returns-in-Read-clause-answered c = λ request plant panel seat past awaits. absurd (nothing_asked plant panel c.args.self.now past request awaits c.in-Read.is)
+returns-in-Read-clause-answered c = λ request plant panel seat past awaits few. absurd (nothing_asked plant panel c.args.self.now past request awaits c.in-Read.is)
 
 pub returns-in-Tell-clause-ends : goal.returns-in-Tell-clause-ends
-returns-in-Tell-clause-ends c = λ request plant panel past awaits. left_told c.args.self.now c.take_answers.new.self c.in-Tell.field-0 c.in-Tell.is c.take_answers.ensures.took
+returns-in-Tell-clause-ends c = λ request plant panel past awaits. left_told c.args.self.now c.take_answers.new.self c.in-Tell.field-0 (fitting c.args.self.now.sender.names c.args.self.now.outbox.items) c.in-Tell.is c.take_answers.ensures.took
 
 pub returns-in-Poll-clause-ends : goal.returns-in-Poll-clause-ends
 returns-in-Poll-clause-ends c = λ request plant panel past awaits.
     let Polled : List Answer → Type 0 = λ answers. HasPolled answers ((c.args.self.now.polls + 1) % 2 ^ 32) c.stage_behind-self.result in
-    left_poll plant panel c.args.self.now c.take_answers-in-Poll.new.self past request c.stage_behind-self.result _ awaits c.in-Poll.is refl (subst Polled c.items.ensures c.stage_behind-self.ensures) c.take_answers-in-Poll.ensures.took
+    left_poll plant panel c.args.self.now c.take_answers-in-Poll.new.self past request c.stage_behind-self.result _ (fitting c.args.self.now.sender.names c.args.self.now.outbox.items) awaits c.in-Poll.is refl (subst Polled c.items.ensures c.stage_behind-self.ensures) c.take_answers-in-Poll.ensures.took
 
 pub returns-in-Read-clause-ends : goal.returns-in-Read-clause-ends
 returns-in-Read-clause-ends c = λ request plant panel past awaits. absurd (nothing_asked plant panel c.args.self.now past request awaits c.in-Read.is)

@@ -14,9 +14,9 @@ pub returns-in-Some-clause-reads : goal.returns-in-Some-clause-reads
 returns-in-Some-clause-reads c = λ plant panel past reading small.
     let P : Option Asked → Type 0 = λ asked. FoundAsks (read_so_far past) c.args.piece.now c.next_asked-used.result.0 asked in
     let Took : PlantData → Type 0 = λ names. c.take.new.self ≡ took names c.in-Some.asked (record c.args.self.now { framer = c.next_asked-used.new.framer }) in
-    let Sends : PlantData → Type 0 = λ names. c.take.result ≡ true → sent_by names c.in-Some.asked c.args.self.now.outgoing ≢ [] in
-    let Sending : PlantData → Type 0 = λ names. c.take.result ≡ true → IsSending names c.in-Some.asked c.args.self.now.outgoing c.take.new.self.outgoing in
-    let Quiet : PlantData → Type 0 = λ names. c.take.result ≡ false → sent_by names c.in-Some.asked c.args.self.now.outgoing ≡ [] in
+    let Sends : PlantData → Type 0 = λ names. c.take.result ≡ true → sent_by names c.in-Some.asked c.args.self.now.sender.output ≢ [] in
+    let Sending : PlantData → Type 0 = λ names. c.take.result ≡ true → IsSending names c.in-Some.asked c.args.self.now.sender.output c.take.new.self.sender.output in
+    let Quiet : PlantData → Type 0 = λ names. c.take.result ≡ false → sent_by names c.in-Some.asked c.args.self.now.sender.output ≡ [] in
     has_read_item plant panel c.args.self.now c.take.new.self past c.args.piece.now c.next_asked-used.result.0 c.in-Some.asked c.next_asked-used.new.framer c.take.result reading small
     (subst P c.in-Some.is (c.next_asked-used.ensures.finds (read_so_far past) reading.stands.framer)) (c.next_asked-used.ensures.stands (read_so_far past) reading.stands.framer)
     (subst Took reading.stands.names_are c.take.ensures.session)

@@ -10,6 +10,6 @@ use Rattle.panel_session.proofs.session.Session.take.Goals as goal
 
 pub returns-in-Named-clause-some : goal.returns-in-Named-clause-some
 returns-in-Named-clause-some c = λ sending.
-    let SomeIsSent : Asked → Type 0 = λ asked. sent_by c.args.self.now.names.now asked c.args.self.now.outgoing ≢ [] in
+    let SomeIsSent : Asked → Type 0 = λ asked. sent_by c.args.self.now.sender.names asked c.args.self.now.sender.output ≢ [] in
     subst SomeIsSent (sym c.in-Named.is)
-    (with_frames-some (name_frames c.args.self.now.names.now c.in-Named.message) (with_control ack (emptied c.args.self.now.outgoing)) (λ is. cc))
+    (with_frames-some (name_frames c.args.self.now.sender.names c.in-Named.message) (with_control ack (emptied c.args.self.now.sender.output)) (λ is. cc))

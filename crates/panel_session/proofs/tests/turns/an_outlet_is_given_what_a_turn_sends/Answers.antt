@@ -1,5 +1,6 @@
 use Rattle.std.proofs.Common.{refl, arith, rules}
 use Rattle.dle_framing.specs.Items.{reading}
+use Rattle.plant_core.proofs.CountLemmas.{room_some}
 use Rattle.plant_core.specs.declared.request.Request.TheVariants.{Told, Poll, Leave, DisplayPoll}
 use Rattle.panel_session.specs.SoFar.{nothing_yet}
 use Rattle.panel_session.proofs.tests.turns.an_outlet_is_given_what_a_turn_sends.Goals as goal
@@ -22,7 +23,7 @@ run_turn-requires g c = record {
         | (Leave panel) ↦ search rules
         | (DisplayPoll screen refresh) ↦ search rules
       ];
-      within = omega arith;
+      within = omega (arith, room_some c.in_ok-plant.plant);
     };
   };
 }
