@@ -4,3 +4,6 @@ mod audits;
 mod histories;
 mod lines;
 mod requests;
+mod sessions;
+mod studio;
+mod texts;

@@ -1,5 +1,5 @@
 use Rattle.trace_audit.specs.KeptInside.{IsReady}
 use Rattle.trace_audit.proofs.tests.histories.entries.Given as goal
 
-abbrev pub invariant-loop-position : goal.invariant-loop-position
-invariant-loop-position g l = IsReady l.fn.plant l.walker
+abbrev pub invariant-loop-request : goal.invariant-loop-request
+invariant-loop-request g l = IsReady l.history.plant.now l.history.walker

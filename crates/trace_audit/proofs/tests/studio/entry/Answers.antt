@@ -6,7 +6,7 @@ use Rattle.plant_core.proofs.StepValidity.{IsValid-step}
 use Rattle.panel_session.specs.TraceLine.{MayReply}
 use Rattle.trace_audit.proofs.VerdictLemmas.{may-trace}
 use Rattle.trace_audit.proofs.WalkLemmas.{few_answers, may_reply}
-use Rattle.trace_audit.proofs.tests.histories.entry.Goals as goal
+use Rattle.trace_audit.proofs.tests.studio.entry.Goals as goal
 
 pub append-requires-clause-request : goal.append-requires-clause-request
 append-requires-clause-request c =
@@ -23,12 +23,10 @@ append-requires-clause-reply c =
     subst (MayReply c.args.plant.now c.args.request.now) (sym c.items.ensures)
     (may_reply c.args.plant.now c.args.walker.now.state c.args.request.now c.step.new.out.items c.requires.ready.plant_is c.requires.ready.valid c.step.ensures.count c.step.ensures.answers)
 
-pub returns : goal.returns
-returns c = record {
-  ready = record {
-    plant_is = c.step.ensures.plant ∙ c.requires.ready.plant_is;
-    valid = subst IsValid (sym c.step.ensures.state) (IsValid-step c.args.walker.now.state c.args.request.now c.requires.ready.valid);
-    places = omega (arith, c.requires.ready.places, c.step.ensures.places, c.clear.ensures.places);
-    room = omega (arith, c.requires.ready.room, c.clear-2.ensures.capacity, c.append.ensures.room);
-  };
+pub returns-clause-ready : goal.returns-clause-ready
+returns-clause-ready c = record {
+  plant_is = c.step.ensures.plant ∙ c.requires.ready.plant_is;
+  valid = subst IsValid (sym c.step.ensures.state) (IsValid-step c.args.walker.now.state c.args.request.now c.requires.ready.valid);
+  places = omega (arith, c.requires.ready.places, c.step.ensures.places, c.clear.ensures.places);
+  room = omega (arith, c.requires.ready.room, c.clear-2.ensures.capacity, c.append.ensures.room);
 }
