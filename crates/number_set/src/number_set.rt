@@ -112,6 +112,9 @@ impl NumberSet {
     pub fn clear(&mut self)
         ensures { self.new ≡ empty }
     {
+        if self.is_empty() {
+            return;
+        }
         zero_summed(&mut self.words, &self.groups);
         zero(&mut self.groups);
         self.top = [0];
