@@ -1,5 +1,5 @@
 -- How DATA is read in the crate: a message by its bytes as they come, whose row they are then held to.
-use Rattle.std.specs.Prelude.{ℕ, ◌+◌, ◌*◌, ◌/◌, ◌%◌, ◌==◌, nat_lt, Bool, if◌then◌else◌, Option, Some, None}
+use Rattle.std.specs.Prelude.{◌≡◌, ℕ, ◌+◌, ◌*◌, ◌/◌, ◌%◌, ◌<◌, ◌==◌, nat_lt, Bool, if◌then◌else◌, Option, Some, None}
 use Rattle.std.specs.Prelude.{List, [], ◌∷◌, ◌++◌, length, slice_index}
 use Rattle.swp08_messages.specs.declared.fault.ReadFault.{ReadFault}
 use Rattle.swp08_messages.specs.declared.fault.ReadFault.TheVariants.{WrongLength, BadField}
@@ -101,6 +101,21 @@ size_in bytes = slice_index bytes 1
 
 abbrev pub wide_in : List ℕ → ℕ
 wide_in bytes = slice_index bytes 2 * whole_part + slice_index bytes 3
+
+-- Bytes behind a command are those of a destination: three, the last of them a low part.
+abbrev pub AreDestination : List ℕ → Type 0
+AreDestination bytes = (length bytes ≡ 3) × (slice_index bytes 2 < part)
+
+-- They are those of a destination and the source at it: four, the last two of them low parts.
+abbrev pub AreCrosspoint : List ℕ → Type 0
+AreCrosspoint bytes =
+    (length bytes ≡ 4) × (slice_index bytes 2 < part) × (slice_index bytes 3 < part)
+
+-- A message asks for the source at a destination, or that the destination carry one.
+abbrev pub AsksOfCrosspoint : Message → Type 0
+AsksOfCrosspoint (Interrogate at) = Unit {0}
+AsksOfCrosspoint (Connect at source) = Unit {0}
+AsksOfCrosspoint message = ⊥
 
 -- the message of a command of crosspoints by the bytes behind it, `None` where none of these messages has the command
 abbrev pub crosspoint_message : ℕ → List ℕ → Option Message

@@ -1,8 +1,9 @@
 -- What a message's row makes of it: the one canonical DATA, the ranges, and what it is for.
-use Rattle.std.specs.Prelude.{ℕ, ◌<◌, List, ◌∷◌, map}
+use Rattle.std.specs.Prelude.{ℕ, ◌<◌, ◌≢◌, Option, List, ◌∷◌, map}
 use Rattle.std.specs.List.{AllByRecursion}
 use Rattle.swp08_messages.specs.declared.point.Point.{Point}
 use Rattle.swp08_messages.specs.declared.message.Message.{Message}
+use Rattle.swp08_messages.specs.declared.message.Message.TheVariants.{Tally, Connected}
 use Rattle.swp08_messages.specs.declared.message.MessageKind.{MessageKind}
 use Rattle.swp08_messages.specs.Field.{levels, dests, byte_of, HasRoom}
 use Rattle.swp08_messages.specs.Row.{row}
@@ -23,6 +24,12 @@ InRange message = AllByRecursion HasRoom (row message).fields
 -- what a message is for
 abbrev pub kind_of : Message → MessageKind
 kind_of message = (row message).kind
+
+-- A message tells no crosspoint: it is neither a tally nor a connected.
+abbrev pub TellsNoCrosspoint : Message → Type 0
+TellsNoCrosspoint message =
+    (at : Point) (source : Option ℕ)
+    → (message ≢ Tally at source) × (message ≢ Connected at source)
 
 -- A destination's place is in its ranges.
 pub record IsPoint (at : Point) : Type 0 where

@@ -8,6 +8,7 @@ use crate::field::PART;
 use crate::point::{PARKED, Point};
 
 /// The byte at a place, counted from 0 behind the command.
+#[inline(always)]
 pub(crate) fn byte_at(behind: &[u8], place: usize) -> u8
     ensures { result ≡ slice_index behind.now place }
 {
@@ -29,6 +30,7 @@ pub(crate) fn level_in(behind: &[u8]) -> u8
 }
 
 /// The destination by its matrix and level, bits 4 to 6 of the multiplier at `high`, and its low part at `low`.
+#[inline]
 pub(crate) fn point_at(behind: &[u8], high: usize, low: usize) -> Point
     ensures { let at = slice_index behind.now in result ≡ point_of (at 0) (at high) (at low) }
 {
@@ -41,6 +43,7 @@ pub(crate) fn point_at(behind: &[u8], high: usize, low: usize) -> Point
 }
 
 /// The source or the device by bits 0 to 2 of the multiplier at `high` and its low part at `low`.
+#[inline]
 pub(crate) fn second_at(behind: &[u8], high: usize, low: usize) -> u16
     ensures { let at = slice_index behind.now in result ≡ second_of (at high) (at low) }
 {
@@ -49,6 +52,7 @@ pub(crate) fn second_at(behind: &[u8], high: usize, low: usize) -> u16
 }
 
 /// The source at a destination.
+#[inline]
 pub(crate) fn source_in(behind: &[u8]) -> Option<u16>
     ensures { result ≡ source_in behind.now }
 {

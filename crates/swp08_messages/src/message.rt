@@ -168,6 +168,7 @@ impl Message {
     /// to 2 of an interrogate's, of a crosspoint or of a protect, which has no second number, nor the bits of a level where
     /// names of destinations are asked for. An interrogate of a protect may have one byte more, the low part of a device,
     /// which is held to its range and isn't kept: this is the project's profile.
+    #[inline(always)]
     pub fn read(bytes: &[u8]) -> Result<Message, ReadFault>
         ensures read { MatchResult result
             (λ message. Spells bytes.now message)
@@ -175,15 +176,9 @@ impl Message {
         ensures only_ok { ReadsSpelled bytes.now result }
         ensures only_err { ReadsRefused bytes.now result }
     {
-        let [command, behind @ ..] = bytes else {
-            return Err(ReadFault::WrongLength(0, 1));
-        };
-        let Some(message) = read_behind(*command, behind) else {
-            return Err(ReadFault::UnknownCommand(*command));
-        };
-        match message.fault(behind) {
-            None => Ok(message),
-            Some(fault) => Err(fault),
+        match crosspoints::read_asked(bytes) {
+            Some(message) => Ok(message),
+            None => read_any(bytes),
         }
     }
 
@@ -217,6 +212,27 @@ impl Message {
     {
         out.push_reserved(self.command());
         push_all(self.fields::<u8>().as_slice(), out);
+    }
+}
+
+// The message that DATA of any command spells, or the first fault.
+#[inline(never)]
+fn read_any(bytes: &[u8]) -> Result<Message, ReadFault>
+    ensures read { MatchResult result
+        (λ message. Spells bytes.now message)
+        (λ fault. IsRefused bytes.now fault) }
+    ensures only_ok { ReadsSpelled bytes.now result }
+    ensures only_err { ReadsRefused bytes.now result }
+{
+    let [command, behind @ ..] = bytes else {
+        return Err(ReadFault::WrongLength(0, 1));
+    };
+    let Some(message) = read_behind(*command, behind) else {
+        return Err(ReadFault::UnknownCommand(*command));
+    };
+    match message.fault(behind) {
+        None => Ok(message),
+        Some(fault) => Err(fault),
     }
 }
 

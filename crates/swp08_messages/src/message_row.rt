@@ -55,6 +55,7 @@ impl Message {
     }
 
     /// What the message is for.
+    #[inline]
     pub fn kind(&self) -> MessageKind
         ensures { result ≡ kind_of self.now }
     {

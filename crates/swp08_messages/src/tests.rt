@@ -216,6 +216,23 @@ fn shows_faults(rt: HostRuntime) -> Result<(), Fail> {
 }
 
 #[test]
+fn tells_crosspoints(rt: HostRuntime) {
+    let five = place(0, 0, 5);
+    let far = place(14, 9, 1000);
+    let rows = [
+        (tally(five, Some(7)), Some([3, 0, 0, 5, 7])),
+        (tally(five, None), Some([3, 0, 7, 5, 127])),
+        (connected(far, Some(300)), Some([4, 233, 114, 104, 44])),
+        (connect(five, Some(7)), None),
+        (dump_ask(0, 1), None),
+    ];
+    for (message, wanted) in rows {
+        assert!(rt; message.in_range());
+        assert_eq!(rt; message.told_crosspoint(), wanted, "of {message:?}");
+    }
+}
+
+#[test]
 fn knows_ranges(rt: HostRuntime) {
     let rows = [
         (connect(place(15, 15, 1023), Some(1022)), true),
