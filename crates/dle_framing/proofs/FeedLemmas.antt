@@ -1,23 +1,24 @@
 -- A framer that goes over the bytes of a piece.
-use Rattle.std.proofs.Common.{◌≡◌, ℕ, ◌+◌, ◌≤◌, ◌<◌, nat_eq, true, false, List, [], ◌∷◌, ◌++◌, length, take, drop, get_or, Option, Some, None, refl, sym, ap, ◌∙◌, subst, arith}
+use Rattle.std.proofs.Common.{◌≡◌, ℕ, ◌+◌, ◌-◌, ◌≤◌, ◌<◌, nat_eq, true, false, List, [], ◌∷◌, ◌++◌, length, take, drop, get_or, Option, Some, None, refl, sym, ap, ◌∙◌, subst, arith}
 use Rattle.std.specs.Option.{option_map, option_to_list, is_some}
-use Rattle.std.proofs.lemmas.Bool.{false≢true}
-use Rattle.std.proofs.lemmas.List.{append-nil, append_assoc, length-append, length-drop, nil_from_length, take_more, take-take, take-append-drop, drop-take}
-use Rattle.dle_framing.specs.Numbers.{dle, stx, most_kept}
+use Rattle.std.proofs.lemmas.Bool.{cond-true, false≢true}
+use Rattle.std.proofs.lemmas.List.{append-nil, append_assoc, length-append, length-drop, length-take-le, nil_from_length, take_at, take_more, take-take, take-append-drop, drop-take}
+use Rattle.dle_framing.specs.Numbers.{dle, stx, etx, most_kept}
 use Rattle.dle_framing.specs.declared.framer.Framer.{Framer}
 use Rattle.dle_framing.specs.declared.framer.State.{State}
 use Rattle.dle_framing.specs.declared.framer.State.TheVariants.{Outside, OutsideDle, Inside}
 use Rattle.std.proofs.lemmas.List.Concat.{flat_map-append}
 use Rattle.dle_framing.specs.declared.item.Item.{Item}
-use Rattle.dle_framing.specs.Frame.{doubled}
-use Rattle.dle_framing.specs.Items.{Reading, only_rest, reading, items, rest}
+use Rattle.dle_framing.specs.declared.item.Item.TheVariants.{Good}
+use Rattle.dle_framing.specs.Frame.{doubled, enclosed}
+use Rattle.dle_framing.specs.Items.{Reading, only_rest, with_item, item_of, is_good, reading, items, rest}
 use Rattle.dle_framing.specs.Kept.{Keeps}
 use Rattle.dle_framing.specs.StepsInside.{found_in, Steps}
 use Rattle.dle_framing.specs.Framer.{StandsFor}
 use Rattle.dle_framing.specs.FramerInside.{PassesOver}
 use Rattle.dle_framing.specs.Feeding.{Feeds}
-use Rattle.dle_framing.proofs.Readings.{reading-by_start, reading-noise, reading-append, followed}
-use Rattle.dle_framing.proofs.LawLemmas.{reads_on_lem}
+use Rattle.dle_framing.proofs.Readings.{reading-by_start, reading-noise, reading-frame, reading-append, followed}
+use Rattle.dle_framing.proofs.LawLemmas.{reads_on_lem, reading-enclosed}
 use Rattle.dle_framing.proofs.StepLemmas.{take-take_append, reading-open, doubled-push, outside-dle, control-start}
 
 pub take-add : (n m : ℕ) (bytes : List ℕ) → take (n + m) bytes ≡ take n bytes ++ take m (drop n bytes)
@@ -177,3 +178,38 @@ none_from_test (Some item) none = cc
 -- The same behind bytes that were skipped: `part` is what was left of the piece before them.
 pub within_piece : (piece part : List ℕ) (used n : ℕ) → part ≡ drop used piece → used ≤ length piece → n ≤ length part → (used + n ≡ length piece → ⊥) → used + n < length piece
 within_piece piece part used n is in_piece in_part more = omega (arith, ap (length {A = ℕ}) is, length-drop used piece)
+
+-- a piece that starts with a good frame, outside of one
+pub feeds_whole : (piece body : List ℕ) (used : ℕ) (before after : Framer) → before.state ≡ Outside → after.state ≡ Outside → used ≤ length piece → take used piece ≡ enclosed body → is_good body ≡ true → (text : List ℕ) → StandsFor before text
+    → Feeds text piece used (Some (Good (take (length body - 2) body))) × StandsFor after (text ++ take used piece)
+unfolding StandsFor
+feeds_whole piece body used before after outside still within is good text stands =
+    let none : rest text ≡ [] = (let P : State → Type 0 = λ state. Keeps state before.front (rest text) in subst P outside stands) in
+    let item : Item (List ℕ) = Good (take (length body - 2) body) in
+    let whole : Reading = record { items = item ∷ []; rest = [] } in
+    let on = reads_on_lem text (take used piece) in
+    let behind : reading (rest text ++ take used piece) ≡ whole =
+    ap (λ (kept : List ℕ). reading (kept ++ take used piece)) none
+    ∙ ap reading is
+    ∙ reading-enclosed body
+    ∙ ap (with_item (item_of body)) (reading-by_start [])
+    ∙ ap (λ (item : Item (List ℕ)). record { items = item ∷ []; rest = [] }) (cond-true _ _ _ good) in
+    let sent : List ℕ = dle ∷ stx ∷ (doubled body ++ dle ∷ []) in
+    let split : take used piece ≡ sent ++ etx ∷ [] = is ∙ sym (ap (λ (text : List ℕ). dle ∷ stx ∷ text) (append_assoc (doubled body) (dle ∷ []) (etx ∷ []))) in
+    let count : used ≡ length sent + 1 = omega (arith, length-take-le used piece within, ap (length {A = ℕ}) split, length-append sent (etx ∷ [])) in
+    let front : take (length sent) piece ≡ sent = sym (take-take (length sent) used piece (omega arith)) ∙ ap (take (length sent)) split ∙ take_at sent (etx ∷ []) (length sent) refl in
+    let passes : items (text ++ take (length sent) piece) ≡ items text =
+    (reads_on_lem text (take (length sent) piece)).items_go_on
+    ∙ ap (λ (kept : List ℕ). items text ++ items (kept ++ take (length sent) piece)) none
+    ∙ ap (λ (front : List ℕ). items text ++ items front) front
+    ∙ ap (λ (reading : Reading). items text ++ reading.items) (reading-frame body (dle ∷ []) refl)
+    ∙ append-nil (items text) in
+    let keeps : Keeps Outside after.front (rest (text ++ take used piece)) = on.rest_goes_on ∙ ap (λ (behind : Reading). behind.rest) behind in (
+      record {
+        within = within;
+        adds = on.items_go_on ∙ ap (λ (behind : Reading). items text ++ behind.items) behind;
+        is_first = λ k below. none_before text piece k (length sent) (omega arith) passes;
+        uses_all = λ is_none. cc;
+      },
+      (let P : State → Type 0 = λ state. Keeps state after.front (rest (text ++ take used piece)) in subst P (sym still) keeps),
+    )

@@ -17,6 +17,7 @@ pub fn frame_len(bytes: &[u8]) -> usize
 
 /// Appends the one frame of these DATA bytes, as the SW-P-08 General Remote Control Protocol spells it: DLE STX, the
 /// DATA, their length and a check byte with each DLE doubled, DLE ETX. It takes no memory.
+#[inline(always)]
 pub fn encode_frame(bytes: &[u8], out: &mut Vec<u8>)
     requires bytes { IsData bytes.now }
     requires room { vec_len out.old + length (frame bytes.now) ≤ vec_capacity out.old }
@@ -32,6 +33,7 @@ pub fn encode_frame(bytes: &[u8], out: &mut Vec<u8>)
 }
 
 // Appends bytes of a body, each DLE twice.
+#[inline(always)]
 fn push_doubled(bytes: &[u8], out: &mut Vec<u8>)
     requires { vec_len out.old + length (doubled bytes.now) ≤ vec_capacity out.old }
     ensures doubled { out.new.items ≡ out.old.items ++ doubled bytes.now }
@@ -43,6 +45,7 @@ fn push_doubled(bytes: &[u8], out: &mut Vec<u8>)
 }
 
 // Appends a byte of a body.
+#[inline(always)]
 fn push_byte(byte: u8, out: &mut Vec<u8>)
     requires { vec_len out.old + length (doubled (byte ∷ [])) ≤ vec_capacity out.old }
     ensures doubled { out.new.items ≡ out.old.items ++ doubled (byte ∷ []) }

@@ -1,10 +1,13 @@
 //! A stream in pieces: what is kept of it between them, and the items that end in each.
 ghost use Rattle.std.specs.Prelude.{◌≡◌, ℕ, ◌<◌, ◌≤◌, List, [], length, take};
+ghost use Rattle.std.specs.Prelude.{IfSome, IfNone, IsTrue};
 ghost use Rattle.std.specs.Borrow.{sem};
 ghost use Rattle.std.specs.Option.{option_map};
 ghost use Rattle.dle_framing.specs.Feeding.{Feeds, shown};
-ghost use Rattle.dle_framing.specs.Items.{item_of};
+ghost use Rattle.dle_framing.specs.Frame.{enclosed};
+ghost use Rattle.dle_framing.specs.Items.{is_good, item_of};
 
+use crate::body::is_whole;
 use crate::control::{ACK, DLE, ETX, NAK, STX};
 use crate::front::Front;
 use crate::item::Item;
@@ -74,7 +77,50 @@ impl Framer {
     }
 
     // Takes the bytes that `feed` takes. The DATA of a good frame stay in the front.
+    #[inline(always)]
     fn take_item(&mut self, piece: &[u8]) -> (usize, Option<Item<()>>)
+        ensures stands { GoesOver (take result.0 piece.now) self.old self.new }
+        ensures within { result.0 ≤ length piece.now }
+        ensures progress { 0 < length piece.now → 0 < result.0 }
+        ensures feeds { (text : List ℕ) → StandsFor self.old text
+            → Feeds text piece.now result.0 (option_map (found_in self.new.front) result.1) }
+    {
+        match self.take_whole(piece) {
+            Some(used) => (used, Some(Item::Good(()))),
+            None => self.take_by_runs(piece),
+        }
+    }
+
+    // Takes the good frame of 4 or 5 bytes of DATA, none of its body DLE, that the piece starts with outside a frame, and
+    // answers how many bytes it has. Most frames are such. None where the piece starts with no such frame.
+    #[inline(always)]
+    fn take_whole(&mut self, piece: &[u8]) -> Option<usize>
+        ensures none { IfNone result (self.new ≡ self.old) }
+        ensures within { IfSome result (λ used. used ≤ length piece.now) }
+        ensures outside { IfSome result (λ _. (self.old.state ≡ State.Outside)
+            × (self.new.state ≡ State.Outside)) }
+        ensures good { IfSome result (λ _. IsTrue (is_good self.new.front)) }
+        ensures frame { IfSome result (λ used. take used piece.now ≡ enclosed self.new.front) }
+    {
+        let State::Outside = self.state else {
+            return None;
+        };
+        match piece {
+            [DLE, STX, a, b, c, d, 4, check, DLE, ETX, ..] if is_whole(&piece[2..8]) => {
+                self.front.restart(&[*a, *b, *c, *d, 4, *check]);
+                Some(10)
+            }
+            [DLE, STX, a, b, c, d, e, 5, check, DLE, ETX, ..] if is_whole(&piece[2..9]) => {
+                self.front.restart(&[*a, *b, *c, *d, *e, 5, *check]);
+                Some(11)
+            }
+            _ => None,
+        }
+    }
+
+    // The same of any piece: it takes a run of bytes up to a DLE at once, and then the byte behind that DLE.
+    #[inline(never)]
+    fn take_by_runs(&mut self, piece: &[u8]) -> (usize, Option<Item<()>>)
         ensures stands { GoesOver (take result.0 piece.now) self.old self.new }
         ensures within { result.0 ≤ length piece.now }
         ensures progress { 0 < length piece.now → 0 < result.0 }

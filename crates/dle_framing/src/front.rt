@@ -1,6 +1,6 @@
 //! The front of a frame's body: as much of it as a framer keeps.
 ghost use Rattle.std.specs.Prelude.{◌≡◌, ◌+◌, ◌%◌, ◌<◌, ◌≤◌, [], ◌∷◌, ◌++◌, length, take, sum};
-ghost use Rattle.std.specs.Prelude.{slice_index};
+ghost use Rattle.std.specs.Prelude.{slice_index, IsTrue};
 ghost use Rattle.dle_framing.specs.Numbers.{most_kept};
 ghost use Rattle.dle_framing.specs.Frame.{doubled};
 ghost use Rattle.dle_framing.specs.Items.{is_good};
@@ -129,6 +129,17 @@ impl Front {
         self.bytes[self.len..end].copy_from_slice(bytes);
         self.len = end;
         self.total = self.total.wrapping_add(byte_sum(bytes));
+    }
+
+    // Becomes that of a good body.
+    #[inline(always)]
+    pub(crate) fn restart(&mut self, body: &[u8])
+        requires { IsTrue (is_good body.now) }
+        ensures { self.new ≡ body.now }
+    {
+        self.bytes[..body.len()].copy_from_slice(body);
+        self.len = body.len();
+        self.total = 0;
     }
 
     // Whether a frame whose body has this front is good.

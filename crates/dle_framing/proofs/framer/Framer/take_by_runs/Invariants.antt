@@ -1,7 +1,7 @@
 use Rattle.std.proofs.Common.{◌≤◌, ◌<◌, ◌-◌, length, take}
 use Rattle.dle_framing.specs.FramerInside.{PassesOver}
 use Rattle.dle_framing.specs.StepsInside.{IsBehindDle}
-use Rattle.dle_framing.proofs.framer.Framer.take_item.Given as goal
+use Rattle.dle_framing.proofs.framer.Framer.take_by_runs.Given as goal
 
 -- no item has ended so far, and where the piece goes on a DLE was taken
 abbrev pub invariant-loop-used : goal.invariant-loop-used
