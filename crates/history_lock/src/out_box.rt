@@ -35,6 +35,7 @@ impl<A> OutBox<A> {
     }
 
     /// The answers, in the order in which they were put.
+    #[inline]
     pub fn items(&self) -> &[A]
         ensures { result.now ≡ self.now.items }
     {
@@ -42,6 +43,7 @@ impl<A> OutBox<A> {
     }
 
     /// Puts an answer behind the others.
+    #[inline]
     pub fn put(&mut self, answer: A)
         requires { length self.old.items < self.old.places }
         ensures items { self.new.items ≡ self.old.items ++ answer ∷ [] }
@@ -53,6 +55,7 @@ impl<A> OutBox<A> {
 
 impl<A: Drop> OutBox<A> {
     /// Drops all answers.
+    #[inline]
     pub fn clear(&mut self)
         ensures items { self.new.items ≡ [] }
         ensures places { self.new.places ≡ self.old.places }
