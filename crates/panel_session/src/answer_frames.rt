@@ -27,6 +27,9 @@ impl Outgoing {
         ensures most { length self.new.output.bytes ≤ answer_bytes (length answers.now) }
     {
         self.clear();
+        if answers.is_empty() {
+            return false;
+        }
         let said = self.say_first(answers);
         if said < answers.len() {
             self.add_pages(&answers[said..]);

@@ -15,7 +15,8 @@ use dle_framing::encode_frame;
 use plant_names::{Names, Paged};
 use swp08_messages::Message;
 
-// Appends the frame of a message. Its DATA stand in place of what was spelled.
+// Appends the frame of a message. Most tell a crosspoint, and have DATA of one length; those of any other stand in place of
+// what was spelled.
 pub(crate) fn spell_frame(message: Message, spelled: &mut Vec<u8>, out: &mut Vec<u8>)
     requires in_range { InRange message }
     requires room { max_page_len ≤ vec_capacity spelled.old }
@@ -25,6 +26,10 @@ pub(crate) fn spell_frame(message: Message, spelled: &mut Vec<u8>, out: &mut Vec
     ensures room { vec_capacity spelled.new ≡ vec_capacity spelled.old }
     ensures frame_room { vec_capacity out.new ≡ vec_capacity out.old }
 {
+    if let Some(told) = message.told_crosspoint() {
+        encode_frame(&told, out);
+        return;
+    }
     spelled.clear();
     message.write(spelled);
     encode_frame(spelled, out);
