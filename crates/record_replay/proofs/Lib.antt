@@ -14,7 +14,8 @@ pub mod DeedsLemmas
 pub mod DeedsOnce
 pub mod TiedReplayLemmas
 pub mod DigitsLemmas
-pub mod WeightLemmas
+pub mod PairsLemmas
+pub mod FirstLemmas
 pub mod TurnEntries
 pub mod AnsweredLemmas
 pub mod TurnAnswers

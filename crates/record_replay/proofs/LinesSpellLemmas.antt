@@ -1,14 +1,14 @@
 -- Lines that spell works, one after the other.
-use Rattle.std.proofs.Common.{◌≡◌, ℕ, ◌+◌, ◌≤◌, inl, inr, Bool, true, false, cond, List, [], ◌∷◌, ◌++◌, length, Option, Some, None, refl, sym, ◌∙◌, ap, append_assoc, arith, length-append}
-use Rattle.std.specs.Prelude.{not, codes, MatchOption, is_some}
+use Rattle.std.proofs.Common.{◌≡◌, ℕ, ◌+◌, inl, inr, true, false, cond, List, [], ◌∷◌, ◌++◌, length, Option, Some, None, refl, sym, ◌∙◌, ap, append_assoc, arith, length-append}
+use Rattle.std.specs.Prelude.{not, MatchOption, is_some}
 use Rattle.std.specs.Bool.{OnTrue, OnFalse}
 use Rattle.std.proofs.lemmas.List.Elements.{filter-append}
 use Rattle.plant_config.specs.Plant.{PlantData}
 use Rattle.record_replay.specs.declared.line.Line as code
 use Rattle.record_replay.specs.declared.line.Line.TheVariants as found
-use Rattle.record_replay.specs.Script.{Work, Read, Leave, Show, space, longest_line, lines, is_skipped, worked, HexSpells, LineSpells, LinesSpell}
-use Rattle.record_replay.specs.LineInside.{IsBad, IsFound, IsFormed, IsCut, SpellsPanel}
-use Rattle.record_replay.proofs.LineSpellsLemmas.{turn_spells}
+use Rattle.record_replay.specs.Script.{Work, Read, Leave, Show, lines, is_skipped, worked, LineSpells, LinesSpell, IsFirstBad}
+use Rattle.record_replay.specs.LineInside.{IsBad, IsFound, IsFormed}
+use Rattle.record_replay.specs.FirstInside.{BeginsBad}
 
 pub LinesSpell-append : (plant : PlantData) (before after : List (List ℕ)) (works more : List Work) → LinesSpell plant before works → LinesSpell plant after more → LinesSpell plant (before ++ after) (works ++ more)
 LinesSpell-append plant [] after [] more spelled behind = behind
@@ -68,25 +68,19 @@ pub not_formed : (plant : PlantData) (line bytes : List ℕ) (read : Option code
 not_formed plant line bytes (Some what) is = tt
 not_formed plant line bytes None is = is
 
--- a turn whose digits spell bytes
-pub turn-formed : (plant : PlantData) (line behind digits hex : List ℕ) (panel : ℕ) (has : Bool) → length line ≤ longest_line → line ≡ codes "> " ++ behind → IsCut space behind digits hex
-    → SpellsPanel plant digits panel → OnTrue has ((bytes : List ℕ) × HexSpells hex bytes × (1 ≤ length bytes)) → OnTrue has (IsFormed plant line)
-turn-formed plant line behind digits hex panel false within front cut spells some = tt
-turn-formed plant line behind digits hex panel true within front cut spells some = inr (
-  Read panel some.0,
-  (
-    ap is_skipped front,
-    turn_spells plant line behind panel some.0 within front (record {
-      digits = digits;
-      hex = hex;
-      place = cut.place;
-      number = spells.0;
-      has_panel = spells.1;
-      spelled = some.1;
-      some = some.2;
-    }),
-  ),
-)
+-- the next line has none
+pub so_far-bad : (plant : PlantData) (script rest : List ℕ) (number : ℕ) → SoFar plant script rest number → BeginsBad plant rest → IsFirstBad plant script (number + 1)
+so_far-bad plant script rest number so_far bad = record {
+  before = so_far.before;
+  works = so_far.works;
+  spelled = so_far.spelled;
+  line = bad.0;
+  after = lines bad.1;
+  place = so_far.place ∙ ap (λ (ls : List (List ℕ)). so_far.before ++ ls) bad.2.lines_are;
+  not_skipped = bad.3.0;
+  refused = bad.3.1;
+  counted = omega (arith, so_far.counted);
+}
 
 -- no line is before the first
 pub so_far-nothing : (plant : PlantData) (script : List ℕ) → SoFar plant script script 0

@@ -4,7 +4,8 @@ use Rattle.std.proofs.lemmas.List.{append-nil}
 use Rattle.plant_config.specs.Plant.{PlantData}
 use Rattle.record_replay.specs.declared.stage.Stage.{Stage}
 use Rattle.record_replay.specs.LineInside.{IsBad}
-use Rattle.record_replay.specs.Script.{Work, is_skipped, worked, LineSpells, LinesSpell}
+use Rattle.record_replay.specs.FirstInside.{IsFirst, BeginsWithTurn}
+use Rattle.record_replay.specs.Script.{Work, Read, is_skipped, worked, LineSpells, LinesSpell}
 use Rattle.record_replay.specs.Replay.{Stand, AllWork}
 use Rattle.record_replay.specs.StageInside.{StandsAt, MayDo, HasDone, HasDoneLine, DoesWork, DoesLine, need_of}
 use Rattle.record_replay.proofs.LineSpellsLemmas.{one_work}
@@ -89,3 +90,17 @@ does_line plant line work before after IsPut unskipped spells does stand used wo
 pub does_nothing : (plant : PlantData) (line : List ℕ) (stage : Stage) (IsPut : List ℕ → Type 0) → is_skipped line ≡ true → IsPut [] → DoesLine plant line stage stage IsPut
 does_nothing plant line stage IsPut skipped put stand used works stands within spelled =
     ([], put, line_skipped plant line works stand used stage (works_none plant line works skipped spelled) stands)
+
+-- The first line of a text is a turn with these bytes, which were lent. It may be done,
+pub first_may : (plant : PlantData) (stage : Stage) (text piece lent behind : List ℕ) (panel : ℕ) → BeginsWithTurn plant text panel piece behind → lent ≡ piece → MayDo (length text) plant stage
+    → MayDo (need_of (Read panel lent)) plant stage
+first_may plant stage text piece lent behind panel turn is may =
+    let work = subst (λ (piece : List ℕ). LineSpells plant turn.0 (Read panel piece)) (sym is) turn.2.1 in
+    may_less (need_of (Read panel lent)) (length text) plant stage (omega (arith, turn.1.within, need_within plant turn.0 (Read panel lent) work)) may
+
+-- and once it was, the line's work is done.
+pub first_done : (plant : PlantData) (text piece lent behind : List ℕ) (panel : ℕ) (before after : Stage) (IsPut : List ℕ → Type 0) → BeginsWithTurn plant text panel piece behind → lent ≡ piece
+    → DoesWork plant (Read panel lent) before after IsPut → (line : List ℕ) × IsFirst text line behind × DoesLine plant line before after IsPut
+first_done plant text piece lent behind panel before after IsPut turn is does =
+    let work = subst (λ (piece : List ℕ). LineSpells plant turn.0 (Read panel piece)) (sym is) turn.2.1 in
+    (turn.0, turn.1, does_line plant turn.0 (Read panel lent) before after IsPut turn.2.0 work does)

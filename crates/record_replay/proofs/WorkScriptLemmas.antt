@@ -56,14 +56,15 @@ begins plant script stage IsPut put stand used works stands within spelled = rec
   within = omega arith;
 }
 
--- The next line may be done.
-pub line_may : (plant : PlantData) (works : List Work) (stand : Stand) (all : ℕ) (rest line after : List ℕ) (now : Stage) (IsPut : List ℕ → Type 0) → all < 2 ^ 63 → length line + length after ≤ length rest
-    → IsOnTheWay plant works stand all rest now IsPut → MayDo (length line) plant now
-line_may plant works stand all rest line after now IsPut small shorter way = record { stand = way.next; used = way.used; stands = way.stands; within = omega (arith, way.within, small, shorter) }
+-- The lines that are left may be done.
+pub rest_may : (plant : PlantData) (works : List Work) (stand : Stand) (all : ℕ) (rest : List ℕ) (now : Stage) (IsPut : List ℕ → Type 0) → all < 2 ^ 63
+    → IsOnTheWay plant works stand all rest now IsPut → MayDo (length rest) plant now
+rest_may plant works stand all rest now IsPut small way = record { stand = way.next; used = way.used; stands = way.stands; within = omega (arith, way.within, small) }
 
-pub line_spelled : (plant : PlantData) (works : List Work) (stand : Stand) (all : ℕ) (rest line after : List ℕ) (now : Stage) (IsPut : List ℕ → Type 0) → lines rest ≡ line ∷ lines after
-    → IsOnTheWay plant works stand all rest now IsPut → (works : List Work) × LinesSpell plant (worked (line ∷ [])) works
-line_spelled plant works stand all rest line after now IsPut is way = let parts = first_line plant rest line after way.left is way.spelled in (parts.done, parts.front_spelled)
+-- The first line spells works, if all do.
+pub first_spelled : (plant : PlantData) (text line behind : List ℕ) → lines text ≡ line ∷ lines behind → (works : List Work) × LinesSpell plant (worked (lines text)) works
+    → (works : List Work) × LinesSpell plant (worked (line ∷ [])) works
+first_spelled plant text line behind is spelled = let parts = first_line plant text line behind spelled.0 is spelled.1 in (parts.done, parts.front_spelled)
 
 -- A line more was done.
 pub goes_on : {K : Type 0} (written : K → Option (List ℕ)) (faults : K → ℕ) (plant : PlantData) (script rest line after : List ℕ) (before now then : Stage) (first mid last : Output K) → lines rest ≡ line ∷ lines after

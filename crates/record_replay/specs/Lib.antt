@@ -7,6 +7,8 @@ pub use Rattle.plant_config.specs.Bench
 pub mod Take
 pub mod Script
 pub mod LineInside
+pub mod FirstInside
+pub mod PairsInside
 pub mod Replay
 pub mod OutputInside
 pub mod OutputLaws

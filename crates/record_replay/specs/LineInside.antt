@@ -1,6 +1,6 @@
 -- What the code finds in a line.
-use Rattle.std.specs.Prelude.{◌≡◌, ◌⊎◌, ℕ, ◌<◌, ◌≤◌, ◌==◌, if◌then◌else◌, Bool, true, false, List, ◌∷◌, ◌++◌, length, Ok}
-use Rattle.hex.specs.Hex.{decode_of, is_hex_digit}
+use Rattle.std.specs.Prelude.{◌≡◌, ◌⊎◌, ℕ, ◌<◌, ◌≤◌, Bool, true, false, List, ◌∷◌, ◌++◌, length, Ok}
+use Rattle.hex.specs.Hex.{decode_of}
 use Rattle.plant_config.specs.Plant.{PlantData}
 use Rattle.change_boards.specs.Screens.{has_screen}
 use Rattle.record_replay.specs.declared.line.Line as code
@@ -122,7 +122,3 @@ IsNoShow plant line =
 -- A line is skipped, or spells a work.
 abbrev pub IsFormed : PlantData → List ℕ → Type 0
 IsFormed plant line = (is_skipped line ≡ true) ⊎ ((work : Work) × IsWork plant line work)
-
--- what a byte of hexadecimal weighs: a digit 1, a space nothing, and any other more than a line has digits
-abbrev pub weight_of : ℕ → ℕ
-weight_of byte = if byte == space then 0 else if is_hex_digit byte then 1 else 65537

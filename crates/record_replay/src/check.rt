@@ -1,15 +1,14 @@
 //! Whether each line of a script has a form.
 
-ghost use Rattle.std.specs.Prelude.{◌≡◌, MatchOption};
+ghost use Rattle.std.specs.Prelude.{◌≡◌, ◌<◌, length, MatchOption};
 ghost use Rattle.std.specs.Bool.{OnTrue, OnFalse};
 ghost use Rattle.record_replay.specs.Script.{IsFirstBad};
 ghost use Rattle.record_replay.specs.LineInside.{HasWorks, IsFormed, IsBad};
+ghost use Rattle.record_replay.specs.FirstInside.{BeginsFormed, BeginsBad};
 
 use crate::digits::Digits;
+use crate::first::take_turn;
 use crate::line::read_line;
-use crate::number::read_panel;
-use crate::script::{MAX_LINE, SPACE, split_at};
-use crate::weights::has_bytes;
 use line_text::split_line;
 use plant_config::Plant;
 use plant_names::Names;
@@ -29,43 +28,46 @@ pub(crate) fn check_lines(
     let mut number = 0;
     let mut rest = script;
     while !rest.is_empty() {
-        let (line, after) = split_line(rest);
         number += 1;
-        if !has_form(digits, plant, names, line) {
+        let Some(behind) = pass_line(digits, plant, names, rest) else {
             return Some(number);
-        }
-        rest = after;
+        };
+        rest = behind;
     }
     None
 }
 
-// Whether a line has a form. Most are turns with bytes, which aren't made here.
+// What is behind the first line of a text, `None` where that line has no form.
+#[inline]
+fn pass_line<'s>(
+    digits: &mut Digits,
+    plant: &Plant,
+    names: &Names,
+    text: &'s [u8],
+) -> Option<&'s [u8]>
+    requires names { names.now ≡ plant.now }
+    requires some { 0 < length text.now }
+    ensures { MatchOption result
+        (BeginsBad plant.now text.now)
+        (λ behind. BeginsFormed plant.now text.now behind.now) }
+{
+    if let Some((_, behind)) = take_turn(digits, plant, text) {
+        return Some(behind);
+    }
+    let (line, behind) = split_line(text);
+    if has_form(digits, plant, names, line) {
+        Some(behind)
+    } else {
+        None
+    }
+}
+
+// Whether a line has a form. Out of line, so that the loop over most lines is short.
+#[inline(never)]
 fn has_form(digits: &mut Digits, plant: &Plant, names: &Names, line: &[u8]) -> bool
     requires { names.now ≡ plant.now }
     ensures formed { OnTrue result (IsFormed plant.now line.now) }
     ensures bad { OnFalse result (IsBad plant.now line.now) }
 {
-    if is_turn(plant, line) {
-        return true;
-    }
     read_line(digits, plant, names, line).is_some()
-}
-
-// Whether a line surely is a turn with bytes: its digits are counted.
-fn is_turn(plant: &Plant, line: &[u8]) -> bool
-    ensures { OnTrue result (IsFormed plant.now line.now) }
-{
-    if line.len() > MAX_LINE {
-        return false;
-    }
-    let Some(behind) = line.strip_prefix(b"> ") else {
-        return false;
-    };
-    let Some((number, hex)) = split_at(SPACE, behind) else {
-        return false;
-    };
-    let Some(_panel) = read_panel(plant, number) else {
-        return false;
-    };
-    has_bytes(hex)
 }

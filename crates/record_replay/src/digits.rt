@@ -8,7 +8,9 @@ ghost use Rattle.swp08_messages.specs.Text.{InRange};
 ghost use Rattle.record_replay.specs.Take.{message_frame};
 ghost use Rattle.record_replay.specs.Script.{HexSpells, longest_line, space};
 ghost use Rattle.record_replay.specs.LineInside.{IsNoHex};
+ghost use Rattle.record_replay.specs.PairsInside.{most_pairs};
 
+use crate::pairs::read_pairs;
 use crate::script::{MAX_LINE, SPACE};
 use dle_framing::{MAX_FRAME, encode_frame};
 use std::alloc::{AllocError, Global};
@@ -125,7 +127,19 @@ impl Digits {
         self.read_spaced(hex)
     }
 
-    // The same, by the text without its spaces. Out of line, so that `read` is short.
+    // Takes the bytes of the pairs of digits at the front of a text, at most so many, and answers how many these are.
+    #[inline(always)]
+    pub(crate) fn read_pairs(&mut self, text: &[u8]) -> usize
+        requires { 2 * most_pairs ≤ length text.now }
+        ensures read { decode_of (take (2 * result) text.now) ≡ Ok self.new }
+        ensures most { result ≤ most_pairs }
+    {
+        let count = read_pairs(text, self.room.as_mut_slice());
+        self.used = count;
+        count
+    }
+
+    // `read` by the text without its spaces. Out of line, so that `read` is short.
     #[inline(never)]
     fn read_spaced(&mut self, hex: &[u8]) -> bool
         requires { length hex.now ≤ longest_line }

@@ -6,17 +6,18 @@
 mod check;
 mod digits;
 mod drain;
+mod first;
 mod laws;
 mod line;
 mod number;
 mod output;
+mod pairs;
 mod replay;
 mod room;
 mod script;
 mod show;
 mod stage;
 mod take;
-mod weights;
 
 pub use laws::{lines_answer_items, no_tie_carries_two_sources, one_history, one_item, one_replay};
 pub use replay::{ReplayFault, replay_script};

@@ -125,20 +125,33 @@ impl<'k, K: Drain> Output<'k, K> {
         ensures puts { Puts K.written K.faults (turn_head panel) self.old self.new }
         ensures none { self.new.some ≡ false }
     {
-        self.put(b"< ");
-        self.put_number(panel.get());
-        self.put(b" ");
+        self.put_head(panel.get());
         self.some = false;
+    }
+
+    // Puts how the line of a turn begins. Where the number has one digit, one test for room serves it all.
+    #[inline]
+    fn put_head(&mut self, number: u32)
+        ensures { Puts K.written K.faults (turn_head number) self.old self.new }
+    {
+        if number < 10 {
+            self.put(&[b'<', b' ', b'0' + number as u8, b' ']);
+        } else {
+            self.put(b"< ");
+            self.put_number(number);
+            self.put(b" ");
+        }
     }
 
     // Ends the line of a turn.
     pub(crate) fn end_turn(&mut self)
         ensures { Puts K.written K.faults (turn_end self.old.some) self.old self.new }
     {
-        if !self.some {
-            self.put(b"-");
+        if self.some {
+            self.put(b"\n");
+        } else {
+            self.put(b"-\n");
         }
-        self.put(b"\n");
     }
 
     // Puts the line of a panel that leaves.

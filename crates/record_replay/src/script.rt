@@ -7,6 +7,9 @@ ghost use Rattle.record_replay.specs.LineInside.{IsCut};
 // May stand anywhere in hexadecimal.
 pub(crate) const SPACE: u8 = b' ';
 
+// Ends a line.
+pub(crate) const LF: u8 = b'\n';
+
 // Stands before each name of a take.
 pub(crate) const TAB: u8 = b'\t';
 

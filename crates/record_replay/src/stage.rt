@@ -10,6 +10,7 @@ ghost use Rattle.record_replay.specs.StageInside.{AreNew};
 
 use crate::digits::Digits;
 use crate::drain::Drain;
+use crate::first::take_turn;
 use crate::line::{Line, read_line};
 use crate::output::Output;
 use crate::show::{PacketRoom, put_show_line};
@@ -34,6 +35,7 @@ pub(crate) struct Stage<'p> {
 
 impl<'p> Stage<'p> {
     ghost use Rattle.record_replay.specs.LineInside.{IsFound};
+    ghost use Rattle.record_replay.specs.FirstInside.{IsFirst};
     ghost use Rattle.record_replay.specs.StageInside.{StandsAt, MayDo, DoesWork, DoesLine};
     ghost use Rattle.record_replay.specs.StageInside.{DoesScript, need_of};
 
@@ -73,10 +75,35 @@ impl<'p> Stage<'p> {
     {
         let mut rest = script;
         while !rest.is_empty() && !out.failed() {
-            let (line, after) = split_line(rest);
-            self.work_line(line, names, digits, out);
-            rest = after;
+            rest = self.work_first(rest, names, digits, out);
         }
+    }
+
+    // Does the work of the first line of a text, and answers what is behind it.
+    #[inline]
+    fn work_first<'s, K: Drain>(
+        &mut self,
+        text: &'s [u8],
+        names: &Names,
+        digits: &mut Digits,
+        out: &mut Output<'_, K>,
+    ) -> &'s [u8]
+        requires some { 0 < length text.now }
+        requires names { names.now ≡ self.old.plant.now }
+        requires may { MayDo (length text.now) self.old.plant.now self.old }
+        requires spelled { (works : List Work)
+            × LinesSpell self.old.plant.now (worked (lines text.now)) works }
+        ensures { (line : List ℕ) × IsFirst text.now line result.now
+            × DoesLine self.old.plant.now line self.old self.new
+            (λ text. Puts K.written K.faults text out.old out.new) }
+    {
+        if let Some(turn) = take_turn(digits, self.plant, text) {
+            self.turn(turn.0, digits.bytes(), out);
+            return turn.1;
+        }
+        let (line, behind) = split_line(text);
+        self.work_line(line, names, digits, out);
+        behind
     }
 
     // Does the work of a line.

@@ -1,0 +1,21 @@
+use Rattle.std.proofs.Common.{length, arith}
+use Rattle.record_replay.proofs.WorkLineLemmas.{may_less, first_may, first_done}
+use Rattle.record_replay.proofs.WorkScriptLemmas.{first_spelled}
+use Rattle.record_replay.proofs.stage.Stage.work_first.Goals as goal
+
+pub turn-requires-clause-panel : goal.turn-requires-clause-panel
+turn-requires-clause-panel g c = c.in-Some.ensures.2.1.of_plant
+
+pub turn-requires-clause-may : goal.turn-requires-clause-may
+turn-requires-clause-may g c = first_may c.args.self.now.plant.now c.args.self.now c.args.text.now _ c.bytes.result.now _ _ c.in-Some.ensures c.bytes.ensures c.requires.may
+
+pub returns-in-Some : goal.returns-in-Some
+returns-in-Some g c = first_done c.args.self.now.plant.now c.args.text.now _ c.bytes.result.now _ _ c.args.self.now c.turn.new.self _ c.in-Some.ensures c.bytes.ensures c.turn.ensures
+
+pub work_line-requires-clause-may : goal.work_line-requires-clause-may
+work_line-requires-clause-may g c =
+    may_less (length c.split_line.result.0.now) (length c.args.text.now) c.args.self.now.plant.now c.args.self.now (omega (arith, c.split_line.ensures.within)) c.requires.may
+
+pub work_line-requires-clause-spelled : goal.work_line-requires-clause-spelled
+work_line-requires-clause-spelled g c =
+    first_spelled c.args.self.now.plant.now c.args.text.now c.split_line.result.0.now c.split_line.result.1.now c.split_line.ensures.lines c.requires.spelled
