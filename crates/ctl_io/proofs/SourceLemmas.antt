@@ -1,8 +1,12 @@
 -- Bytes that are taken from a source piece by piece.
-use Rattle.std.proofs.Common.{◌≡◌, ℕ, ◌+◌, ◌≤◌, List, length, Option, Some, None, refl, sym, ◌∙◌, ap, arith}
+use Rattle.std.proofs.Common.{◌≡◌, ℕ, ◌+◌, ◌≤◌, List, ◌++◌, length, take, drop, Option, Some, None, refl, sym, ◌∙◌, ap, arith, length-take-le, take-append-drop}
 use Rattle.std.proofs.lemmas.List.{drop-drop, drop_at}
-use Rattle.ctl_io.specs.Source.{behind, TakesAtMost}
-use Rattle.ctl_io.specs.SourceInside.{Takes}
+use Rattle.std.specs.Option.{option_map}
+use Rattle.std.proofs.Math.Seq.{take-append-add}
+use Rattle.ctl_io.specs.Source.{got, behind, IsWithin, AreNext, TakesAtMost}
+use Rattle.ctl_io.specs.SourceInside.{Takes, TakesPiece}
+use Rattle.ctl_io.specs.declared.source.Read.{Read}
+use Rattle.ctl_io.specs.declared.source.Read.TheVariants.{Got, End, Failed}
 
 -- what is left is behind what was taken
 behind_taken : (taken : List ℕ) (before now : Option (List ℕ)) → Takes taken before now → now ≡ behind (length taken) before
@@ -25,3 +29,24 @@ takes_further most more taken before mid now first second few = record {
 -- bytes that were taken are at most as many
 pub takes_all : (most : ℕ) (taken : List ℕ) (before now : Option (List ℕ)) → Takes taken before now → length taken ≤ most → TakesAtMost most before now
 takes_all most taken before now is few = record { count = length taken; within = few; takes = behind_taken taken before now is }
+
+-- a read gives no more bytes than there is room for
+got_within : (read : Read) (room : ℕ) → IsWithin read room → got read ≤ room
+got_within (Got n) room within = within.1
+got_within End room within = omega arith
+got_within Failed room within = omega arith
+
+-- the next bytes were taken
+takes_next : (n : ℕ) (bytes : List ℕ) (before now : Option (List ℕ)) → AreNext n bytes before → now ≡ behind n before → Takes (take n bytes) before now
+takes_next n bytes None now next is = sym (ap (λ left. option_map (λ rest. take n bytes ++ rest) left) is)
+takes_next n bytes (Some all) now next is =
+    sym (ap (λ left. option_map (λ rest. take n bytes ++ rest) left) is ∙ ap (λ (xs : List ℕ). Some (xs ++ drop n all)) next ∙ ap (λ (xs : List ℕ). Some xs) (take-append-drop n all))
+
+-- a read into the room behind bytes that were read before
+pub reads_behind : (read : Read) (count : ℕ) (old front room : List ℕ) (before now : Option (List ℕ)) → front ≡ old → length front ≡ count → IsWithin read (length room) → AreNext (got read) room before → now ≡ behind (got read) before → TakesPiece (got read) old (take (count + got read) (front ++ room)) before now
+reads_behind read count old front room before now same long within next is = record {
+  piece = take (got read) room;
+  counted = length-take-le (got read) room (got_within read (length room) within);
+  appended = ap (λ n. take (n + got read) (front ++ room)) (sym long) ∙ take-append-add front room (got read) ∙ ap (λ (xs : List ℕ). xs ++ take (got read) room) same;
+  taken = takes_next (got read) room before now next is;
+}

@@ -26,6 +26,11 @@ pub trait Source {
     /// The name of the file that is read, where the source shows it.
     ghost name: { Self → Option (List ℕ) } = { λ _. None };
 
+    /// How many bytes are likely left, or 0 where the source doesn't know. It binds nobody: there may be fewer, or more.
+    fn left_hint(&self) -> usize {
+        0
+    }
+
     /// Reads the next bytes into the front of `into`, which isn't empty.
     fn read(&mut self, into: &mut [u8]) -> Read
         requires { 0 < length into.old }

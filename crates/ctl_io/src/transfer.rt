@@ -1,6 +1,7 @@
 //! Sinks written and sources read as a whole.
 
-ghost use Rattle.std.specs.Prelude.{◌≡◌, ◌+◌, ◌<◌, ◌≤◌, not, length, IfOk, OnOk, OnErr, IsErrOf};
+ghost use Rattle.std.specs.Prelude.{◌≡◌, ◌+◌, ◌-◌, ◌<◌, ◌≤◌, min, max, not, [], length, take};
+ghost use Rattle.std.specs.Prelude.{IfOk, OnOk, OnErr, IsErrOf, vec_capacity};
 ghost use Rattle.std.specs.Bool.{OnFalse, OnTrue};
 ghost use Rattle.ctl_io.specs.Faults.{counted};
 ghost use Rattle.ctl_io.specs.Sink.{appended, AppendsPart};
@@ -50,8 +51,12 @@ impl From<AllocError> for WholeFault {
     }
 }
 
-// The most bytes that one read of `read_whole` asks for.
-const PIECE: usize = 4096;
+// The most bytes that one read of `read_whole` asks for, and by how many its room grows where more come than the source
+// said. So little room stays empty, and where a large block grows the system moves its pages and copies no byte.
+const STEP: usize = 64 << 10;
+
+// The most zeros that one call writes. The C library writes so few by vectors, and more by an instruction a byte.
+const ZEROS: usize = 2 << 10;
 
 /// All the bytes that the source has left, where these are at most `limit`. Only where it answers `TooLong` it has taken
 /// more than that, and then just one byte more.
@@ -70,12 +75,15 @@ pub fn read_whole<S: Source>(
     ensures name { S.name source.new ≡ S.name source.old }
     ensures count { S.faults source.new ≡ counted (whole_failed result) (S.faults source.old) }
 {
-    let mut whole = Vec::new(alloc);
-    while whole.len() < limit {
-        let most = limit - whole.len();
-        match read_piece(source, &mut whole, most)? {
-            Read::Got(_) => {}
-            Read::End => return Ok(whole),
+    let mut whole = first_room(alloc, source.left_hint(), limit)?;
+    let mut count = 0;
+    while count < limit {
+        match read_piece(source, &mut whole, count, limit)? {
+            Read::Got(n) => count += n,
+            Read::End => {
+                whole.truncate(count);
+                return Ok(whole);
+            }
             Read::Failed => return Err(WholeFault::Failed),
         }
     }
@@ -87,29 +95,76 @@ pub fn read_whole<S: Source>(
     }
 }
 
-// Reads the next bytes, at most so many, to the end of the bytes that were read before. Their room is made first, so
-// that no byte is lost where there is no memory.
+// No bytes, with room for as many as the source likely has and for one more, which shows its end.
+fn first_room(alloc: Global, likely: usize, limit: usize) -> Result<Vec<u8>, AllocError>
+    ensures empty { IfOk result (λ whole. whole.items ≡ []) }
+    ensures known { IfOk result (λ whole.
+        0 < likely → vec_capacity whole ≡ min limit (likely + 1)) }
+    ensures unknown { IfOk result (λ whole.
+        likely ≡ 0 → vec_capacity whole ≡ min limit STEP) }
+{
+    let room = match likely {
+        0 => STEP,
+        likely => likely.saturating_add(1),
+    };
+    Vec::with_capacity(alloc, room.min(limit))
+}
+
+// Reads the next bytes to behind the first `count`, which were read before. Their room is made first, so that no byte
+// is lost where there is no memory.
 fn read_piece<S: Source>(
     source: &mut S,
     whole: &mut Vec<u8>,
-    most: usize,
+    count: usize,
+    limit: usize,
 ) -> Result<Read, AllocError>
-    requires { 0 < most }
-    ensures within { IfOk result (λ read. IsWithin read most) }
-    ensures piece { IfOk result (λ read. TakesPiece
-        (got read) whole.old.items whole.new.items (S.left source.old) (S.left source.new)) }
+    requires read { count ≤ length whole.old.items }
+    requires wanted { count < limit }
+    requires fits { length whole.old.items ≤ limit }
+    ensures fits { length whole.new.items ≤ limit }
+    ensures within { IfOk result (λ read. IsWithin read (length whole.new.items - count)) }
+    ensures piece { IfOk result (λ read. TakesPiece (got read) (take count whole.old.items)
+        (take (count + got read) whole.new.items) (S.left source.old) (S.left source.new)) }
     ensures end { IfOk result (λ read. read ≡ Read.End → IsAtEnd (S.left source.new)) }
     ensures no_memory { OnErr result (source.new ≡ source.old) }
     ensures name { S.name source.new ≡ S.name source.old }
     ensures count { IfOk result (λ read.
         S.faults source.new ≡ counted (read_failed read) (S.faults source.old)) }
 {
-    let mut buffer = [0; PIECE];
-    let into = &mut buffer[..most.min(PIECE)];
-    whole.reserve(into.len())?;
-    let read = source.read(into);
-    if let Read::Got(n) = read {
-        whole.extend_from_slice(&into[..n]).unwrap();
+    widen(whole, count, limit)?;
+    Ok(source.read(whole.slice_mut(count..)))
+}
+
+// Makes the bytes longer than the first `count`, by zeros for a read to write over, a step at a time and up to the
+// limit. Zeros that no read has written over are used first.
+fn widen(whole: &mut Vec<u8>, count: usize, limit: usize) -> Result<(), AllocError>
+    requires read { count ≤ length whole.old.items }
+    requires wanted { count < limit }
+    requires fits { length whole.old.items ≤ limit }
+    ensures front { take count whole.new.items ≡ take count whole.old.items }
+    ensures longer { OnOk result (count < length whole.new.items) }
+    ensures fits { length whole.new.items ≤ limit }
+{
+    let len = whole.len();
+    if count < len {
+        return Ok(());
     }
-    Ok(read)
+    if len == whole.capacity() {
+        whole.reserve_exact(STEP.min(limit - len))?;
+    }
+    let room = whole.capacity().min(limit) - len;
+    lengthen(whole, len + room.min(STEP));
+    Ok(())
+}
+
+// Makes the bytes as long as `len`, by zeros, in the room that is there.
+fn lengthen(whole: &mut Vec<u8>, len: usize)
+    requires { len ≤ vec_capacity whole.old }
+    ensures front { take (length whole.old.items) whole.new.items ≡ whole.old.items }
+    ensures length { length whole.new.items ≡ max len (length whole.old.items) }
+{
+    while whole.len() < len {
+        let next = len.min(whole.len() + ZEROS);
+        whole.resize(next, 0).unwrap();
+    }
 }

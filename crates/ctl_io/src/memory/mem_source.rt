@@ -81,6 +81,10 @@ impl Source for MemSource {
 
     ghost faults = { λ s. s.calls.faults };
 
+    fn left_hint(&self) -> usize {
+        self.left().len()
+    }
+
     fn read(&mut self, into: &mut [u8]) -> Read {
         self.give(into)
     }

@@ -27,6 +27,10 @@ impl Source for NamedSource {
 
     ghost name = { λ entry. Some entry.name };
 
+    fn left_hint(&self) -> usize {
+        self.source.left().len()
+    }
+
     fn read(&mut self, into: &mut [u8]) -> Read {
         self.source.give(into)
     }

@@ -1,6 +1,6 @@
 //! The adapter over a reader.
 
-ghost use Rattle.std.specs.Prelude.{◌≡◌, ◌<◌, None, length, take};
+ghost use Rattle.std.specs.Prelude.{◌≡◌, ◌-◌, ◌<◌, None, length, take};
 
 use crate::system::answers::read_answer;
 use crate::system::attempts::read_again;
@@ -11,6 +11,8 @@ use std::io;
 #[derive(Drop)]
 pub struct FileSource<F> {
     file: F,
+    // So many bytes are likely left.
+    hint: usize,
     faults: FaultCount,
 }
 
@@ -24,8 +26,18 @@ impl<F: io::Read> FileSource<F> {
         ensures file { result.file ≡ file }
         ensures faults { ⟦<FileSource<F> as Source>⟧.faults result ≡ 0 }
     {
+        FileSource::with_hint(file, 0)
+    }
+
+    /// A source that begins where the reader is, which likely gives so many bytes.
+    pub(crate) fn with_hint(file: F, hint: usize) -> FileSource<F>
+        ensures file { result.file ≡ file }
+        ensures hint { result.hint ≡ hint }
+        ensures faults { result.faults ≡ 0 }
+    {
         FileSource {
             file,
+            hint,
             faults: FaultCount::new(),
         }
     }
@@ -38,9 +50,14 @@ impl<F: io::Read> FileSource<F> {
         ensures gave { Consumes (F.remaining self.old.file) (F.remaining self.new.file)
             (take (got result) into.new) }
         ensures ended { result ≡ Read.End → IsAtEnd (F.remaining self.new.file) }
+        ensures hint { self.new.hint ≡ self.old.hint - got result }
         ensures count { self.new.faults ≡ counted (read_failed result) self.old.faults }
     {
-        read_answer(read_again(&mut self.file, into), &mut self.faults)
+        let read = read_answer(read_again(&mut self.file, into), &mut self.faults);
+        if let Read::Got(n) = read {
+            self.hint = self.hint.saturating_sub(n);
+        }
+        read
     }
 
     /// How often a read failed. The count stands still at its type's end.
@@ -59,6 +76,10 @@ impl<F: io::Read> Source for FileSource<F> {
     ghost left = { λ _. None };
 
     ghost faults = { λ s. s.faults };
+
+    fn left_hint(&self) -> usize {
+        self.hint
+    }
 
     // The source shows nothing, so the trait's clauses of what is left hold; these say the same of what the reader shows.
     fn read(&mut self, into: &mut [u8]) -> Read

@@ -66,7 +66,8 @@ where
         match found_answer(opened, &mut self.faults) {
             Found::Here(file) => {
                 self.sources_out += 1;
-                Found::Here(FileSource::new(file))
+                let hint = length_of(&file);
+                Found::Here(FileSource::with_hint(file, hint))
             }
             Found::Missing => Found::Missing,
             Found::Failed => Found::Failed,
@@ -100,5 +101,13 @@ where
         if sink.faults() > 0 {
             self.faults.raise();
         }
+    }
+}
+
+// How many bytes the file has, or 0 where the system doesn't say. That is no fault, since nothing rests on it.
+fn length_of<F: fs::OpenFile>(file: &F) -> usize {
+    match file.metadata() {
+        Ok(metadata) => metadata.len() as usize,
+        Err(_) => 0,
     }
 }

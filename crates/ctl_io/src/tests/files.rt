@@ -5,8 +5,8 @@ ghost use Rattle.ctl_io.specs.Memory.{IsNewSource, IsNewSink};
 
 use crate::tests::{sink, source};
 use crate::{
-    Bytes, FileFault, Files, Made, MemFiles, NamedSink, NamedSource, StdFiles, StdOut, read_file,
-    write_all,
+    Bytes, FileFault, Files, Found, Made, MemFiles, NamedSink, NamedSource, Read, Source, StdFiles,
+    StdOut, read_file, write_all,
 };
 use std::alloc::{AllocError, Global};
 use std::fs;
@@ -104,6 +104,18 @@ fn real_files_are_written_and_read(rt: HostRuntime) -> Result<(), Fail> {
     for (name, all) in [("missing/text", false), ("text", true)] {
         assert_eq!(rt; write_text(name, &mut files), all);
     }
+    // What a source says that it has left, before two bytes are read and after.
+    let hints = match files.source("text") {
+        Found::Here(mut source) => {
+            let before = source.left_hint();
+            let _ = source.read(&mut [0; 2]);
+            let after = source.left_hint();
+            files.close_source(source);
+            Some((before, after))
+        }
+        Found::Missing | Found::Failed => None,
+    };
+    assert_eq!(rt; hints, Some((3, 1)));
     let whole = read_file(alloc, &mut files, "text", 3).ok();
     assert_eq!(rt;
         whole.as_ref().map(|whole| whole.as_slice()),

@@ -3,7 +3,7 @@
 ghost use Rattle.std.specs.Prelude.{Some};
 
 use crate::tests::{sink, source};
-use crate::{MemSink, Sink, WholeFault, Write, read_whole, write_all};
+use crate::{MemSink, MemSource, Read, Sink, Source, WholeFault, Write, read_whole, write_all};
 use std::alloc::Global;
 use std::test::Fail;
 
@@ -29,10 +29,59 @@ fn a_source_is_read_whole(rt: HostRuntime) -> Result<(), Fail> {
         (9000, 9, 9000, Ok(9000), 0),
         (9001, 9, 9000, Err(WholeFault::TooLong), 0),
         (9003, 9, 9000, Err(WholeFault::TooLong), 2),
-        (9000, 2, 9000, Err(WholeFault::Failed), 808),
+        (9000, 1, 9000, Err(WholeFault::Failed), 0),
+        (70_000, 1, usize::MAX, Err(WholeFault::Failed), 4464),
     ];
     for (count, failing, limit, answer, left) in rows {
         assert_eq!(rt; read(rt.alloc(), count, failing, limit)?, (answer, left));
+    }
+    Ok(())
+}
+
+// Says that it has so many bytes left, whatever it has.
+#[derive(Drop)]
+struct Mistaken {
+    source: MemSource,
+    hint: usize,
+}
+
+impl Source for Mistaken {
+    ghost left = { λ s. Some s.source.left };
+
+    ghost faults = { λ s. s.source.calls.faults };
+
+    fn left_hint(&self) -> usize {
+        self.hint
+    }
+
+    fn read(&mut self, into: &mut [u8]) -> Read {
+        self.source.read(into)
+    }
+}
+
+#[test]
+fn a_source_is_read_whole_whatever_it_says(rt: HostRuntime) -> Result<(), Fail> {
+    let alloc = rt.alloc();
+    // How many bytes there are, and how many the source says.
+    let rows = [
+        (0, 0),
+        (0, 5),
+        (3, 0),
+        (3, 2),
+        (3, 200_000),
+        (65_536, 0),
+        (65_537, 0),
+        (200_000, 3),
+        (200_000, 199_999),
+    ];
+    for (count, hint) in rows {
+        let mut source = Mistaken {
+            source: source(alloc, count, 9)?,
+            hint,
+        };
+        let whole = read_whole(alloc, &mut source, 200_000);
+        assert_eq!(rt; whole.map(|whole| whole.len()), Ok(count));
+        assert_eq!(rt; source.source.faults(), 0);
     }
     Ok(())
 }
