@@ -1,9 +1,10 @@
 -- A frame spells one body, a good body is that of some DATA, and how long a frame is.
-use Rattle.std.proofs.Common.{◌≡◌, ℕ, zero, suc, ◌+◌, ◌-◌, ◌%◌, ◌≤◌, ◌<◌, ◌==◌, nat_eq, true, false, ⊎_elim, List, [], ◌∷◌, ◌++◌, length, take, drop, sum, count_by, replicate, get_or, refl, sym, ap, ◌∙◌, subst, zero-add, arith}
+use Rattle.std.proofs.Common.{◌≡◌, ℕ, zero, suc, ◌+◌, ◌-◌, ◌%◌, ◌≤◌, ◌<◌, ◌==◌, nat_eq, true, false, cond, ⊎_elim, List, [], ◌∷◌, ◌++◌, length, take, drop, sum, count_by, replicate, get_or, refl, sym, ap, ◌∙◌, subst, zero-add, arith}
 use Rattle.std.proofs.lemmas.Bool.{cond-false, cases_lt, and_parts, and_from, leb-true, le-leb, eqb-true, eq-eqb}
+use Rattle.std.proofs.lemmas.Grind.{common_steps}
 use Rattle.std.proofs.lemmas.List.{length_push, length-append, take-append-drop, length-take-le, take_all, take_at, take_more, take-append-le, get_or_at, get_or_append_left, same_from_push}
 use Rattle.std.proofs.lemmas.List.Concat.{flat_map-append}
-use Rattle.std.proofs.lemmas.List.Sums.{sum_by_push, sum_by-cons, sum_by-append, count_by-le-length}
+use Rattle.std.proofs.lemmas.List.Sums.{sum_by_push, sum_by-cons, sum_by-append, get_or-le-sum_by, count_by-le-length}
 use Rattle.dle_framing.specs.Frame.{IsData, doubled, check_byte, counted, body, enclosed, frame}
 use Rattle.dle_framing.specs.Items.{Run, longest_run, is_good}
 use Rattle.dle_framing.specs.Numbers.{dle, stx, etx, most_data, least_body, most_body, most_frame}
@@ -104,6 +105,15 @@ pub run-enclosed : (text inner : List ℕ) → text ≡ dle ∷ stx ∷ inner �
 run-enclosed text inner starts ends =
     starts ∙ ap (λ (text : List ℕ). dle ∷ stx ∷ text) (sym (doubled-longest_run inner) ∙ ap (λ (behind : List ℕ). doubled (longest_run inner).spelled ++ behind) ends)
 
+-- the frame of a body that is its own spelling
+pub frame-single : (bytes spelled : List ℕ) → body bytes ≡ spelled → doubled spelled ≡ spelled → (dle ∷ stx ∷ []) ++ spelled ++ (dle ∷ etx ∷ []) ≡ frame bytes
+frame-single bytes spelled is single = ap (λ (inner : List ℕ). (dle ∷ stx ∷ []) ++ inner ++ (dle ∷ etx ∷ [])) (sym single ∙ ap doubled (sym is))
+
+-- five bytes and two, one by one
+pub five-two : (bytes ending : List ℕ) → length bytes ≡ 5 → length ending ≡ 2
+    → bytes ++ ending ≡ get_or bytes 0 0 ∷ get_or bytes 1 0 ∷ get_or bytes 2 0 ∷ get_or bytes 3 0 ∷ get_or bytes 4 0 ∷ get_or ending 0 0 ∷ get_or ending 1 0 ∷ []
+five-two bytes ending five two = grind (arith, common_steps)
+
 -- the bytes of a body are among those of the text that spells it
 small-doubled : (bytes tail : List ℕ) → ((i : ℕ) → get_or (doubled bytes ++ tail) i 0 < 256) → (i : ℕ) → get_or bytes i 0 < 256
 small-doubled [] tail = λ small i. omega arith
@@ -138,6 +148,12 @@ length-doubled (a ∷ bytes) =
     at_byte dle (λ a. length (doubled (a ∷ bytes)) ≡ length {A = ℕ} (a ∷ bytes) + dles (a ∷ bytes)) a
     (omega (arith, length-doubled bytes, dles-dle bytes))
     (λ other. omega (arith, ap (length {A = ℕ}) (doubled-byte a bytes other), length-doubled bytes, dles-other a bytes other))
+
+-- bytes that have a DLE aren't their own spelling
+pub not-single : (bytes : List ℕ) (i : ℕ) → i < length bytes → get_or bytes i 0 ≡ dle → doubled bytes ≡ bytes → ⊥
+not-single bytes i within is same =
+    let one : 1 ≤ dles bytes = rw is at (get_or-le-sum_by (λ byte. cond (nat_eq byte dle) 1 0) bytes i 0 within) in
+    omega (arith, length-doubled bytes, ap (length {A = ℕ}) same)
 
 -- the end of a body has at most two DLE
 dles-body : (bytes : List ℕ) → dles (body bytes) ≡ dles bytes + dles (length bytes ∷ []) + dles (check_byte (counted bytes) ∷ [])

@@ -1,6 +1,6 @@
 //! The body of a frame: the two bytes behind its DATA, and whether it is good.
 ghost use Rattle.std.specs.Prelude.{◌≡◌, ◌%◌, ◌++◌, sum, IsTrue};
-ghost use Rattle.std.specs.Bool.{OnTrue};
+ghost use Rattle.std.specs.Bool.{OnTrue, OnFalse};
 ghost use Rattle.dle_framing.specs.Frame.{IsData, body, doubled};
 ghost use Rattle.dle_framing.specs.Items.{is_good};
 
@@ -41,8 +41,9 @@ pub(crate) fn is_whole(body: &[u8]) -> bool
 
 // Whether no byte is DLE, so that the bytes are their own spelling.
 #[inline(always)]
-fn is_single(bytes: &[u8]) -> bool
-    ensures { OnTrue result (doubled bytes.now ≡ bytes.now) }
+pub(crate) fn is_single(bytes: &[u8]) -> bool
+    ensures single { OnTrue result (doubled bytes.now ≡ bytes.now) }
+    ensures other { OnFalse result (doubled bytes.now ≡ bytes.now → ⊥) }
 {
     for byte in bytes {
         if *byte == DLE {

@@ -10,6 +10,16 @@ use std::test::Fail;
 const FRAMES: &[(&[u8], &[u8])] = &[
     (INTERROGATE, INTERROGATE_DATA),
     (CONNECT, CONNECT_DATA),
+    // Five bytes of DATA, and no DLE.
+    (
+        b"\x10\x02\x02\x00\x00\x05\x03\x05\xF1\x10\x03",
+        b"\x02\x00\x00\x05\x03",
+    ),
+    // Their check byte is a DLE.
+    (
+        b"\x10\x02\x02\x00\x00\x05\xE4\x05\x10\x10\x10\x03",
+        b"\x02\x00\x00\x05\xE4",
+    ),
     // The fewest DATA.
     (b"\x10\x02\x01\x01\xFE\x10\x03", b"\x01"),
     // A check byte that is a DLE.
