@@ -53,6 +53,7 @@ impl Notices {
     }
 
     /// Takes a panel's lowest notice: that of the lowest destination, and for one destination the source notice first.
+    #[inline(always)]
     pub fn take_lowest(&mut self, panel: PanelNo) -> Option<(DestId, Sort)>
         requires { panel < length self.old }
         ensures next { result ≡ next (board_of self.old panel) }

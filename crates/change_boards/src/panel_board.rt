@@ -92,6 +92,7 @@ impl PanelBoard {
     }
 
     /// The notice that is next.
+    #[inline(always)]
     fn next(&self) -> Option<(DestId, Sort)>
         ensures next { result ≡ next self.now }
         ensures below { IfSome result (λ notice. notice.0 < MAX_DESTINATIONS) }
@@ -111,6 +112,7 @@ impl PanelBoard {
     }
 
     /// Takes the notice that is next.
+    #[inline(always)]
     pub(crate) fn take_lowest(&mut self) -> Option<(DestId, Sort)>
         ensures next { result ≡ next self.old }
         ensures taken { self.new ≡ taken self.old }

@@ -75,6 +75,7 @@ impl NumberSet {
     }
 
     /// Takes a number, 0 to 65,535, away.
+    #[inline]
     pub fn remove(&mut self, number: u32)
         requires { number < number_limit }
         ensures { self.new ≡ remove self.old number }
@@ -89,6 +90,7 @@ impl NumberSet {
     }
 
     /// The lowest member, `None` where there is none.
+    #[inline]
     pub fn lowest(&self) -> Option<u32>
         ensures lowest { result ≡ lowest self.now }
         ensures below { IfSome result (λ number. number < number_limit) }
@@ -102,6 +104,7 @@ impl NumberSet {
     }
 
     /// Whether there are no members.
+    #[inline]
     pub fn is_empty(&self) -> bool
         ensures { IsTrue result ↔ (self.now ≡ empty) }
     {
@@ -109,12 +112,20 @@ impl NumberSet {
     }
 
     /// Takes all members away.
+    #[inline]
     pub fn clear(&mut self)
         ensures { self.new ≡ empty }
     {
-        if self.is_empty() {
-            return;
+        if !self.is_empty() {
+            self.clear_words();
         }
+    }
+
+    // The same, whatever the members are.
+    #[inline(never)]
+    fn clear_words(&mut self)
+        ensures { self.new ≡ empty }
+    {
         zero_summed(&mut self.words, &self.groups);
         zero(&mut self.groups);
         self.top = [0];

@@ -2,7 +2,7 @@ use Rattle.std.proofs.Common.{refl, ap, ◌∙◌, length}
 use Rattle.std.proofs.lemmas.List.{with_items_is}
 use Rattle.number_set.proofs.SummaryLemmas.{IsSummed-zero, zero_top}
 use Rattle.number_set.proofs.Members.{members-zero}
-use Rattle.number_set.proofs.number_set.NumberSet.clear.Goals as goal
+use Rattle.number_set.proofs.number_set.NumberSet.clear_words.Goals as goal
 
 pub invariant_of-self : goal.invariant_of-self
 invariant_of-self c =
