@@ -6,7 +6,7 @@ use std::test::Fail;
 
 #[test]
 fn changes_are_made_as_one(rt: HostRuntime) -> Result<(), Fail> {
-    let mut crosspoints = Crosspoints::new(rt.alloc())?;
+    let mut crosspoints = Crosspoints::new(rt.alloc(), 8)?;
     let (fourth, fifth) = (DestId::of(4), DestId::of(5));
     let third = SourceId::of(3);
     assert_eq!(rt; crosspoints.source_at(fourth), None);

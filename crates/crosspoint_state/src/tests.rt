@@ -1,5 +1,7 @@
 //! Tests of what no clause says: that calls succeed, and that the clauses say what was meant.
 
+ghost use Rattle.std.specs.Prelude.{◌≡◌, ◌<◌};
+
 use crate::{Crosspoints, Spot};
 use plant_config::{Change, DestId, MAX_DESTINATIONS, SourceId, TieNo};
 use std::process::Abort;
@@ -50,8 +52,10 @@ const ROWS: [(Stands, Option<u32>, Option<u32>, bool, Stands); 10] = [
     ),
 ];
 
-fn change_one(rt: &impl Abort, crosspoints: &mut Crosspoints, dest: u32) {
-    assert!(rt; dest < MAX_DESTINATIONS);
+fn change_one(rt: &impl Abort, crosspoints: &mut Crosspoints, dest: u32)
+    requires { dest < crosspoints.old.room }
+    ensures { crosspoints.new.room ≡ crosspoints.old.room }
+{
     let dest = DestId::of(dest);
     for (before, source, tie, idle, after) in ROWS {
         let change = Change {
@@ -69,7 +73,8 @@ fn change_one(rt: &impl Abort, crosspoints: &mut Crosspoints, dest: u32) {
 #[test]
 fn a_change_is_made_unless_it_is_idle(rt: HostRuntime) -> Result<(), Fail> {
     for dest in [0, 5, 65_535] {
-        let mut crosspoints = Crosspoints::new(rt.alloc())?;
+        let mut crosspoints = Crosspoints::new(rt.alloc(), MAX_DESTINATIONS)?;
+        assert!(rt; dest < MAX_DESTINATIONS);
         change_one(&rt, &mut crosspoints, dest);
     }
     Ok(())
@@ -77,19 +82,19 @@ fn a_change_is_made_unless_it_is_idle(rt: HostRuntime) -> Result<(), Fail> {
 
 #[test]
 fn the_neighbours_carry_what_they_carried(rt: HostRuntime) -> Result<(), Fail> {
-    let mut crosspoints = Crosspoints::new(rt.alloc())?;
+    let mut crosspoints = Crosspoints::new(rt.alloc(), 7)?;
     let (left, right) = (DestId::of(4), DestId::of(6));
     crosspoints.set(left, spot(Some((7, Some(1)))));
     change_one(&rt, &mut crosspoints, 5);
     assert_eq!(rt; crosspoints.at(left), spot(Some((7, Some(1)))));
     assert_eq!(rt; crosspoints.at(right), None);
-    assert_eq!(rt; crosspoints.at(DestId::of(65_536)), None);
+    assert_eq!(rt; crosspoints.at(DestId::of(7)), None);
     Ok(())
 }
 
 #[test]
 fn two_destinations_change_places(rt: HostRuntime) -> Result<(), Fail> {
-    let mut crosspoints = Crosspoints::new(rt.alloc())?;
+    let mut crosspoints = Crosspoints::new(rt.alloc(), MAX_DESTINATIONS)?;
     let (first, second) = (DestId::of(0), DestId::of(65_535));
     let (camera, replay) = (SourceId::of(3), SourceId::of(8));
     crosspoints.set(first, spot(Some((3, None))));

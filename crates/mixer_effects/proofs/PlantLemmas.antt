@@ -27,17 +27,13 @@ bus_is : (plant : PlantData) → IsPlant plant → (place : ℕ) (bus : Bus) →
 bus_is plant is place bus at =
     subst (IsBus plant) (get_or_from_slice_get plant.buses place bus bus at) (is.linked.buses.1 place bus (slice_get_within plant.buses place bus at))
 
-pub bus_dest_below : (plant : PlantData) → IsPlant plant → (place : ℕ) (bus : Bus) → slice_get plant.buses place ≡ Some bus → bus.dest < 65536
-bus_dest_below plant is place bus at =
-    let below = main_below plant is bus.dest (bus_is plant is place bus at).dest in
-    let few : destinations_of plant ≤ 65536 = is.destinations in
-    omega (arith, below, few)
+pub bus_dest_below : (plant : PlantData) → IsPlant plant → (place : ℕ) (bus : Bus) → slice_get plant.buses place ≡ Some bus → bus.dest < destinations_of plant
+bus_dest_below plant is place bus at = main_below plant is bus.dest (bus_is plant is place bus at).dest
 
-pub switch_below : (plant : PlantData) → IsPlant plant → (place : ℕ) (bus : Bus) (switch : ℕ) → slice_get plant.buses place ≡ Some bus → bus.switch ≡ Some switch → switch < 65536
+pub switch_below : (plant : PlantData) → IsPlant plant → (place : ℕ) (bus : Bus) (switch : ℕ) → slice_get plant.buses place ≡ Some bus → bus.switch ≡ Some switch → switch < destinations_of plant
 switch_below plant is place bus switch at switched =
     let one : IsSwitch plant switch = subst (λ (o : Option ℕ). MatchOption o (Unit {0}) (IsSwitch plant)) switched (bus_is plant is place bus at).switch in
-    let few : destinations_of plant ≤ 65536 = is.destinations in
-    omega (arith, one.dest, few)
+    one.dest
 
 pub bus_device_below : (plant : PlantData) → IsPlant plant → (place : ℕ) (bus : Bus) → slice_get plant.buses place ≡ Some bus → bus.device < length plant.devices
 bus_device_below plant is place bus at = (bus_is plant is place bus at).device
@@ -53,11 +49,10 @@ local_below plant source local = by (slice_get plant.sources source) refl local
     by None at local = absurd (false≢true local)
     by (Some found) at local = slice_get_within plant.sources source found at
 
-pub output_below : (plant : PlantData) → IsPlant plant → (number : ℕ) (device : Device) → slice_get plant.devices number ≡ Some device → device.output < 65536
+pub output_below : (plant : PlantData) → IsPlant plant → (number : ℕ) (device : Device) → slice_get plant.devices number ≡ Some device → device.output < sources_of plant
 output_below plant is number device at =
     let below = local_below plant device.output (device_is plant is number device at).output in
-    let few : sources_of plant ≤ 65536 = is.sources in
-    omega (arith, below, few, is.named.sources)
+    omega (arith, below, is.named.sources)
 
 -- a number past the sources is of none
 pub no_source : (plant : PlantData) → IsPlant plant → (source : ℕ) → sources_of plant ≤ source → source_number_of plant source ≡ None

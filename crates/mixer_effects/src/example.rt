@@ -24,7 +24,8 @@ panel = [{ device = 1, port = 9001 }]
 fn a_bus_is_on_by_its_switch(rt: HostRuntime) -> Result<(), Fail> {
     let plant = Plant::from_toml(rt.alloc(), PLANT)?;
     let mixers = Mixers::new(rt.alloc(), &plant)?;
-    let mut points = Crosspoints::new(rt.alloc())?;
+    let mut points = Crosspoints::new(rt.alloc(), plant.destination_count())?;
+    assert!(rt; 2 < plant.destination_count());
     let (key, switch) = (DestId::of(1), DestId::of(2));
     // Source 1 of level 1.
     points.set(

@@ -56,7 +56,7 @@ impl Graph<'_> {
     /// Whether a destination is a bus that is on.
     pub fn is_on(&self, dest: DestId) -> bool
         requires { IsWiringOf self.now.plant.now self.now.mixers.now }
-        ensures { result ≡ is_on self.now.plant.now self.now.points.now dest }
+        ensures { result ≡ is_on self.now.plant.now self.now.points.now.entries dest }
     {
         let Some(bus) = self.bus_at(dest) else {
             return false;
@@ -92,7 +92,7 @@ fn element<T: Copy>(list: &[T], place: usize) -> Option<T>
 
 /// Whether a bus is on: always, or where its switch carries a source whose number in its level isn't 0.
 pub fn is_bus_on(plant: &Plant, points: &Crosspoints, bus: &Bus) -> bool
-    ensures { result ≡ is_bus_on plant.now points.now bus.now }
+    ensures { result ≡ is_bus_on plant.now points.now.entries bus.now }
 {
     match bus.switch {
         Some(switch) => is_switch_on(plant, points, switch),
@@ -102,7 +102,7 @@ pub fn is_bus_on(plant: &Plant, points: &Crosspoints, bus: &Bus) -> bool
 
 // Whether a switch is on.
 fn is_switch_on(plant: &Plant, points: &Crosspoints, switch: DestId) -> bool
-    ensures { result ≡ is_switch_on plant.now points.now switch }
+    ensures { result ≡ is_switch_on plant.now points.now.entries switch }
 {
     match points.source_at(switch) {
         Some(source) => source.get() < plant.source_count() && plant.source_number(source) != 0,

@@ -2,14 +2,14 @@
 
 ghost use Rattle.std.specs.Prelude.{◌≡◌, ◌+◌, ◌<◌, ◌++◌, length, slice_get, IfOk, OnOk};
 ghost use Rattle.std.specs.FinMap.{get};
-ghost use Rattle.plant_config.specs.Limits.{all_destinations_limit};
+ghost use Rattle.plant_config.specs.Plant.{destinations_of};
 ghost use Rattle.mixer_effects.specs.Wiring.{IsWiringOf, switched_in};
 ghost use Rattle.mixer_effects.specs.WiringInside.{HaveBusesFrom, HaveDevicesFrom};
 ghost use Rattle.mixer_effects.specs.WiringInside.{AreSpansBelow, switched_among};
 
 use crate::span::Span;
 use number_map::NumberMap;
-use plant_config::{Bus, BusId, DestId, DeviceId, MAX_DESTINATIONS, MAX_SOURCES, Plant, SourceId};
+use plant_config::{Bus, BusId, DestId, DeviceId, Plant, SourceId};
 use std::alloc::{AllocError, Global};
 use std::marker::Model;
 
@@ -48,7 +48,7 @@ impl Mixers {
     {
         let bus_by_dest = buses_by_dest(alloc, plant)?;
         let device_by_output = devices_by_output(alloc, plant)?;
-        let mut span_by_switch = NumberMap::new(alloc, MAX_DESTINATIONS as usize)?;
+        let mut span_by_switch = NumberMap::new(alloc, plant.destination_count() as usize)?;
         let mut switched = Vec::new(alloc);
         for number in 0..plant.buses().len() {
             put_switch(plant, number, &mut span_by_switch, &mut switched)?;
@@ -92,7 +92,7 @@ impl Mixers {
 fn buses_by_dest(alloc: Global, plant: &Plant) -> Result<NumberMap<BusId>, AllocError>
     ensures { IfOk result (λ by_dest. HaveBusesFrom plant.now 0 by_dest.entries) }
 {
-    let mut by_dest = NumberMap::new(alloc, MAX_DESTINATIONS as usize)?;
+    let mut by_dest = NumberMap::new(alloc, plant.destination_count() as usize)?;
     let buses = plant.buses();
     for number in (0..buses.len()).rev() {
         by_dest.set(buses[number].dest.get(), Some(BusId::of(number as u32)));
@@ -104,7 +104,7 @@ fn buses_by_dest(alloc: Global, plant: &Plant) -> Result<NumberMap<BusId>, Alloc
 fn devices_by_output(alloc: Global, plant: &Plant) -> Result<NumberMap<DeviceId>, AllocError>
     ensures { IfOk result (λ by_output. HaveDevicesFrom plant.now 0 by_output.entries) }
 {
-    let mut by_output = NumberMap::new(alloc, MAX_SOURCES as usize)?;
+    let mut by_output = NumberMap::new(alloc, plant.source_count() as usize)?;
     let devices = plant.devices();
     for number in (0..devices.len()).rev() {
         by_output.set(
@@ -123,9 +123,9 @@ fn put_switch(
     switched: &mut Vec<DestId>,
 ) -> Result<(), AllocError>
     requires number { number < length plant.now.buses }
-    requires room { spans.old.room ≡ all_destinations_limit }
+    requires room { spans.old.room ≡ destinations_of plant.now }
     requires spans { AreSpansBelow plant.now number spans.old.entries switched.old.items }
-    ensures room { OnOk result (spans.new.room ≡ all_destinations_limit) }
+    ensures room { OnOk result (spans.new.room ≡ destinations_of plant.now) }
     ensures spans { OnOk result
         (AreSpansBelow plant.now (number + 1) spans.new.entries switched.new.items) }
 {

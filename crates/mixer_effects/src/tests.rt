@@ -1,5 +1,6 @@
 //! Tests of what no clause says: that calls succeed, and that the clauses say what was meant.
 
+ghost use Rattle.std.specs.Prelude.{◌≡◌, ◌<◌};
 ghost use Rattle.mixer_effects.specs.Wiring.{IsWiringOf};
 
 use crate::{Graph, Mixers, is_bus_on};
@@ -30,8 +31,14 @@ bus = [
 panel = [{ device = 1, port = 9001 }]
 "#;
 
-// Gives a destination, below 65,536, a source of its own level.
-fn carry(points: &mut Crosspoints, dest: u16, source: u32) {
+// How many destinations it has.
+const DESTINATIONS: u32 = 8;
+
+// Gives a destination a source of its own level.
+fn carry(points: &mut Crosspoints, dest: u16, source: u32)
+    requires { dest < points.old.room }
+    ensures { points.new.room ≡ points.old.room }
+{
     let source = SourceId::of(source);
     points.set(
         DestId::of(u32::from(dest)),
@@ -90,7 +97,7 @@ const OUTPUTS: [(u32, Option<u32>); 7] = [
 fn buses_and_devices_are_found(rt: HostRuntime) -> Result<(), Fail> {
     let plant = Plant::from_toml(rt.alloc(), PLANT)?;
     let mixers = Mixers::new(rt.alloc(), &plant)?;
-    let points = Crosspoints::new(rt.alloc())?;
+    let points = Crosspoints::new(rt.alloc(), DESTINATIONS)?;
     let graph = Graph {
         plant: &plant,
         mixers: &mixers,
@@ -133,7 +140,7 @@ fn are_on(rt: &impl Abort, plant: &Plant, mixers: &Mixers, points: &Crosspoints,
 fn buses_are_on_by_their_switches(rt: HostRuntime) -> Result<(), Fail> {
     let plant = Plant::from_toml(rt.alloc(), PLANT)?;
     let mixers = Mixers::new(rt.alloc(), &plant)?;
-    let mut points = Crosspoints::new(rt.alloc())?;
+    let mut points = Crosspoints::new(rt.alloc(), DESTINATIONS)?;
     let some = [false, false, true, true, false, false, false];
     let all = [false, true, true, true, true, false, false];
     // The switch is parked.
@@ -152,7 +159,7 @@ fn buses_are_on_by_their_switches(rt: HostRuntime) -> Result<(), Fail> {
 #[test]
 fn any_bus_is_asked_for(rt: HostRuntime) -> Result<(), Fail> {
     let plant = Plant::from_toml(rt.alloc(), PLANT)?;
-    let mut points = Crosspoints::new(rt.alloc())?;
+    let mut points = Crosspoints::new(rt.alloc(), DESTINATIONS)?;
     let by_switch = |number| Bus {
         device: DeviceId::of(9),
         dest: DestId::of(9),
@@ -169,7 +176,7 @@ fn any_bus_is_asked_for(rt: HostRuntime) -> Result<(), Fail> {
 fn a_loop_leads_back(rt: HostRuntime) -> Result<(), Fail> {
     let plant = Plant::from_toml(rt.alloc(), PLANT)?;
     let mixers = Mixers::new(rt.alloc(), &plant)?;
-    let mut points = Crosspoints::new(rt.alloc())?;
+    let mut points = Crosspoints::new(rt.alloc(), DESTINATIONS)?;
     // Each of the two mixers has a bus that carries the other one's output.
     carry(&mut points, 2, 3);
     carry(&mut points, 3, 2);

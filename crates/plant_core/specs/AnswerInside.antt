@@ -3,7 +3,8 @@ use Rattle.std.specs.Prelude.{◌≡◌, ◌≢◌, ℕ, [], ◌∷◌, map, nat
 use Rattle.std.specs.Option.{option_to_list, option_eq}
 use Rattle.std.specs.FinMap.{get}
 use Rattle.swp08_messages.specs.Text.{kind_of}
-use Rattle.swp08_messages.specs.declared.message.Message.TheVariants.{DumpAsk}
+use Rattle.swp08_messages.specs.declared.message.Message.TheVariants.{Interrogate, Connect, DumpAsk}
+use Rattle.swp08_messages.specs.declared.point.Point.{Point}
 use Rattle.swp08_messages.specs.declared.message.MessageKind.TheVariants.{Plant}
 use Rattle.swp08_messages.specs.declared.message.Message.{Message}
 use Rattle.history_lock.specs.Step.{Stepped}
@@ -21,9 +22,13 @@ SaysJust stepped message = stepped.answers ≡ Say message ∷ []
 abbrev pub SaysAtMost : Stepped State Answer → Option Message → Type 0
 SaysAtMost stepped message = stepped.answers ≡ map Say (option_to_list message)
 
--- A message asks something of the plant, but not for a dump.
-abbrev pub AsksOne : Message → Type 0
-AsksOne message = (kind_of message ≡ Plant) × ((matrix level : ℕ) → message ≢ DumpAsk matrix level)
+-- A message asks something of the plant: neither what stands nor for a connect or a dump.
+abbrev pub AsksOther : Message → Type 0
+AsksOther message =
+    (kind_of message ≡ Plant)
+    × ((at : Point) → message ≢ Interrogate at)
+    × ((at : Point) (source : Option ℕ) → message ≢ Connect at source)
+    × ((matrix level : ℕ) → message ≢ DumpAsk matrix level)
 
 -- the state in which the others were given notice of a destination's owner, where it isn't this one of before
 abbrev pub owner_told_from : Option ℕ → State → ℕ → ℕ → State

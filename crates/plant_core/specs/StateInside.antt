@@ -1,9 +1,10 @@
 -- How a state is kept.
-use Rattle.std.specs.Prelude.{◌≡◌, List}
-use Rattle.plant_config.specs.Plant.{PlantData}
+use Rattle.std.specs.Prelude.{◌≡◌, ℕ, List}
+use Rattle.crosspoint_state.specs.Table.{Table}
+use Rattle.plant_config.specs.Plant.{PlantData, destinations_of}
+use Rattle.crosspoint_state.specs.declared.spot.Spot.{Spot}
 use Rattle.crosspoint_state.specs.Crosspoints.{Crosspoints}
 use Rattle.tie_pools.specs.Counts.{AreCountsOf}
-use Rattle.protects.specs.Owners.{Owners}
 use Rattle.salvo_groups.specs.Groups.{Group}
 use Rattle.change_boards.specs.Board.{Board}
 use Rattle.change_boards.specs.Screens.{AreScreensOf}
@@ -14,11 +15,11 @@ use Rattle.plant_core.specs.declared.tables.Tables.{Tables}
 use Rattle.plant_core.specs.State.{State, IsValid}
 
 -- the state that its parts stand for
-abbrev pub state_of : PlantData → Crosspoints → Owners → List Group → List Board → Shown → State
-state_of plant crosspoints owners groups boards shown = record {
+abbrev pub state_of : PlantData → Table Spot → Table ℕ → List Group → List Board → Shown → State
+state_of plant points owners groups boards shown = record {
   plant = plant;
-  crosspoints = crosspoints;
-  owners = owners;
+  crosspoints = points.entries;
+  owners = owners.entries;
   groups = groups;
   boards = boards;
   shown = shown;
@@ -33,7 +34,14 @@ pub record AreTablesOf (plant : PlantData) (crosspoints : Crosspoints) (tables :
   pub tallied : tables.tally ≡ tallies_of plant crosspoints
   pub screened : AreScreensOf plant tables.screens
 
--- A state is kept where it is valid, and the tables beside it go with it.
-pub record IsKept (state : State) (tables : Tables) : Type 0 where
+-- There is room for what each destination of a plant carries, and for who protects it.
+pub record HaveRoom (plant : PlantData) (points : Table Spot) (owners : Table ℕ) : Type 0 where
+  pub crosspoints : points.room ≡ destinations_of plant
+  pub protects : owners.room ≡ destinations_of plant
+
+-- A state is kept where it is valid, there is room for all destinations, and the tables beside it go with it.
+pub record IsKept (state : State) (points : Table Spot) (owners : Table ℕ) (tables : Tables)
+    : Type 0 where
   pub valid : IsValid state
+  pub room : HaveRoom state.plant points owners
   pub beside : AreTablesOf state.plant state.crosspoints tables

@@ -21,6 +21,7 @@ use tie_pools::{Exhausted, Planned};
 impl PlantState {
     // Makes a connect where it is in range and permitted and the ties are enough, and answers so; else answers with the source
     // that stands.
+    #[inline]
     pub(crate) fn connect(&mut self, panel: PanelNo, at: Point, source: Option<u16>) -> Message
         ensures state { self.new ≡ (answered self.old panel (Connect at source)).state }
         ensures answer { SaysJust (answered self.old panel (Connect at source)) result }
@@ -123,7 +124,7 @@ impl PlantState {
 
 // Whether no device but this one protects a destination of these changes.
 pub(crate) fn are_permitted(protects: &Protects, device: u16, changes: &[Change]) -> bool
-    ensures { result ≡ are_permitted protects.now device changes.now }
+    ensures { result ≡ are_permitted protects.now.entries device changes.now }
 {
     changes
         .iter()

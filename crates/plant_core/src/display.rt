@@ -36,9 +36,10 @@ struct Picture<'a> {
 impl Picture<'_> {
     // The value of a destination: the source there, and whether that is on air and on preview.
     fn value_at(&self, dest: DestId) -> Value
-        requires found { self.now.tally.now ≡ tallies_of self.now.plant.now self.now.points.now }
-        requires carried { CarrySources self.now.plant.now self.now.points.now }
-        ensures { result ≡ value_at self.now.plant.now self.now.points.now dest }
+        requires found { self.now.tally.now
+            ≡ tallies_of self.now.plant.now self.now.points.now.entries }
+        requires carried { CarrySources self.now.plant.now self.now.points.now.entries }
+        ensures { result ≡ value_at self.now.plant.now self.now.points.now.entries dest }
     {
         match self.points.source_at(dest) {
             Some(source) => Value {
@@ -56,10 +57,11 @@ impl Picture<'_> {
 
     // The value of a display: that of the destination that it watches.
     fn value_of(&self, display: DisplayId) -> Value
-        requires found { self.now.tally.now ≡ tallies_of self.now.plant.now self.now.points.now }
-        requires carried { CarrySources self.now.plant.now self.now.points.now }
+        requires found { self.now.tally.now
+            ≡ tallies_of self.now.plant.now self.now.points.now.entries }
+        requires carried { CarrySources self.now.plant.now self.now.points.now.entries }
         requires below { display < length self.now.plant.now.displays }
-        ensures { result ≡ value_in self.now.plant.now self.now.points.now display }
+        ensures { result ≡ value_in self.now.plant.now self.now.points.now.entries display }
     {
         let found = self.plant.displays()[display.get() as usize];
         self.value_at(found.watch)
@@ -67,15 +69,18 @@ impl Picture<'_> {
 
     // Shows a display its value where it differs, and answers a lamp for it.
     fn show(&self, display: DisplayId, shown: &mut Shown, out: &mut OutBox<Answer>)
-        requires found { self.now.tally.now ≡ tallies_of self.now.plant.now self.now.points.now }
-        requires carried { CarrySources self.now.plant.now self.now.points.now }
+        requires found { self.now.tally.now
+            ≡ tallies_of self.now.plant.now self.now.points.now.entries }
+        requires carried { CarrySources self.now.plant.now self.now.points.now.entries }
         requires below { display < length self.now.plant.now.displays }
         requires count { length shown.old ≡ length self.now.plant.now.displays }
         requires places { length out.old.items < out.old.places }
-        ensures shown { let value = value_in self.now.plant.now self.now.points.now display in
+        ensures shown { let value =
+            value_in self.now.plant.now self.now.points.now.entries display in
             shown.new ≡ (if is_news shown.old display value then
             with_shown shown.old display value else shown.old) }
-        ensures answers { let value = value_in self.now.plant.now self.now.points.now display in
+        ensures answers { let value =
+            value_in self.now.plant.now self.now.points.now.entries display in
             out.new.items ≡ (if is_news shown.old display value then
             out.old.items ++ Lamp display value ∷ [] else out.old.items) }
         ensures places { out.new.places ≡ out.old.places }
@@ -88,17 +93,18 @@ impl Picture<'_> {
 
     // Shows displays that differ their values, the first 64 of these, and answers a lamp for each.
     fn show_first(&self, displays: &[DisplayId], shown: &mut Shown, out: &mut OutBox<Answer>)
-        requires found { self.now.tally.now ≡ tallies_of self.now.plant.now self.now.points.now }
-        requires carried { CarrySources self.now.plant.now self.now.points.now }
+        requires found { self.now.tally.now
+            ≡ tallies_of self.now.plant.now self.now.points.now.entries }
+        requires carried { CarrySources self.now.plant.now self.now.points.now.entries }
         requires below { AreBelow (length self.now.plant.now.displays) displays.now }
         requires once { IsDistinct nat_eq displays.now }
         requires count { length shown.old ≡ length self.now.plant.now.displays }
         requires empty { out.old.items ≡ [] }
         requires places { lamp_limit ≤ out.old.places }
-        ensures shown { let values = value_in self.now.plant.now self.now.points.now in
+        ensures shown { let values = value_in self.now.plant.now self.now.points.now.entries in
             shown.new ≡ shown_all values (first_differing values shown.old displays.now)
             shown.old }
-        ensures answers { let values = value_in self.now.plant.now self.now.points.now in
+        ensures answers { let values = value_in self.now.plant.now self.now.points.now.entries in
             out.new.items ≡ lamps_of values (first_differing values shown.old displays.now) }
         ensures places { out.new.places ≡ out.old.places }
     {
@@ -127,6 +133,7 @@ fn light(display: DisplayId, value: &Value, shown: &mut Shown, out: &mut OutBox<
 impl PlantState {
     // A display poll: after its refresh, the first displays of the screen that differ are shown their values. One that shows
     // none says so where all is finished.
+    #[inline(never)]
     pub(crate) fn poll_display(&mut self, screen: u16, refresh: bool, out: &mut OutBox<Answer>)
         requires empty { out.old.items ≡ [] }
         requires places { room_of self.old.plant ≤ out.old.places }

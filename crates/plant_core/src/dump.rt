@@ -12,6 +12,7 @@ use swp08_messages::Point;
 
 impl PlantState {
     // Tells each destination of a level, in order, with the source that stands there.
+    #[inline(never)]
     pub(crate) fn dump(&self, matrix: u8, level: u8, out: &mut OutBox<Answer>)
         requires empty { out.old.items ≡ [] }
         requires places { room_of self.now.plant ≤ out.old.places }

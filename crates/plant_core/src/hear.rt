@@ -18,6 +18,7 @@ use swp08_messages::Message;
 
 impl PlantState {
     // Takes a panel's next notice, and answers what the panel is told for it.
+    #[inline(always)]
     pub(crate) fn poll(&mut self, panel: PanelNo) -> Option<Answer>
         requires { panel < length self.old.plant.panels }
         ensures state { self.new ≡ record self.old { boards = with_take self.old.boards panel } }
@@ -29,6 +30,7 @@ impl PlantState {
     }
 
     // Takes a panel's next notice.
+    #[inline(always)]
     fn take_notice(&mut self, panel: PanelNo) -> Option<(DestId, Sort)>
         requires { panel < length self.old.plant.panels }
         ensures next { result ≡ next (board_of self.old.boards panel) }
@@ -40,6 +42,7 @@ impl PlantState {
     }
 
     // What a panel is told for a notice: the source that stands, or the owner.
+    #[inline]
     fn told(&self, dest: DestId, sort: Sort) -> Answer
         requires { dest < destinations_of self.now.plant }
         ensures { result ≡ told_for self.now dest sort }
@@ -77,6 +80,7 @@ impl PlantState {
     }
 
     // A panel leaves.
+    #[inline(never)]
     pub(crate) fn leave(&mut self, panel: PanelNo)
         requires { panel < length self.old.plant.panels }
         ensures { self.new ≡ record self.old { boards = with_leave self.old.boards panel } }

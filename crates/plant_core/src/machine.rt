@@ -36,6 +36,7 @@ impl Machine for PlantState {
         }
     }
 
+    #[inline(always)]
     fn step(&mut self, request: &Request, out: &mut OutBox<Answer>) {
         self.step(request, out);
     }

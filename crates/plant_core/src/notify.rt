@@ -49,7 +49,7 @@ pub(crate) fn notify_moved(
 )
     requires panels { panels ≡ length notices.old }
     requires dests { All (λ change. change.dest < MAX_DESTINATIONS) changes.now }
-    ensures { notices.new ≡ all_marked notices.old (moved crosspoints.now changes.now) }
+    ensures { notices.new ≡ all_marked notices.old (moved crosspoints.now.entries changes.now) }
 {
     for change in changes {
         if !crosspoints.is_idle(change) {

@@ -36,6 +36,7 @@ impl PlantState {
     }
 
     // The owner of a place as a tally.
+    #[inline(never)]
     pub(crate) fn protect_tally(&self, at: Point) -> Message
         ensures tally { result ≡ owner_told ProtectTally at (owner_at self.now at) }
         ensures valid { IsValid self.now }
@@ -50,6 +51,7 @@ impl PlantState {
 
     // Protects a destination for the panel's device, where no other device protects it, and answers so; else answers with
     // the owner.
+    #[inline(never)]
     pub(crate) fn protect(&mut self, panel: PanelNo, at: Point) -> Message
         ensures state { self.new ≡ (protected self.old panel at (dest_of self.old at)).state }
         ensures answer { SaysJust (protected self.old panel at (dest_of self.old at)) result }
@@ -68,6 +70,7 @@ impl PlantState {
 
     // Lifts the protect of a destination where no other device protects it, or the panel is a master, and answers so; else
     // answers with the owner.
+    #[inline(never)]
     pub(crate) fn unprotect(&mut self, panel: PanelNo, at: Point) -> Message
         ensures state { self.new ≡ (unprotected self.old panel at (dest_of self.old at)).state }
         ensures answer { SaysJust (unprotected self.old panel at (dest_of self.old at)) result }

@@ -34,6 +34,7 @@ const NO_PLACE: Point = Point {
 
 impl PlantState {
     // Stores an entry in a group where it is in range and the group has room for it, and answers so; else answers nothing.
+    #[inline(never)]
     pub(crate) fn store(&mut self, at: Point, source: Option<u16>, salvo: u8) -> Option<Message>
         requires { salvo < salvo_limit }
         ensures state { self.new ≡ (stored_in self.old at source salvo
@@ -52,6 +53,7 @@ impl PlantState {
     }
 
     // Clears a group, or takes it whole where it is permitted and the ties are enough, and says which it was.
+    #[inline(never)]
     pub(crate) fn go(&mut self, panel: PanelNo, clear: bool, salvo: u8) -> GoStatus
         requires { salvo < salvo_limit }
         ensures state { self.new ≡ (answered self.old panel (Go clear salvo)).state }
@@ -138,6 +140,7 @@ impl PlantState {
     }
 
     // An entry of a group, and whether more follow.
+    #[inline(never)]
     pub(crate) fn entry(&self, salvo: u8, index: u8) -> Message
         requires { salvo < salvo_limit }
         ensures entry { result ≡ entry_answer self.now salvo index }

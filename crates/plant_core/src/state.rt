@@ -13,7 +13,7 @@ ghost use Rattle.tally.specs.Tally.{roots_of};
 ghost use Rattle.plant_core.specs.State.{start, tie_of, standing, device_of, Fits, IsValid};
 ghost use Rattle.plant_core.specs.Step.{step, answered, dest_of};
 ghost use Rattle.plant_core.specs.Answer.{IsSayable, IsAnswerCount, room_of};
-ghost use Rattle.plant_core.specs.AnswerInside.{AsksOne, SaysAtMost};
+ghost use Rattle.plant_core.specs.AnswerInside.{AsksOther, SaysAtMost};
 
 use crate::answer::{Answer, put};
 use crate::place::place_of;
@@ -69,7 +69,8 @@ impl Model for PlantState {
         state.notices state.shown };
 
     ghost invariant = { λ state. IsKept (state_of state.plant state.crosspoints state.protects
-        state.groups state.notices state.shown) state.tables.value };
+        state.groups state.notices state.shown) state.crosspoints state.protects
+        state.tables.value };
 }
 
 impl PlantState {
@@ -78,8 +79,9 @@ impl PlantState {
     pub fn start(alloc: Global, plant: &Plant) -> Result<PlantState, AllocError>
         ensures { IfOk result (λ state. state ≡ start plant.now) }
     {
-        let crosspoints = Crosspoints::new(alloc)?;
-        let protects = Protects::new(alloc)?;
+        let destinations = plant.destination_count();
+        let crosspoints = Crosspoints::new(alloc, destinations)?;
+        let protects = Protects::new(alloc, destinations)?;
         let groups = Groups::new(alloc)?;
         let notices = Notices::new(alloc, plant)?;
         let shown = Shown::new(alloc, plant)?;
@@ -201,6 +203,7 @@ impl PlantState {
     }
 
     /// One event: what it does to the state, and its answers, which can be spelled. It takes no memory.
+    #[inline(always)]
     #[tactic(auto, using(crate::proofs::CountLemmas::room_some))]
     pub fn step(&mut self, request: &Request, out: &mut OutBox<Answer>)
         requires fits { Fits self.old request.now }
@@ -213,22 +216,46 @@ impl PlantState {
         ensures places { out.new.places ≡ out.old.places }
         ensures plant { self.new.plant ≡ self.old.plant }
     {
-        match *request {
-            Request::Told { panel, message, .. } => self.answer(panel, message, out),
+        match request {
+            Request::Told { panel, message, .. } => self.answer(*panel, message, out),
             Request::Poll { panel, .. } => {
-                if let Some(answer) = self.poll(panel) {
+                if let Some(answer) = self.poll(*panel) {
                     put(answer, out);
                 }
             }
-            Request::Leave { panel } => self.leave(panel),
-            Request::DisplayPoll { screen, refresh } => self.poll_display(screen, refresh, out),
+            Request::Leave { panel } => self.leave(*panel),
+            Request::DisplayPoll { screen, refresh } => self.poll_display(*screen, *refresh, out),
         }
     }
 
-    // What a message does, and its answers.
+    // What a message does, and its answers. Most messages interrogate or connect.
     #[tactic(auto, using(crate::proofs::CountLemmas::room_some))]
-    fn answer(&mut self, panel: PanelNo, message: Message, out: &mut OutBox<Answer>)
-        requires asks { kind_of message ≡ kinds.Plant }
+    #[inline(always)]
+    fn answer(&mut self, panel: PanelNo, message: &Message, out: &mut OutBox<Answer>)
+        requires asks { kind_of message.now ≡ kinds.Plant }
+        requires in_range { InRange message.now }
+        requires empty { out.old.items ≡ [] }
+        requires places { room_of self.old.plant ≤ out.old.places }
+        ensures state { self.new ≡ (answered self.old panel message.now).state }
+        ensures answers { out.new.items ≡ (answered self.old panel message.now).answers }
+        ensures places { out.new.places ≡ out.old.places }
+        ensures valid { IsValid self.old }
+    {
+        match *message {
+            Message::Interrogate { at } => put(Answer::Say(self.tally(at)), out),
+            Message::Connect { at, source } => {
+                put(Answer::Say(self.connect(panel, at, source)), out)
+            }
+            Message::DumpAsk { matrix, level } => self.dump(matrix, level, out),
+            other => self.answer_other(panel, other, out),
+        }
+    }
+
+    // The same of a message of any other kind.
+    #[tactic(auto, using(crate::proofs::CountLemmas::room_some))]
+    #[inline(never)]
+    fn answer_other(&mut self, panel: PanelNo, message: Message, out: &mut OutBox<Answer>)
+        requires asks { AsksOther message }
         requires in_range { InRange message }
         requires empty { out.old.items ≡ [] }
         requires places { room_of self.old.plant ≤ out.old.places }
@@ -237,25 +264,20 @@ impl PlantState {
         ensures places { out.new.places ≡ out.old.places }
         ensures valid { IsValid self.old }
     {
-        if let Message::DumpAsk { matrix, level } = message {
-            return self.dump(matrix, level, out);
-        }
         if let Some(message) = self.say(panel, message) {
             put(Answer::Say(message), out);
         }
     }
 
-    // What a message that has at most one answer does, and that answer.
+    // What such a message does, and the answer that it has at most.
     fn say(&mut self, panel: PanelNo, message: Message) -> Option<Message>
-        requires asks { AsksOne message }
+        requires asks { AsksOther message }
         requires in_range { InRange message }
         ensures state { self.new ≡ (answered self.old panel message).state }
         ensures answer { SaysAtMost (answered self.old panel message) result }
         ensures valid { IsValid self.old }
     {
         match message {
-            Message::Interrogate { at } => Some(self.tally(at)),
-            Message::Connect { at, source } => Some(self.connect(panel, at, source)),
             Message::ProtectAsk { at } => Some(self.protect_tally(at)),
             Message::ProtectConnect { at, .. } => Some(self.protect(panel, at)),
             Message::ProtectDisconnect { at, .. } => Some(self.unprotect(panel, at)),

@@ -2,6 +2,7 @@
 
 ghost use Rattle.std.specs.Prelude.{◌≡◌, true, All, IfOk};
 ghost use Rattle.std.specs.FinMap.{empty};
+ghost use Rattle.plant_config.specs.Plant.{destinations_of};
 ghost use Rattle.plant_config.specs.IsPlant.{IsPlant};
 ghost use Rattle.crosspoint_state.specs.Crosspoints.{NamesOnce};
 ghost use Rattle.crosspoint_state.specs.Ties.{HaveValidTies};
@@ -44,6 +45,7 @@ impl Tables {
     }
 
     // Makes changes for which the ties are enough, and finds the tally anew.
+    #[inline(always)]
     pub(crate) fn make(
         &mut self,
         plant: &Plant,
@@ -52,14 +54,16 @@ impl Tables {
         changes: &[Change],
     )
         requires plant { IsPlant plant.now }
-        requires points { AreCrosspoints plant.now points.old }
-        requires ties { HaveValidTies plant.now points.old }
-        requires tables { AreTablesOf plant.now points.old self.old }
+        requires room { points.old.room ≡ destinations_of plant.now }
+        requires points { AreCrosspoints plant.now points.old.entries }
+        requires ties { HaveValidTies plant.now points.old.entries }
+        requires tables { AreTablesOf plant.now points.old.entries self.old }
         requires changes { All (IsChangeOf plant.now) changes.now }
         requires once { NamesOnce changes.now }
-        requires enough { are_enough plant.now points.old changes.now ≡ true }
-        ensures made { points.new ≡ applied plant.now points.old changes.now }
-        ensures tables { AreTablesOf plant.now points.new self.new }
+        requires enough { are_enough plant.now points.old.entries changes.now ≡ true }
+        ensures made { points.new.entries ≡ applied plant.now points.old.entries changes.now }
+        ensures room { points.new.room ≡ points.old.room }
+        ensures tables { AreTablesOf plant.now points.new.entries self.new }
     {
         self.ties.commit(plant, points, planned, changes);
         self.tally.find(plant, points);

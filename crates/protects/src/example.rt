@@ -6,7 +6,7 @@ use std::test::Fail;
 
 #[test]
 fn a_protect_keeps_other_devices_out(rt: HostRuntime) -> Result<(), Fail> {
-    let mut protects = Protects::new(rt.alloc())?;
+    let mut protects = Protects::new(rt.alloc(), 6)?;
     let dest = DestId::of(5);
     let (studio, gallery, master) = (7, 9, 1);
 

@@ -1,5 +1,7 @@
 //! Tests of what no clause says: that calls succeed, and that the clauses say what was meant.
 
+ghost use Rattle.std.specs.Prelude.{◌≡◌, ◌<◌};
+
 use crate::Protects;
 use plant_config::{DestId, MAX_DESTINATIONS};
 use std::process::Abort;
@@ -27,8 +29,10 @@ const ROWS: [(Ask, bool, Option<u16>); 12] = [
     ((0, false, false), false, Some(1023)),
 ];
 
-fn ask_all(rt: &impl Abort, protects: &mut Protects, dest: u32) {
-    assert!(rt; dest < MAX_DESTINATIONS);
+fn ask_all(rt: &impl Abort, protects: &mut Protects, dest: u32)
+    requires { dest < protects.old.room }
+    ensures { protects.new.room ≡ protects.old.room }
+{
     let dest = DestId::of(dest);
     for (ask, answer, owner) in ROWS {
         let (device, master, lifts) = ask;
@@ -45,7 +49,8 @@ fn ask_all(rt: &impl Abort, protects: &mut Protects, dest: u32) {
 #[test]
 fn asks_are_answered_by_the_owner(rt: HostRuntime) -> Result<(), Fail> {
     for dest in [0, 5, 65_535] {
-        let mut protects = Protects::new(rt.alloc())?;
+        let mut protects = Protects::new(rt.alloc(), MAX_DESTINATIONS)?;
+        assert!(rt; dest < MAX_DESTINATIONS);
         ask_all(&rt, &mut protects, dest);
     }
     Ok(())
@@ -53,7 +58,7 @@ fn asks_are_answered_by_the_owner(rt: HostRuntime) -> Result<(), Fail> {
 
 #[test]
 fn the_neighbours_keep_their_owners(rt: HostRuntime) -> Result<(), Fail> {
-    let mut protects = Protects::new(rt.alloc())?;
+    let mut protects = Protects::new(rt.alloc(), 7)?;
     let (left, right) = (DestId::of(4), DestId::of(6));
     assert!(rt; protects.take(8, left));
     ask_all(&rt, &mut protects, 5);
@@ -66,9 +71,9 @@ fn the_neighbours_keep_their_owners(rt: HostRuntime) -> Result<(), Fail> {
 }
 
 #[test]
-fn past_the_largest_plant_nothing_is_protected(rt: HostRuntime) -> Result<(), Fail> {
-    let protects = Protects::new(rt.alloc())?;
-    for dest in [65_535, 65_536, u32::MAX] {
+fn past_the_room_nothing_is_protected(rt: HostRuntime) -> Result<(), Fail> {
+    let protects = Protects::new(rt.alloc(), 3)?;
+    for dest in [2, 3, u32::MAX] {
         assert_eq!(rt; protects.owner(DestId::of(dest)), None);
         assert!(rt; protects.allows(0, DestId::of(dest)));
     }

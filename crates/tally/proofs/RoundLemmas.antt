@@ -1,12 +1,13 @@
 -- A round puts the origins of one more step of `reach`, and where it puts nothing no later one does.
 use Rattle.std.proofs.Common.{◌≡◌, ◌≢◌, ◌⊎◌, ℕ, ◌+◌, ◌<◌, ◌≤◌, Bool, true, false, ◌&&◌, ◌||◌, List, ◌++◌, length, get_or, slice_get, slice_set, Some, None, zero, suc, inl, inr, refl, sym, ap, subst, ◌∙◌, arith, add-one}
 use Rattle.std.proofs.lemmas.Bool.{cases_lt, cases_eq}
-use Rattle.std.proofs.lemmas.List.{get_or-set_same, get_or-set_other}
+use Rattle.std.proofs.lemmas.List.{nil_from_length, get_or-set_same, get_or-set_other}
 use Rattle.std.proofs.lemmas.Option.{slice_get_read}
 use Rattle.std.proofs.lemmas.List.Folds.{list_any-append}
 use Rattle.std.specs.Option.{option_map, option_map_or}
+use Rattle.std.specs.Ordering.{nat_cmp}
 use Rattle.std.specs.List.{list_any}
-use Rattle.std.specs.FinSet.{contains}
+use Rattle.std.specs.FinSet.{empty, contains, contains-empty}
 use Rattle.plant_config.specs.declared.records.Bus.{Bus}
 use Rattle.plant_config.specs.declared.records.Device.{Device}
 use Rattle.plant_config.specs.Plant.{PlantData}
@@ -86,6 +87,20 @@ module _ (plant : PlantData) (points : Crosspoints) where
   next_same : (one other : List ℕ) → origins_at plant points one ≡ origins_at plant points other → origins_at plant points (one ++ buses_behind plant points one) ≡ origins_at plant points (other ++ buses_behind plant points other)
   next_same one other same = next_origins other (origins_at plant points one) (origins_at plant points (one ++ buses_behind plant points one)) same (adds_behind one)
 
+  -- by no origins no device feeds, so no bus brings any
+  none_fed : (device : ℕ) → feeds plant empty device ≡ false
+  none_fed device =
+      elim (output_of plant device) as (λ o. option_map_or (contains {R = nat_cmp} empty) o false ≡ false) [
+        | None ↦ refl
+        | Some output ↦ contains-empty nat_cmp output
+      ]
+
+  none_brought : (origin : ℕ) → any_brings plant points empty plant.buses origin ≡ false
+  none_brought origin =
+      any_agrees (λ (bus : Bus). feeds plant empty bus.device && bus_carries plant points origin bus) (λ (bus : Bus). false)
+      (λ (bus : Bus). ap (λ b. b && bus_carries plant points origin bus) (none_fed bus.device)) plant.buses
+      ∙ any_never plant.buses
+
   module _ (roots : List ℕ) where
     -- the set behind one more round
     pub reach_more : (n : ℕ) (before after : Origins) → before ≡ origins_at plant points (reach plant points roots n) → Adds (any_brings plant points before plant.buses) before after → after ≡ origins_at plant points (reach plant points roots (n + 1))
@@ -114,6 +129,10 @@ module _ (plant : PlantData) (points : Crosspoints) where
     all_seen n before after within is adds same =
         let next = next_origins (reach plant points roots n) before after is adds in
         same ∙ is ∙ sym (stays n (length plant.devices) within (sym next ∙ same ∙ is)) ∙ sym seen_is
+
+    -- where there are no roots, no round puts anything
+    pub none_seen : length roots ≡ 0 → empty ≡ seen_origins plant points roots
+    none_seen none = all_seen 0 empty empty (omega arith) (ap (origins_at plant points) (sym (nil_from_length roots none))) (λ origin. contains-empty nat_cmp origin ∙ sym (none_brought origin) ∙ ap (λ b. b || any_brings plant points empty plant.buses origin) (sym (contains-empty nat_cmp origin))) refl
 
     -- behind as many rounds as devices all are seen
     pub seen_behind : (n : ℕ) (set : Origins) → n ≡ length plant.devices → set ≡ origins_at plant points (reach plant points roots n) → set ≡ seen_origins plant points roots

@@ -1,6 +1,7 @@
 //! The sources that are seen at roots, found in rounds: each puts what the buses carry that feed the sources so far.
 
 ghost use Rattle.std.specs.Prelude.{◌≡◌, ◌<◌, ◌&&◌, ℕ, false, length, slice_index_or, IfSome};
+ghost use Rattle.std.specs.FinSet.{empty};
 ghost use Rattle.plant_config.specs.IsPlant.{IsPlant};
 ghost use Rattle.crosspoint_state.specs.Crosspoints.{Crosspoints};
 ghost use Rattle.mixer_effects.specs.Live.{origin_at, carries};
@@ -16,11 +17,28 @@ use plant_config::{Bus, DestId, Plant, SourceId};
 // The most devices of a plant.
 const DEVICES: usize = 64;
 
-// Finds the local sources whose pictures are seen at these roots. A round that puts nothing is the last.
+// Finds the local sources whose pictures are seen at these roots.
+#[inline]
 pub(crate) fn find_seen(plant: &Plant, points: &Crosspoints, roots: &[DestId], seen: &mut NumberSet)
     requires plant { IsPlant plant.now }
-    requires carried { CarrySources plant.now points.now }
-    ensures { seen.new ≡ seen_origins plant.now points.now roots.now }
+    requires carried { CarrySources plant.now points.now.entries }
+    ensures { seen.new ≡ seen_origins plant.now points.now.entries roots.now }
+{
+    seen.clear();
+    // Nothing is seen where there are no roots.
+    if roots.is_empty() {
+        return;
+    }
+    put_seen(plant, points, roots, seen);
+}
+
+// Puts the local sources whose pictures are seen at these roots into an empty set. A round that puts nothing is the last.
+#[inline(never)]
+fn put_seen(plant: &Plant, points: &Crosspoints, roots: &[DestId], seen: &mut NumberSet)
+    requires plant { IsPlant plant.now }
+    requires carried { CarrySources plant.now points.now.entries }
+    requires none { seen.old ≡ empty }
+    ensures { seen.new ≡ seen_origins plant.now points.now.entries roots.now }
 {
     put_roots(plant, points, roots, seen);
     for _round in 0..plant.devices().len() {
@@ -30,23 +48,24 @@ pub(crate) fn find_seen(plant: &Plant, points: &Crosspoints, roots: &[DestId], s
     }
 }
 
-// Puts the origins of what the roots carry into a set, in the place of what it had.
+// Puts the origins of what the roots carry into an empty set.
 fn put_roots(plant: &Plant, points: &Crosspoints, roots: &[DestId], seen: &mut NumberSet)
     requires plant { IsPlant plant.now }
-    requires carried { CarrySources plant.now points.now }
-    ensures { seen.new ≡ origins_at plant.now points.now roots.now }
+    requires carried { CarrySources plant.now points.now.entries }
+    requires none { seen.old ≡ empty }
+    ensures { seen.new ≡ origins_at plant.now points.now.entries roots.now }
 {
-    seen.clear();
     for root in roots {
         put_origin(plant, points, *root, seen);
     }
 }
 
 // Puts the origins of what the buses carry that are on and whose device puts out one of the set. Whether one is new.
+#[inline(never)]
 fn put_round(plant: &Plant, points: &Crosspoints, seen: &mut NumberSet) -> bool
     requires plant { IsPlant plant.now }
-    requires carried { CarrySources plant.now points.now }
-    ensures put { Adds (any_brings plant.now points.now seen.old plant.now.buses)
+    requires carried { CarrySources plant.now points.now.entries }
+    ensures put { Adds (any_brings plant.now points.now.entries seen.old plant.now.buses)
         seen.old seen.new }
     ensures same { result ≡ false → seen.new ≡ seen.old }
 {
@@ -80,10 +99,10 @@ fn put_bus(
     seen: &mut NumberSet,
 ) -> bool
     requires plant { IsPlant plant.now }
-    requires carried { CarrySources plant.now points.now }
+    requires carried { CarrySources plant.now points.now.entries }
     requires device { bus.now.device < DEVICES }
     ensures put { Adds (λ origin. slice_index_or fed.now bus.now.device false
-        && bus_carries plant.now points.now origin bus.now) seen.old seen.new }
+        && bus_carries plant.now points.now.entries origin bus.now) seen.old seen.new }
     ensures same { result ≡ false → seen.new ≡ seen.old }
 {
     if !fed[bus.device.get() as usize] || !is_bus_on(plant, points, bus) {
@@ -93,10 +112,12 @@ fn put_bus(
 }
 
 // Puts the origin of what a destination carries. Whether that is new.
+#[inline(never)]
 fn put_origin(plant: &Plant, points: &Crosspoints, dest: DestId, seen: &mut NumberSet) -> bool
     requires plant { IsPlant plant.now }
-    requires carried { CarrySources plant.now points.now }
-    ensures put { Adds (λ origin. carries plant.now points.now origin dest) seen.old seen.new }
+    requires carried { CarrySources plant.now points.now.entries }
+    ensures put { Adds (λ origin. carries plant.now points.now.entries origin dest)
+        seen.old seen.new }
     ensures same { result ≡ false → seen.new ≡ seen.old }
 {
     let Some(origin) = origin_at(plant, points, dest) else {
@@ -112,8 +133,8 @@ fn put_origin(plant: &Plant, points: &Crosspoints, dest: DestId, seen: &mut Numb
 // The local source whose picture a destination carries, `None` where it is parked.
 fn origin_at(plant: &Plant, points: &Crosspoints, dest: DestId) -> Option<SourceId>
     requires plant { IsPlant plant.now }
-    requires carried { CarrySources plant.now points.now }
-    ensures origin { result ≡ origin_at plant.now points.now dest }
+    requires carried { CarrySources plant.now points.now.entries }
+    ensures origin { result ≡ origin_at plant.now points.now.entries dest }
     ensures below { IfSome result (λ origin. origin < number_limit) }
 {
     let source = points.source_at(dest)?;

@@ -4,7 +4,7 @@ ghost use Rattle.std.specs.Prelude.{◌≡◌, ◌<◌, IfOk};
 ghost use Rattle.std.specs.FinMap.{empty};
 ghost use Rattle.plant_config.specs.Plant.{sources_of};
 ghost use Rattle.plant_config.specs.IsPlant.{IsPlant};
-ghost use Rattle.crosspoint_state.specs.Crosspoints.{Crosspoints};
+ghost use Rattle.crosspoint_state.specs.Crosspoints as carried;
 ghost use Rattle.mixer_effects.specs.Live.{is_live, is_seen};
 ghost use Rattle.mixer_effects.specs.Wiring.{IsWiringOf};
 ghost use Rattle.tally.specs.Tally.{tallies_of, roots_of, CarrySources};
@@ -49,9 +49,10 @@ impl Tally {
     }
 
     /// Finds the tally anew, from what the destinations carry.
+    #[inline]
     pub fn find(&mut self, plant: &Plant, points: &Crosspoints)
-        requires { CarrySources plant.now points.now }
-        ensures { self.new ≡ tallies_of plant.now points.now }
+        requires { CarrySources plant.now points.now.entries }
+        ensures { self.new ≡ tallies_of plant.now points.now.entries }
     {
         find_seen(plant, points, plant.air(), &mut self.air);
         find_seen(plant, points, plant.preview(), &mut self.preview);
@@ -60,7 +61,7 @@ impl Tally {
     /// Whether a source is seen at the air roots, or at the preview roots, with the crosspoints from which the tally was found.
     pub fn is_seen(&self, plant: &Plant, roots: Roots, source: SourceId) -> bool
         requires { source < sources_of plant.now }
-        ensures { (points : Crosspoints) → self.now ≡ tallies_of plant.now points
+        ensures { (points : carried.Crosspoints) → self.now ≡ tallies_of plant.now points
             → result ≡ is_seen plant.now points (roots_of plant.now roots) source }
     {
         // So it is known that the plant is within its limits.
@@ -71,8 +72,8 @@ impl Tally {
     /// Whether a destination is live for the air roots, or for the preview roots.
     pub fn is_live(&self, graph: &Graph<'_>, roots: Roots, dest: DestId) -> bool
         requires wired { IsWiringOf graph.now.plant.now graph.now.mixers.now }
-        requires found { self.now ≡ tallies_of graph.now.plant.now graph.now.points.now }
-        ensures { result ≡ is_live graph.now.plant.now graph.now.points.now
+        requires found { self.now ≡ tallies_of graph.now.plant.now graph.now.points.now.entries }
+        ensures { result ≡ is_live graph.now.plant.now graph.now.points.now.entries
             (roots_of graph.now.plant.now roots) dest }
     {
         live_is_least();
@@ -85,7 +86,7 @@ impl Tally {
     fn is_fed_bus(&self, graph: &Graph<'_>, roots: Roots, dest: DestId) -> bool
         requires wired { IsWiringOf graph.now.plant.now graph.now.mixers.now }
         requires plant { IsPlant graph.now.plant.now }
-        ensures { result ≡ is_fed_bus graph.now.plant.now graph.now.points.now
+        ensures { result ≡ is_fed_bus graph.now.plant.now graph.now.points.now.entries
             (seen_at self.now roots) dest }
     {
         let Some(device) = graph.device_of(dest) else {

@@ -1,13 +1,14 @@
 //! Tests of what no clause says: that calls succeed, and that the clauses say what was meant.
 
 ghost use Rattle.std.specs.Prelude.{◌≡◌, IfOk};
+ghost use Rattle.plant_config.specs.Plant.{destinations_of};
 ghost use Rattle.mixer_effects.specs.Wiring.{IsWiringOf};
 ghost use Rattle.tally.specs.Tally.{tallies_of, CarrySources};
 
 use crate::{Roots, Tally};
 use crosspoint_state::{Crosspoints, Spot};
 use mixer_effects::{Graph, Mixers};
-use plant_config::{DestId, MAX_DESTINATIONS, Plant, SourceId};
+use plant_config::{DestId, Plant, SourceId};
 use std::alloc::{AllocError, Global};
 use std::process::Abort;
 use std::test::Fail;
@@ -46,10 +47,12 @@ panel = [{ device = 1, port = 9001 }]
 
 // Gives a destination a source.
 fn give(rt: &impl Abort, plant: &Plant, points: &mut Crosspoints, dest: u32, source: u32)
-    requires { CarrySources plant.now points.old }
-    ensures { CarrySources plant.now points.new }
+    requires room { points.old.room ≡ destinations_of plant.now }
+    requires carried { CarrySources plant.now points.old.entries }
+    ensures room { points.new.room ≡ points.old.room }
+    ensures carried { CarrySources plant.now points.new.entries }
 {
-    assert!(rt; dest < MAX_DESTINATIONS);
+    assert!(rt; dest < plant.destination_count());
     assert!(rt; source < plant.source_count());
     let source = SourceId::of(source);
     points.set(DestId::of(dest), Some(Spot { source, tie: None }));
@@ -62,9 +65,9 @@ fn carried(
     plant: &Plant,
     given: &[(u32, u32)],
 ) -> Result<Crosspoints, AllocError>
-    ensures { IfOk result (λ points. CarrySources plant.now points) }
+    ensures { IfOk result (λ points. CarrySources plant.now points.entries) }
 {
-    let mut points = Crosspoints::new(alloc)?;
+    let mut points = Crosspoints::new(alloc, plant.destination_count())?;
     for (dest, source) in given {
         give(rt, plant, &mut points, *dest, *source);
     }
@@ -99,7 +102,7 @@ fn live(
     roots: Roots,
 ) -> Result<Vec<u32>, AllocError>
     requires wired { IsWiringOf graph.now.plant.now graph.now.mixers.now }
-    requires found { tally.now ≡ tallies_of graph.now.plant.now graph.now.points.now }
+    requires found { tally.now ≡ tallies_of graph.now.plant.now graph.now.points.now.entries }
 {
     let mut live = Vec::new(alloc);
     for number in 0..graph.plant.destination_count() {

@@ -21,9 +21,9 @@ use Rattle.tie_pools.specs.declared.route.Route.{Route}
 use Rattle.tie_pools.specs.Ways.{way_of, source_way}
 use Rattle.tie_pools.specs.Counts.{Counts, AreCountsOf, tie_limit, count_at}
 use Rattle.tie_pools.specs.CountsInside.{fed_less}
-use Rattle.tie_pools.specs.DemandInside.{AreDemandOf, route_of, HasRoom}
+use Rattle.tie_pools.specs.DemandInside.{AreDemandOf, route_of, IsRoute, HasRoom}
 use Rattle.tie_pools.specs.HoldingsInside.{freed, tie_for}
-use Rattle.tie_pools.specs.CommitInside.{demand_of, holdings_of, counts_of, left_from, come_to}
+use Rattle.tie_pools.specs.CommitInside.{demand_of, holdings_of, counts_of, HavePlaces, left_from, come_to}
 use Rattle.tie_pools.proofs.Searches.{any_counted}
 use Rattle.tie_pools.proofs.Inserted.{before, behind, with_feed, occupied_put}
 use Rattle.tie_pools.proofs.WayLemmas.{ComesByWay, source_way_is, no_way}
@@ -44,9 +44,10 @@ size_few plant pool is = by (slice_get plant.pools pool) refl
         omega (arith, ties, same)
 
 -- crosspoints that hold the same of each pool have the same counts
-same_counts : (plant : PlantData) (one other : Crosspoints) (counts : Counts) → ((pool : ℕ) → occupied plant one pool ≡ occupied plant other pool) → AreCountsOf plant one counts → AreCountsOf plant other counts
+pub same_counts : (plant : PlantData) (one other : Crosspoints) (counts : Counts) → ((pool : ℕ) → occupied plant one pool ≡ occupied plant other pool) → AreCountsOf plant one counts → AreCountsOf plant other counts
 same_counts plant one other counts same counted = record {
   ways = counted.ways;
+  room = counted.room;
   fed = λ pool origin way is. counted.fed pool origin way is ∙ ap (count_by (has_origin origin)) (same pool);
   used = λ pool. counted.used pool ∙ ap (λ feeds. distinct_count nat_eq (map (λ (feed : Feed). feed.origin) feeds)) (same pool);
   ties = λ pool origin way is. counted.ties pool origin way is ∙ ap (λ feeds. option_and_then (λ (feed : Feed). feed.tie) (find (has_origin origin) feeds)) (same pool);
@@ -122,14 +123,32 @@ comes_by_route plant points dest spot route tie inside routed tied below valid =
       };
     }
 
+-- the demand is a part of the counts
+demand_counted : (plant : PlantData) (points : Crosspoints) (counts : Counts) → AreCountsOf plant points counts → AreDemandOf plant points (demand_of counts)
+demand_counted plant points counts counted = record {
+  room = record { fed = counted.room.fed; used = counted.room.used };
+  fed = counted.fed;
+  used = counted.used;
+}
+
+-- there is room for a route of the plant
+pub route_placed : (plant : PlantData) (points : Crosspoints) (counts : Counts) (route : Route) → IsPlant plant → IsRoute plant route → AreCountsOf plant points counts → HavePlaces counts route
+route_placed plant points counts route is routed counted = record {
+  few = omega (arith, routed.pool, is.linked.pools.0.1);
+  used = omega (arith, routed.pool, counted.room.used);
+  fed = omega (arith, routed.way, counted.room.fed);
+  ties = omega (arith, routed.way, counted.room.ties);
+  held = λ tie below. omega (arith, routed.pool, below, counted.room.held);
+}
+
 -- the counts behind a destination that leaves
 counts_left : (plant : PlantData) (points : Crosspoints) (dest : ℕ) (spot : Spot) (route : Route) (tie : ℕ) (counts : Counts) → ComesByRoute plant points dest spot route tie → AreCountsOf plant (put points dest (Some spot)) counts → AreCountsOf plant (put points dest None) (left_from counts route tie)
 counts_left plant points dest spot route tie counts comes counted = by (list_any (has_origin comes.origin) (occupied plant (put points dest None) route.pool)) refl
   where
     demand : AreDemandOf plant (put points dest None) (fed_less (demand_of counts) route.pool route.way)
-    demand = demand_unfed plant points dest spot route.pool comes.origin route.way comes.tied.inside comes.tied.pooled comes.tied.stands comes.tied.is (demand_of counts) (record { fed = counted.fed; used = counted.used })
+    demand = demand_unfed plant points dest spot route.pool comes.origin route.way comes.tied.inside comes.tied.pooled comes.tied.stands comes.tied.is (demand_of counts) (demand_counted plant (put points dest (Some spot)) counts counted)
 
-    still : nat_lt 0 (count_at (fed_less (demand_of counts) route.pool route.way).fed route.way) ≡ list_any (has_origin comes.origin) (occupied plant (put points dest None) route.pool)
+    still : nat_lt 0 (count_at (fed_less (demand_of counts) route.pool route.way).fed.entries route.way) ≡ list_any (has_origin comes.origin) (occupied plant (put points dest None) route.pool)
     still =
         ap (nat_lt 0) (demand.fed route.pool comes.origin route.way comes.tied.is)
         ∙ any_counted (has_origin comes.origin) (occupied plant (put points dest None) route.pool)
@@ -140,29 +159,32 @@ counts_left plant points dest spot route tie counts comes counted = by (list_any
     by : (b : Bool) → list_any (has_origin comes.origin) (occupied plant (put points dest None) route.pool) ≡ b → AreCountsOf plant (put points dest None) (left_from counts route tie)
     by true fed = subst (λ b. AreCountsOf plant (put points dest None) (left_as b)) (sym (still ∙ fed)) (record {
       ways = counted.ways;
+      room = record { fed = counted.room.fed; used = counted.room.used; ties = counted.room.ties; held = counted.room.held };
       fed = demand.fed;
       used = demand.used;
-      ties = ties_stay plant points dest spot route.pool comes.origin route.way tie comes.tied counts.ties counted.ties fed;
-      held = held_stay plant points dest spot route.pool comes.origin route.way tie comes.tied counts.held counted.held fed;
+      ties = ties_stay plant points dest spot route.pool comes.origin route.way tie comes.tied counts.ties.entries counted.ties fed;
+      held = held_stay plant points dest spot route.pool comes.origin route.way tie comes.tied counts.held.entries counted.held fed;
     })
     by false unfed = subst (λ b. AreCountsOf plant (put points dest None) (left_as b)) (sym (still ∙ unfed)) (record {
       ways = counted.ways;
+      room = record { fed = counted.room.fed; used = counted.room.used; ties = counted.room.ties; held = counted.room.held };
       fed = demand.fed;
       used = demand.used;
-      ties = ties_freed plant points dest spot route.pool comes.origin route.way tie comes.tied counts.ties counted.ties unfed;
-      held = held_freed plant points dest spot route.pool comes.origin route.way tie comes.tied counts.held counted.held unfed;
+      ties = ties_freed plant points dest spot route.pool comes.origin route.way tie comes.tied counts.ties.entries counted.ties unfed;
+      held = held_freed plant points dest spot route.pool comes.origin route.way tie comes.tied counts.held.entries counted.held unfed;
     })
 
 -- the counts with a destination that comes
 counts_come : (plant : PlantData) (points : Crosspoints) (dest : ℕ) (spot : Spot) (route : Route) (tie : ℕ) (counts : Counts) → ComesByRoute plant points dest spot route tie → AreCountsOf plant (put points dest None) counts → AreCountsOf plant (put points dest (Some spot)) (come_to counts route tie)
 counts_come plant points dest spot route tie counts comes counted =
-    let demand = demand_fed plant points dest spot route.pool comes.origin route.way comes.tied.inside comes.tied.pooled comes.tied.stands comes.tied.is (demand_of counts) (record { fed = counted.fed; used = counted.used }) in
+    let demand = demand_fed plant points dest spot route.pool comes.origin route.way comes.tied.inside comes.tied.pooled comes.tied.stands comes.tied.is (demand_of counts) (demand_counted plant (put points dest None) counts counted) in
     record {
       ways = counted.ways;
+      room = record { fed = counted.room.fed; used = counted.room.used; ties = counted.room.ties; held = counted.room.held };
       fed = demand.fed;
       used = demand.used;
-      ties = ties_given plant points dest spot route.pool comes.origin route.way tie comes.tied counts.ties counted.ties;
-      held = held_given plant points dest spot route.pool comes.origin route.way tie comes.tied counts.held route.way counted.held;
+      ties = ties_given plant points dest spot route.pool comes.origin route.way tie comes.tied counts.ties.entries counted.ties;
+      held = held_given plant points dest spot route.pool comes.origin route.way tie comes.tied counts.held.entries route.way counted.held;
     }
 
 -- a destination of the plant is parked
@@ -262,4 +284,4 @@ module _ (plant : PlantData) (points : Crosspoints) (dest source : ℕ) (counts 
   pub brought_room : (route : Route) → IsPlant plant → route_of plant (Some source) ≡ Some route → HasRoom (demand_of counts) route
   brought_room route is routed =
       subst (λ found. IfSome found (HasRoom (demand_of counts))) routed
-      (has_room plant points (demand_of counts) (Some source) is (record { fed = counted.fed; used = counted.used }))
+      (has_room plant points (demand_of counts) (Some source) is (demand_counted plant points counts counted))

@@ -79,81 +79,84 @@ module _ (plant : PlantData) (points : Crosspoints) (dest : ℕ) (spot : Spot) (
 
   pub demand_fed : (demand : Demand) → AreDemandOf plant (put points dest None) demand → AreDemandOf plant (put points dest (Some spot)) (fed_more demand pool way)
   demand_fed demand counted = record {
+    room = record { fed = counted.room.fed; used = counted.room.used };
     fed = λ p o w e. fed p o w e (cases_eq w way);
     used = λ p. used p (cases_eq p pool);
   }
     where
-      fed : (p o w : ℕ) → way_of plant p o ≡ Some w → (w ≡ way) ⊎ (w ≢ way) → count_at (more_at demand.fed way) w ≡ fed_by plant (put points dest (Some spot)) p o
+      fed : (p o w : ℕ) → way_of plant p o ≡ Some w → (w ≡ way) ⊎ (w ≢ way) → count_at (more_at demand.fed.entries way) w ≡ fed_by plant (put points dest (Some spot)) p o
       fed p o w e (inl here) =
           let same = ways_differ plant p o pool origin w e (is ∙ ap Some (sym here)) in
-          ap (count_at (more_at demand.fed way)) here
-          ∙ count_same demand.fed way (count_at demand.fed way + 1)
+          ap (count_at (more_at demand.fed.entries way)) here
+          ∙ count_same demand.fed.entries way (count_at demand.fed.entries way + 1)
           ∙ ap (λ n. n + 1) (counted.fed pool origin way is)
           ∙ sym fed_own
           ∙ ap (λ p. fed_by plant (put points dest (Some spot)) p origin) (sym same.0)
           ∙ ap (fed_by plant (put points dest (Some spot)) p) (sym same.1)
       fed p o w e (inr there) =
-          count_other demand.fed way (count_at demand.fed way + 1) w there
+          count_other demand.fed.entries way (count_at demand.fed.entries way + 1) w there
           ∙ counted.fed p o w e
           ∙ sym (fed_other p o w e there)
 
-      used : (p : ℕ) → (p ≡ pool) ⊎ (p ≢ pool) → count_at (fed_more demand pool way).used p ≡ wanted plant (put points dest (Some spot)) p
+      used : (p : ℕ) → (p ≡ pool) ⊎ (p ≢ pool) → count_at (fed_more demand pool way).used.entries p ≡ wanted plant (put points dest (Some spot)) p
       used p (inl here) =
-          ap (count_at (fed_more demand pool way).used) here
-          ∙ more_if demand.used pool (nat_eq (count_at demand.fed way) 0)
-          ∙ ap (λ n. n + cond (nat_eq (count_at demand.fed way) 0) 1 0) (counted.used pool)
+          ap (count_at (fed_more demand pool way).used.entries) here
+          ∙ more_if demand.used.entries pool (nat_eq (count_at demand.fed.entries way) 0)
+          ∙ ap (λ n. n + cond (nat_eq (count_at demand.fed.entries way) 0) 1 0) (counted.used pool)
           ∙ ap (λ n. wanted plant (put points dest None) pool + cond (nat_eq n 0) 1 0) (counted.fed pool origin way is)
           ∙ sym wanted_own
           ∙ ap (wanted plant (put points dest (Some spot))) (sym here)
       used p (inr there) =
-          more_if_other demand.used pool p (nat_eq (count_at demand.fed way) 0) there
+          more_if_other demand.used.entries pool p (nat_eq (count_at demand.fed.entries way) 0) there
           ∙ counted.used p
           ∙ sym (wanted_other p there)
 
   pub demand_unfed : (demand : Demand) → AreDemandOf plant (put points dest (Some spot)) demand → AreDemandOf plant (put points dest None) (fed_less demand pool way)
   demand_unfed demand counted = record {
+    room = record { fed = counted.room.fed; used = counted.room.used };
     fed = λ p o w e. fed p o w e (cases_eq w way);
     used = λ p. used p (cases_eq p pool);
   }
     where
-      count_was : count_at demand.fed way ≡ fed_by plant (put points dest None) pool origin + 1
+      count_was : count_at demand.fed.entries way ≡ fed_by plant (put points dest None) pool origin + 1
       count_was = counted.fed pool origin way is ∙ fed_own
 
-      fed : (p o w : ℕ) → way_of plant p o ≡ Some w → (w ≡ way) ⊎ (w ≢ way) → count_at (fewer_at demand.fed way) w ≡ fed_by plant (put points dest None) p o
+      fed : (p o w : ℕ) → way_of plant p o ≡ Some w → (w ≡ way) ⊎ (w ≢ way) → count_at (fewer_at demand.fed.entries way) w ≡ fed_by plant (put points dest None) p o
       fed p o w e (inl here) =
           let same = ways_differ plant p o pool origin w e (is ∙ ap Some (sym here)) in
-          let less : count_at demand.fed way - 1 ≡ fed_by plant (put points dest None) pool origin = omega (arith, count_was) in
-          ap (count_at (fewer_at demand.fed way)) here
-          ∙ count_same demand.fed way (count_at demand.fed way - 1)
+          let less : count_at demand.fed.entries way - 1 ≡ fed_by plant (put points dest None) pool origin = omega (arith, count_was) in
+          ap (count_at (fewer_at demand.fed.entries way)) here
+          ∙ count_same demand.fed.entries way (count_at demand.fed.entries way - 1)
           ∙ less
           ∙ ap (λ p. fed_by plant (put points dest None) p origin) (sym same.0)
           ∙ ap (fed_by plant (put points dest None) p) (sym same.1)
       fed p o w e (inr there) =
-          count_other demand.fed way (count_at demand.fed way - 1) w there
+          count_other demand.fed.entries way (count_at demand.fed.entries way - 1) w there
           ∙ counted.fed p o w e
           ∙ fed_other p o w e there
 
       -- it was the only one exactly where none is fed behind
-      last : nat_eq (count_at demand.fed way) 1 ≡ nat_eq (fed_by plant (put points dest None) pool origin) 0
+      last : nat_eq (count_at demand.fed.entries way) 1 ≡ nat_eq (fed_by plant (put points dest None) pool origin) 0
       last = ap (λ n. nat_eq n 1) count_was ∙ one_more (fed_by plant (put points dest None) pool origin)
 
-      used : (p : ℕ) → (p ≡ pool) ⊎ (p ≢ pool) → count_at (fed_less demand pool way).used p ≡ wanted plant (put points dest None) p
+      used : (p : ℕ) → (p ≡ pool) ⊎ (p ≢ pool) → count_at (fed_less demand pool way).used.entries p ≡ wanted plant (put points dest None) p
       used p (inl here) =
           let was = counted.used pool ∙ wanted_own in
-          let less : count_at demand.used pool - cond (nat_eq (fed_by plant (put points dest None) pool origin) 0) 1 0 ≡ wanted plant (put points dest None) pool = omega (arith, was) in
-          ap (count_at (fed_less demand pool way).used) here
-          ∙ fewer_if demand.used pool (nat_eq (count_at demand.fed way) 1)
-          ∙ ap (λ b. count_at demand.used pool - cond b 1 0) last
+          let less : count_at demand.used.entries pool - cond (nat_eq (fed_by plant (put points dest None) pool origin) 0) 1 0 ≡ wanted plant (put points dest None) pool = omega (arith, was) in
+          ap (count_at (fed_less demand pool way).used.entries) here
+          ∙ fewer_if demand.used.entries pool (nat_eq (count_at demand.fed.entries way) 1)
+          ∙ ap (λ b. count_at demand.used.entries pool - cond b 1 0) last
           ∙ less
           ∙ ap (wanted plant (put points dest None)) (sym here)
       used p (inr there) =
-          fewer_if_other demand.used pool p (nat_eq (count_at demand.fed way) 1) there
+          fewer_if_other demand.used.entries pool p (nat_eq (count_at demand.fed.entries way) 1) there
           ∙ counted.used p
           ∙ wanted_other p there
 
 -- crosspoints of which the same is counted have the same demand
 same_counts : (plant : PlantData) (one other : Crosspoints) (demand : Demand) → ((pool origin : ℕ) → fed_by plant one pool origin ≡ fed_by plant other pool origin) → ((pool : ℕ) → wanted plant one pool ≡ wanted plant other pool) → AreDemandOf plant one demand → AreDemandOf plant other demand
 same_counts plant one other demand fed used counted = record {
+  room = counted.room;
   fed = λ pool origin way e. counted.fed pool origin way e ∙ fed pool origin;
   used = λ pool. counted.used pool ∙ used pool;
 }

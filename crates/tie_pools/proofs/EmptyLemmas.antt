@@ -8,9 +8,9 @@ use Rattle.std.specs.FinMap as finite
 use Rattle.number_map.specs.Table.{Entries}
 use Rattle.plant_config.specs.Plant.{PlantData, destinations_of}
 use Rattle.crosspoint_state.specs.Ties.{Feed, feed_of, occupied}
-use Rattle.tie_pools.specs.Counts.{Counts, tie_place, AreWays, AreCountsOf}
+use Rattle.tie_pools.specs.Counts.{Counts, tie_place, AreWays, AreCountsFor, AreCountsOf}
 
-nothing_found : {Y : Type 0} (h : ℕ → Option Y) (a n : ℕ) → ((k : ℕ) → h k ≡ None) → filter_map h (range_with_len a n) ≡ []
+pub nothing_found : {Y : Type 0} (h : ℕ → Option Y) (a n : ℕ) → ((k : ℕ) → h k ≡ None) → filter_map h (range_with_len a n) ≡ []
 nothing_found h a zero none = refl
 nothing_found h a (suc n) none =
     ap (λ first. cons_option first (filter_map h (range_with_len (a + 1) n))) (none a) ∙ nothing_found h (a + 1) n none
@@ -27,19 +27,20 @@ none_at : (counts : Entries ℕ) (number : ℕ) → counts ≡ finite.empty → 
 none_at counts number empty = ap (λ (counts : Entries ℕ). finite.get counts number) empty ∙ finite.get-empty nat_cmp number
 
 -- the counts at the start
-pub counts_empty : (plant : PlantData) (counts : Counts) → AreWays plant counts.ways → counts.fed ≡ finite.empty → counts.used ≡ finite.empty → counts.ties ≡ finite.empty → counts.held ≡ finite.empty → AreCountsOf plant finite.empty counts
-counts_empty plant counts ways fed used ties held = record {
+pub counts_empty : (plant : PlantData) (counts : Counts) → AreWays plant counts.ways → AreCountsFor plant counts → counts.fed.entries ≡ finite.empty → counts.used.entries ≡ finite.empty → counts.ties.entries ≡ finite.empty → counts.held.entries ≡ finite.empty → AreCountsOf plant finite.empty counts
+counts_empty plant counts ways room fed used ties held = record {
   ways = ways;
+  room = room;
   fed = λ pool origin way is.
-      ap (λ count. option_map_or (λ (count : ℕ). count) count 0) (none_at counts.fed way fed)
+      ap (λ count. option_map_or (λ (count : ℕ). count) count 0) (none_at counts.fed.entries way fed)
       ∙ sym (ap (λ feeds. count_by (λ (feed : Feed). feed.origin == origin) feeds) (occupied_empty plant pool));
   used = λ pool.
-      ap (λ count. option_map_or (λ (count : ℕ). count) count 0) (none_at counts.used pool used)
+      ap (λ count. option_map_or (λ (count : ℕ). count) count 0) (none_at counts.used.entries pool used)
       ∙ sym (ap (λ feeds. distinct_count nat_eq (map (λ (feed : Feed). feed.origin) feeds)) (occupied_empty plant pool));
   ties = λ pool origin way is.
-      none_at counts.ties way ties
+      none_at counts.ties.entries way ties
       ∙ sym (ap (λ feeds. option_and_then (λ (feed : Feed). feed.tie) (find (λ (feed : Feed). feed.origin == origin) feeds)) (occupied_empty plant pool));
   held = λ pool tie within.
-      ap is_some (none_at counts.held (tie_place pool tie) held)
+      ap is_some (none_at counts.held.entries (tie_place pool tie) held)
       ∙ sym (ap (λ feeds. not (not (list_any (λ (feed : Feed). option_eq nat_eq feed.tie (Some tie)) feeds))) (occupied_empty plant pool));
 }

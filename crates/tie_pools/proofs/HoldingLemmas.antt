@@ -225,11 +225,11 @@ module _ (plant : PlantData) (points : Crosspoints) (dest : ℕ) (spot : Spot) (
       ap is_some (get-put_other held (tie_place pool tie) (Some holder) (tie_place p t) differ) ∙ have p t below ∙ ap (λ b. not (not b)) (sym (held_apart p t apart)))
 
 -- the tie that is kept for a way, or else the lowest that isn't held, is the one that is chosen for its sources
-pub chosen_is : (plant : PlantData) (points : Crosspoints) (source pool origin way : ℕ) (holdings : Holdings) → pool_of plant source ≡ Some pool → origin_of plant source ≡ Some origin → way_of plant pool origin ≡ Some way → size_of plant pool ≤ tie_limit → HaveTies plant points holdings.ties → HoldTies plant points holdings.held → tie_for holdings pool (size_of plant pool) way ≡ chosen_tie plant points source
+pub chosen_is : (plant : PlantData) (points : Crosspoints) (source pool origin way : ℕ) (holdings : Holdings) → pool_of plant source ≡ Some pool → origin_of plant source ≡ Some origin → way_of plant pool origin ≡ Some way → size_of plant pool ≤ tie_limit → HaveTies plant points holdings.ties.entries → HoldTies plant points holdings.held.entries → tie_for holdings pool (size_of plant pool) way ≡ chosen_tie plant points source
 unfolding chosen_tie
 chosen_is plant points source pool origin way holdings pooled stands is few ties held =
     ap (λ tie. option_or tie (lowest_unheld holdings pool (size_of plant pool))) (ties pool origin way is)
-    ∙ ap (option_or (tie_beside plant points pool origin)) (find_alike (λ tie. is_none (finite.get holdings.held (tie_place pool tie))) (is_free plant points pool) 0 (size_of plant pool) (λ tie below.
+    ∙ ap (option_or (tie_beside plant points pool origin)) (find_alike (λ tie. is_none (finite.get holdings.held.entries (tie_place pool tie))) (is_free plant points pool) 0 (size_of plant pool) (λ tie below.
     ap not (held pool tie (omega (arith, below, few))) ∙ thrice (list_any (has_tie tie) (occupied plant points pool))))
     ∙ sym picked
   where

@@ -11,3 +11,4 @@ pub mod Searches
 pub mod HoldingLemmas
 pub mod EachLemmas
 pub mod CommitLemmas
+pub mod WithoutPools

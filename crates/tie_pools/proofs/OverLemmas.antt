@@ -34,7 +34,7 @@ abbrev fault_of : ℕ → ℕ → ℕ → Exhausted
 fault_of pool wanted size = record { pool = pool; wanted = wanted; size = size }
 
 -- a pool that is searched after all lower ones
-module _ (plant : PlantData) (demand : Demand) (n wanted size : ℕ) (within : n < length plant.pools) (counts : wanted ≡ count_at demand.used n) (ties : size ≡ size_of plant n) (lower : find (is_over plant demand) (range_with_len n (length plant.pools - n)) ≡ find (is_over plant demand) (range_with_len 0 (length plant.pools))) where
+module _ (plant : PlantData) (demand : Demand) (n wanted size : ℕ) (within : n < length plant.pools) (counts : wanted ≡ count_at demand.used.entries n) (ties : size ≡ size_of plant n) (lower : find (is_over plant demand) (range_with_len n (length plant.pools - n)) ≡ find (is_over plant demand) (range_with_len 0 (length plant.pools))) where
   here : (b : Bool) → is_over plant demand n ≡ b → find (is_over plant demand) (range_with_len 0 (length plant.pools)) ≡ cond b (Some n) (find (is_over plant demand) (range_with_len (n + 1) (length plant.pools - (n + 1))))
   here b e =
       sym lower
@@ -43,16 +43,16 @@ module _ (plant : PlantData) (demand : Demand) (n wanted size : ℕ) (within : n
 
   pub over_at : (pool : ℕ) → pool ≡ n → size < wanted → Some (fault_of pool wanted size) ≡ over plant demand
   over_at pool same more =
-      let fails : nat_le (count_at demand.used n) (size_of plant n) ≡ false = false_from_ne_true _ (λ e.
-      let fits = leb-true (count_at demand.used n) (size_of plant n) e in
+      let fails : nat_le (count_at demand.used.entries n) (size_of plant n) ≡ false = false_from_ne_true _ (λ e.
+      let fits = leb-true (count_at demand.used.entries n) (size_of plant n) e in
       omega (arith, fits, counts, ties, more)) in
       ap (λ pool. Some (fault_of pool wanted size)) same
       ∙ ap (λ wanted. Some (fault_of n wanted size)) counts
-      ∙ ap (λ size. Some (fault_of n (count_at demand.used n) size)) ties
+      ∙ ap (λ size. Some (fault_of n (count_at demand.used.entries n) size)) ties
       ∙ ap (option_map (measured plant demand)) (sym (here true (ap not fails)))
 
   pub not_over_at : wanted ≤ size → find (is_over plant demand) (range_with_len (n + 1) (length plant.pools - (n + 1))) ≡ find (is_over plant demand) (range_with_len 0 (length plant.pools))
-  not_over_at fits = sym (here false (ap not (le-leb (count_at demand.used n) (size_of plant n) (omega (arith, fits, counts, ties)))))
+  not_over_at fits = sym (here false (ap not (le-leb (count_at demand.used.entries n) (size_of plant n) (omega (arith, fits, counts, ties)))))
 
 module _ (plant : PlantData) (points : Crosspoints) (changes : List Change) (demand : Demand) (counted : AreDemandOf plant (put_all points changes) demand) where
   exhausted_over : exhausted plant points changes ≡ find (is_over plant demand) (range_with_len 0 (length plant.pools))

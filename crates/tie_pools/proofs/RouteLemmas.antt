@@ -4,8 +4,7 @@ use Rattle.std.specs.Option.{option_map, option_and_then}
 use Rattle.std.specs.FinMap as finite
 use Rattle.number_map.specs.Table.{put}
 use Rattle.number_map.proofs.PutLemmas.{put-get}
-use Rattle.plant_config.specs.Limits.{all_sources_limit}
-use Rattle.plant_config.specs.Plant.{PlantData, destinations_of}
+use Rattle.plant_config.specs.Plant.{PlantData, destinations_of, sources_of}
 use Rattle.plant_config.specs.Sources.{pool_of}
 use Rattle.plant_config.specs.IsPlant.{IsPlant}
 use Rattle.crosspoint_state.specs.declared.spot.Spot.{Spot}
@@ -107,8 +106,8 @@ has_room plant points demand source is counted = by (route_of plant source) refl
         }
 
 -- a way is one of the sources of the plant
-pub way_below : (plant : PlantData) (source way : ℕ) → IsPlant plant → source_way plant source ≡ Some way → way < all_sources_limit
+pub way_below : (plant : PlantData) (source way : ℕ) → IsPlant plant → source_way plant source ≡ Some way → way < sources_of plant
 way_below plant source way is e =
     let comes = source_way_is plant source way e in
     let below = (way_is plant comes.pool comes.origin way comes.is).2 in
-    omega (arith, below, is.named.sources, is.sources)
+    omega (arith, below, is.named.sources)

@@ -1,5 +1,5 @@
 -- How a list of changes is made: it is gone through twice, to release destinations and then to give them their sources.
-use Rattle.std.specs.Prelude.{◌≡◌, ℕ, nat_lt, false, if◌then◌else◌, List, [], ◌∷◌, Contains, None}
+use Rattle.std.specs.Prelude.{◌≡◌, ℕ, ◌<◌, nat_lt, false, if◌then◌else◌, List, [], ◌∷◌, Contains, None}
 use Rattle.std.specs.FinMap.{get, remove}
 use Rattle.number_map.specs.Table.{Entries}
 use Rattle.plant_config.specs.declared.records.Change.{Change}
@@ -7,7 +7,7 @@ use Rattle.plant_config.specs.Plant.{PlantData}
 use Rattle.crosspoint_state.specs.Crosspoints.{Crosspoints, is_idle}
 use Rattle.crosspoint_state.specs.Applied.{given}
 use Rattle.tie_pools.specs.declared.route.Route.{Route}
-use Rattle.tie_pools.specs.Counts.{Counts, count_at}
+use Rattle.tie_pools.specs.Counts.{Counts, count_at, tie_limit, tie_place}
 use Rattle.tie_pools.specs.CountsInside.{Demand, fed_more, fed_less}
 use Rattle.tie_pools.specs.HoldingsInside.{Holdings, holding, freed}
 
@@ -55,12 +55,20 @@ counts_of ways demand holdings = record {
   held = holdings.held;
 }
 
+-- There is room for a route: for its pool, of which a plant has at most 256, for its way, and for its ties.
+pub record HavePlaces (counts : Counts) (route : Route) : Type 0 where
+  pub few : route.pool < 256
+  pub used : route.pool < counts.used.room
+  pub fed : route.way < counts.fed.room
+  pub ties : route.way < counts.ties.room
+  pub held : (tie : ℕ) → tie < tie_limit → tie_place route.pool tie < counts.held.room
+
 -- A destination leaves a route whose tie is this. If it was the last, the tie is held no longer.
 abbrev pub left_from : Counts → Route → ℕ → Counts
 left_from counts route tie =
     let demand = fed_less (demand_of counts) route.pool route.way in
     counts_of counts.ways demand
-    (if nat_lt 0 (count_at demand.fed route.way) then holdings_of counts
+    (if nat_lt 0 (count_at demand.fed.entries route.way) then holdings_of counts
     else freed (holdings_of counts) route.pool route.way tie)
 
 -- A destination comes to a route, and this is its tie.

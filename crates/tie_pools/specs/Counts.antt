@@ -1,12 +1,12 @@
 -- What is kept of the ties beside the crosspoints: counts and tables that say the same as they do.
-use Rattle.std.specs.Prelude.{◌≡◌, ℕ, ◌+◌, ◌*◌, ◌<◌, ◌==◌, not, Some, refl, is_some}
+use Rattle.std.specs.Prelude.{◌≡◌, ℕ, ◌+◌, ◌*◌, ◌<◌, ◌==◌, not, length, Some, refl, is_some}
 use Rattle.std.specs.List.{count_by}
 use Rattle.std.specs.Option.{option_map_or}
 use Rattle.std.specs.Ordering.{nat_cmp}
 use Rattle.std.specs.Coded.{Coded, code_by, coded×, coded_ℕ}
 use Rattle.std.specs.FinMap.{get, code}
-use Rattle.number_map.specs.Table.{Entries}
-use Rattle.plant_config.specs.Plant.{PlantData}
+use Rattle.number_map.specs.Table.{Entries, Table, code as table_code}
+use Rattle.plant_config.specs.Plant.{PlantData, sources_of}
 use Rattle.crosspoint_state.specs.Crosspoints.{Crosspoints}
 use Rattle.crosspoint_state.specs.Ties.{Feed, occupied, wanted, tie_beside, is_free}
 use Rattle.tie_pools.specs.Ways.{way_of, source_way}
@@ -18,24 +18,27 @@ tie_limit = 1024
 abbrev pub tie_place : ℕ → ℕ → ℕ
 tie_place pool tie = pool * tie_limit + tie
 
--- the way of each remote source; how many destinations each way feeds, and how many ways of each pool feed some; the tie of
--- each way that feeds some; and the places of the ties that are held
+-- the way of each remote source; and as tables, how many destinations each way feeds, and how many ways of each pool feed
+-- some; the tie of each way that feeds some; and the places of the ties that are held
 pub record Counts : Type 0 where
   pub ways : Entries ℕ
-  pub fed : Entries ℕ
-  pub used : Entries ℕ
-  pub ties : Entries ℕ
-  pub held : Entries ℕ
+  pub fed : Table ℕ
+  pub used : Table ℕ
+  pub ties : Table ℕ
+  pub held : Table ℕ
 
 -- counts are stored as the tuple of their fields
 abbrev pub entries_code : Coded (Entries ℕ)
 entries_code = code {R = nat_cmp} coded_ℕ coded_ℕ
 
+abbrev pub numbers_code : Coded (Table ℕ)
+numbers_code = table_code coded_ℕ
+
 abbrev pub counts_code : Coded Counts
 counts_code =
-    code_by (Entries ℕ × (Entries ℕ × (Entries ℕ × (Entries ℕ × Entries ℕ))))
-    (coded× entries_code (coded× entries_code
-    (coded× entries_code (coded× entries_code entries_code))))
+    code_by (Entries ℕ × (Table ℕ × (Table ℕ × (Table ℕ × Table ℕ))))
+    (coded× entries_code (coded× numbers_code
+    (coded× numbers_code (coded× numbers_code numbers_code))))
     (λ counts. (counts.ways, (counts.fed, (counts.used, (counts.ties, counts.held)))))
     (λ tuple. record {
       ways = tuple.0;
@@ -80,11 +83,19 @@ abbrev pub HoldTies : PlantData → Crosspoints → Entries ℕ → Type 0
 HoldTies plant crosspoints held = (pool tie : ℕ) → tie < tie_limit
     → is_some (get held (tie_place pool tie)) ≡ not (is_free plant crosspoints pool tie)
 
--- The counts are those of the crosspoints.
+-- The tables have room for all ways, which are sources, for all pools, and for all ties of these.
+pub record AreCountsFor (plant : PlantData) (counts : Counts) : Type 0 where
+  pub fed : counts.fed.room ≡ sources_of plant
+  pub used : counts.used.room ≡ length plant.pools
+  pub ties : counts.ties.room ≡ sources_of plant
+  pub held : counts.held.room ≡ length plant.pools * tie_limit
+
+-- The counts are those of the crosspoints, with room for all of the plant.
 pub record AreCountsOf (plant : PlantData) (crosspoints : Crosspoints) (counts : Counts)
     : Type 0 where
   pub ways : AreWays plant counts.ways
-  pub fed : CountFed plant crosspoints counts.fed
-  pub used : CountUsed plant crosspoints counts.used
-  pub ties : HaveTies plant crosspoints counts.ties
-  pub held : HoldTies plant crosspoints counts.held
+  pub room : AreCountsFor plant counts
+  pub fed : CountFed plant crosspoints counts.fed.entries
+  pub used : CountUsed plant crosspoints counts.used.entries
+  pub ties : HaveTies plant crosspoints counts.ties.entries
+  pub held : HoldTies plant crosspoints counts.held.entries

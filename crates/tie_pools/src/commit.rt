@@ -1,6 +1,6 @@
 //! A planned list of changes is made.
 
-ghost use Rattle.std.specs.Prelude.{◌≡◌, ◌<◌, ◌≤◌, true, IfSome};
+ghost use Rattle.std.specs.Prelude.{◌≡◌, ◌<◌, ◌≤◌, true, All, IfSome};
 ghost use Rattle.std.specs.Prelude.{Option, None, Some};
 ghost use Rattle.std.specs.FinMap.{get, remove};
 ghost use Rattle.plant_config.specs.declared.records.Pool.{Pool};
@@ -9,13 +9,14 @@ ghost use Rattle.plant_config.specs.IsPlant.{IsPlant};
 ghost use Rattle.crosspoint_state.specs.declared.spot.Spot.{Spot};
 ghost use Rattle.crosspoint_state.specs.Crosspoints.{NamesOnce};
 ghost use Rattle.crosspoint_state.specs.Ties.{size_of, HaveValidTies};
-ghost use Rattle.crosspoint_state.specs.Applied.{given, applied, are_enough};
+ghost use Rattle.crosspoint_state.specs.Applied.{given, applied, untied, put_all, are_enough};
 ghost use Rattle.crosspoint_state.specs.Laws.{AreInside};
 ghost use Rattle.tie_pools.specs.Counts.{AreCountsOf, tie_limit};
-ghost use Rattle.tie_pools.specs.DemandInside.{IsRoute, HasRoom};
+ghost use Rattle.tie_pools.specs.DemandInside.{HasRoom};
 ghost use Rattle.tie_pools.specs.HoldingsInside.{tie_for};
 ghost use Rattle.tie_pools.specs.CommitInside.{released_one, released_each};
 ghost use Rattle.tie_pools.specs.CommitInside.{given_one, given_each, IsReady, AreReady};
+ghost use Rattle.tie_pools.specs.CommitInside.{HavePlaces};
 ghost use Rattle.tie_pools.specs.CommitInside.{demand_of, holdings_of, left_from, come_to};
 
 use crate::planned::Planned;
@@ -28,6 +29,7 @@ impl Ties {
     /// Makes a planned list of changes as one. All destinations that get another source are released, and then each is given
     /// its source in the order of the list: by the tie that brings its origin already, else by the lowest free one. A
     /// destination of an idle change keeps its tie.
+    #[inline]
     pub fn commit(
         &mut self,
         plant: &Plant,
@@ -37,16 +39,39 @@ impl Ties {
     )
         requires dests { AreInside plant.now changes.now }
         requires once { NamesOnce changes.now }
-        requires counts { AreCountsOf plant.now points.old self.old }
-        requires valid { HaveValidTies plant.now points.old }
-        requires enough { are_enough plant.now points.old changes.now ≡ true }
-        ensures made { points.new ≡ applied plant.now points.old changes.now }
-        ensures counts { AreCountsOf plant.now points.new self.new }
-        ensures valid { HaveValidTies plant.now points.new }
+        requires room { points.old.room ≡ destinations_of plant.now }
+        requires counts { AreCountsOf plant.now points.old.entries self.old }
+        requires valid { HaveValidTies plant.now points.old.entries }
+        requires enough { are_enough plant.now points.old.entries changes.now ≡ true }
+        ensures made { points.new.entries ≡ applied plant.now points.old.entries changes.now }
+        ensures room { points.new.room ≡ points.old.room }
+        ensures counts { AreCountsOf plant.now points.new.entries self.new }
+        ensures valid { HaveValidTies plant.now points.new.entries }
     {
         drop(planned);
-        // So it is known that the plant is within its limits.
-        let _sources = plant.source_count();
+        // On a plant without pools no source comes by a tie.
+        if plant.pools().is_empty() {
+            put_all(points, changes);
+            return;
+        }
+        self.make_all(plant, points, changes);
+    }
+
+    // The same, whatever pools the plant has.
+    #[inline(never)]
+    fn make_all(&mut self, plant: &Plant, points: &mut Crosspoints, changes: &[Change])
+        requires plant { IsPlant plant.now }
+        requires dests { AreInside plant.now changes.now }
+        requires once { NamesOnce changes.now }
+        requires room { points.old.room ≡ destinations_of plant.now }
+        requires counts { AreCountsOf plant.now points.old.entries self.old }
+        requires valid { HaveValidTies plant.now points.old.entries }
+        requires enough { are_enough plant.now points.old.entries changes.now ≡ true }
+        ensures made { points.new.entries ≡ applied plant.now points.old.entries changes.now }
+        ensures room { points.new.room ≡ points.old.room }
+        ensures counts { AreCountsOf plant.now points.new.entries self.new }
+        ensures valid { HaveValidTies plant.now points.new.entries }
+    {
         self.release_all(plant, points, changes);
         self.give_all(plant, points, changes);
     }
@@ -55,10 +80,12 @@ impl Ties {
     fn release_all(&mut self, plant: &Plant, points: &mut Crosspoints, changes: &[Change])
         requires plant { IsPlant plant.now }
         requires dests { AreInside plant.now changes.now }
-        requires counts { AreCountsOf plant.now points.old self.old }
-        requires valid { HaveValidTies plant.now points.old }
-        ensures points { points.new ≡ released_each points.old changes.now }
-        ensures counts { AreCountsOf plant.now points.new self.new }
+        requires room { points.old.room ≡ destinations_of plant.now }
+        requires counts { AreCountsOf plant.now points.old.entries self.old }
+        requires valid { HaveValidTies plant.now points.old.entries }
+        ensures points { points.new.entries ≡ released_each points.old.entries changes.now }
+        ensures room { points.new.room ≡ points.old.room }
+        ensures counts { AreCountsOf plant.now points.new.entries self.new }
     {
         for index in 0..changes.len() {
             self.release(plant, points, &changes[index]);
@@ -70,11 +97,15 @@ impl Ties {
         requires plant { IsPlant plant.now }
         requires dests { AreInside plant.now changes.now }
         requires once { NamesOnce changes.now }
-        requires ready { AreReady points.old changes.now }
-        requires counts { AreCountsOf plant.now points.old self.old }
-        requires valid { HaveValidTies plant.now (given_each plant.now points.old changes.now) }
-        ensures points { points.new ≡ given_each plant.now points.old changes.now }
-        ensures counts { AreCountsOf plant.now points.new self.new }
+        requires ready { AreReady points.old.entries changes.now }
+        requires room { points.old.room ≡ destinations_of plant.now }
+        requires counts { AreCountsOf plant.now points.old.entries self.old }
+        requires valid { HaveValidTies plant.now
+            (given_each plant.now points.old.entries changes.now) }
+        ensures points { points.new.entries
+            ≡ given_each plant.now points.old.entries changes.now }
+        ensures room { points.new.room ≡ points.old.room }
+        ensures counts { AreCountsOf plant.now points.new.entries self.new }
     {
         for index in 0..changes.len() {
             self.give(plant, points, &changes[index]);
@@ -85,11 +116,13 @@ impl Ties {
     fn release(&mut self, plant: &Plant, points: &mut Crosspoints, change: &Change)
         requires plant { IsPlant plant.now }
         requires dest { change.now.dest < destinations_of plant.now }
-        requires counts { AreCountsOf plant.now points.old self.old }
-        requires valid { HaveValidTies plant.now points.old }
-        ensures points { points.new ≡ released_one points.old change.now }
-        ensures counts { AreCountsOf plant.now points.new self.new }
-        ensures valid { HaveValidTies plant.now points.new }
+        requires room { points.old.room ≡ destinations_of plant.now }
+        requires counts { AreCountsOf plant.now points.old.entries self.old }
+        requires valid { HaveValidTies plant.now points.old.entries }
+        ensures points { points.new.entries ≡ released_one points.old.entries change.now }
+        ensures room { points.new.room ≡ points.old.room }
+        ensures counts { AreCountsOf plant.now points.new.entries self.new }
+        ensures valid { HaveValidTies plant.now points.new.entries }
     {
         if !points.is_idle(change) {
             self.park(plant, points, change.dest);
@@ -100,11 +133,14 @@ impl Ties {
     fn give(&mut self, plant: &Plant, points: &mut Crosspoints, change: &Change)
         requires plant { IsPlant plant.now }
         requires dest { change.now.dest < destinations_of plant.now }
-        requires ready { IsReady points.old change.now }
-        requires counts { AreCountsOf plant.now points.old self.old }
-        requires valid { HaveValidTies plant.now (given_one plant.now points.old change.now) }
-        ensures points { points.new ≡ given_one plant.now points.old change.now }
-        ensures counts { AreCountsOf plant.now points.new self.new }
+        requires ready { IsReady points.old.entries change.now }
+        requires room { points.old.room ≡ destinations_of plant.now }
+        requires counts { AreCountsOf plant.now points.old.entries self.old }
+        requires valid { HaveValidTies plant.now
+            (given_one plant.now points.old.entries change.now) }
+        ensures points { points.new.entries ≡ given_one plant.now points.old.entries change.now }
+        ensures room { points.new.room ≡ points.old.room }
+        ensures counts { AreCountsOf plant.now points.new.entries self.new }
     {
         if points.is_idle(change) {
             return;
@@ -119,11 +155,13 @@ impl Ties {
     fn park(&mut self, plant: &Plant, points: &mut Crosspoints, dest: DestId)
         requires plant { IsPlant plant.now }
         requires dest { dest < destinations_of plant.now }
-        requires counts { AreCountsOf plant.now points.old self.old }
-        requires valid { HaveValidTies plant.now points.old }
-        ensures points { points.new ≡ remove points.old dest }
-        ensures counts { AreCountsOf plant.now points.new self.new }
-        ensures valid { HaveValidTies plant.now points.new }
+        requires room { points.old.room ≡ destinations_of plant.now }
+        requires counts { AreCountsOf plant.now points.old.entries self.old }
+        requires valid { HaveValidTies plant.now points.old.entries }
+        ensures points { points.new.entries ≡ remove points.old.entries dest }
+        ensures room { points.new.room ≡ points.old.room }
+        ensures counts { AreCountsOf plant.now points.new.entries self.new }
+        ensures valid { HaveValidTies plant.now points.new.entries }
     {
         let Some(spot) = points.at(dest) else {
             return;
@@ -142,11 +180,15 @@ impl Ties {
     fn bring(&mut self, plant: &Plant, points: &mut Crosspoints, dest: DestId, source: SourceId)
         requires plant { IsPlant plant.now }
         requires dest { dest < destinations_of plant.now }
-        requires parked { get points.old dest ≡ None }
-        requires counts { AreCountsOf plant.now points.old self.old }
-        requires valid { HaveValidTies plant.now (given plant.now points.old dest (Some source)) }
-        ensures points { points.new ≡ given plant.now points.old dest (Some source) }
-        ensures counts { AreCountsOf plant.now points.new self.new }
+        requires parked { get points.old.entries dest ≡ None }
+        requires room { points.old.room ≡ destinations_of plant.now }
+        requires counts { AreCountsOf plant.now points.old.entries self.old }
+        requires valid { HaveValidTies plant.now
+            (given plant.now points.old.entries dest (Some source)) }
+        ensures points { points.new.entries
+            ≡ given plant.now points.old.entries dest (Some source) }
+        ensures room { points.new.room ≡ points.old.room }
+        ensures counts { AreCountsOf plant.now points.new.entries self.new }
     {
         let Some(route) = route_of(&self.ways, plant, Some(source)) else {
             points.set(dest, Some(Spot { source, tie: None }));
@@ -159,7 +201,7 @@ impl Ties {
 
     // A destination leaves a route, whose tie is this.
     fn leave(&mut self, route: Route, tie: TieNo)
-        requires route { IsRoute route }
+        requires places { HavePlaces self.old route }
         requires tie { tie < tie_limit }
         ensures { self.new ≡ left_from self.old route tie }
     {
@@ -172,7 +214,7 @@ impl Ties {
 
     // A destination comes to a route, by the tie that is the answer.
     fn come(&mut self, route: Route, size: u32) -> Option<TieNo>
-        requires route { IsRoute route }
+        requires places { HavePlaces self.old route }
         requires room { HasRoom (demand_of self.old) route }
         requires size { size ≤ tie_limit }
         requires tie { IfSome (tie_for (holdings_of self.old) route.pool size route.way)
@@ -185,6 +227,25 @@ impl Ties {
         self.holdings.hold(route.pool, route.way, tie);
         Some(tie)
     }
+}
+
+// Puts the sources of all changes in by no ties.
+fn put_all(points: &mut Crosspoints, changes: &[Change])
+    requires { All (λ change. change.dest < points.old.room) changes.now }
+    ensures made { points.new.entries ≡ put_all points.old.entries changes.now }
+    ensures room { points.new.room ≡ points.old.room }
+{
+    for change in changes {
+        points.set(change.dest, untied(change.source));
+    }
+}
+
+// A source by no tie, or nothing.
+fn untied(source: Option<SourceId>) -> Option<Spot>
+    ensures { result ≡ untied source }
+{
+    let source = source?;
+    Some(Spot { source, tie: None })
 }
 
 // How many ties a pool has.

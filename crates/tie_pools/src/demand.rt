@@ -4,16 +4,13 @@ ghost use Rattle.std.specs.Prelude.{◌≡◌, ◌<◌, ◌≤◌, nat_lt, IfOk}
 ghost use Rattle.std.specs.FinMap.{empty};
 ghost use Rattle.tie_pools.specs.Counts.{count_at};
 ghost use Rattle.tie_pools.specs.CountsInside.{more_at, fewer_at, fed_more, fed_less};
-ghost use Rattle.tie_pools.specs.DemandInside.{over};
+ghost use Rattle.tie_pools.specs.DemandInside.{IsDemandFor, over};
 
 use crate::planned::Exhausted;
 use number_map::NumberMap;
-use plant_config::{MAX_DESTINATIONS, MAX_SOURCES, Plant, PoolId, SourceId};
+use plant_config::{MAX_DESTINATIONS, Plant, PoolId, SourceId};
 use std::alloc::{AllocError, Global};
 use std::marker::Model;
-
-// The most pools of a plant.
-pub(crate) const MAX_POOLS: u32 = 256;
 
 /// How many destinations each way feeds, and how many ways of each pool feed some.
 #[derive(Debug, Drop)]
@@ -23,37 +20,33 @@ pub(crate) struct Demand {
 }
 
 impl Model for Demand {
-    ghost use Rattle.std.specs.Prelude.{◌≡◌};
-    ghost use Rattle.plant_config.specs.Limits.{all_sources_limit};
     ghost use Rattle.tie_pools.specs.CountsInside.{Demand, demand_code};
 
     ghost Value = { Demand };
 
     ghost coded = { demand_code };
 
-    ghost view = { λ demand. record { fed = demand.fed.entries; used = demand.used.entries } };
-
-    ghost invariant = { λ demand.
-        (demand.fed.room ≡ all_sources_limit) × (demand.used.room ≡ 256) };
+    ghost view = { λ demand. record { fed = demand.fed; used = demand.used } };
 }
 
 impl Demand {
-    /// No way feeds a destination.
-    pub(crate) fn new(alloc: Global) -> Result<Demand, AllocError>
-        ensures fed { IfOk result (λ demand. demand.fed ≡ empty) }
-        ensures used { IfOk result (λ demand. demand.used ≡ empty) }
+    /// No way feeds a destination, and there is room for all ways and pools of a plant.
+    pub(crate) fn new(alloc: Global, plant: &Plant) -> Result<Demand, AllocError>
+        ensures fed { IfOk result (λ demand. demand.fed.entries ≡ empty) }
+        ensures used { IfOk result (λ demand. demand.used.entries ≡ empty) }
+        ensures room { IfOk result (IsDemandFor plant.now) }
     {
-        let fed = NumberMap::new(alloc, MAX_SOURCES as usize)?;
-        let used = NumberMap::new(alloc, MAX_POOLS as usize)?;
+        let fed = NumberMap::new(alloc, plant.source_count() as usize)?;
+        let used = NumberMap::new(alloc, plant.pools().len())?;
         Ok(Demand { fed, used })
     }
 
     /// One more destination is fed by a way of a pool.
     pub(crate) fn feed(&mut self, pool: PoolId, way: SourceId)
-        requires pool { pool < MAX_POOLS }
-        requires way { way < MAX_SOURCES }
-        requires fed { count_at self.old.fed way ≤ MAX_DESTINATIONS }
-        requires used { count_at self.old.used pool ≤ MAX_DESTINATIONS }
+        requires pool { pool < self.old.used.room }
+        requires way { way < self.old.fed.room }
+        requires fed { count_at self.old.fed.entries way ≤ MAX_DESTINATIONS }
+        requires used { count_at self.old.used.entries pool ≤ MAX_DESTINATIONS }
         ensures { self.new ≡ fed_more self.old pool way }
     {
         if count_of(&self.fed, way.get()) == 0 {
@@ -64,8 +57,8 @@ impl Demand {
 
     /// One destination fewer is fed by a way of a pool.
     pub(crate) fn unfeed(&mut self, pool: PoolId, way: SourceId)
-        requires pool { pool < MAX_POOLS }
-        requires way { way < MAX_SOURCES }
+        requires pool { pool < self.old.used.room }
+        requires way { way < self.old.fed.room }
         ensures { self.new ≡ fed_less self.old pool way }
     {
         if count_of(&self.fed, way.get()) == 1 {
@@ -76,7 +69,7 @@ impl Demand {
 
     /// Whether a way feeds a destination.
     pub(crate) fn feeds(&self, way: SourceId) -> bool
-        ensures { result ≡ nat_lt 0 (count_at self.now.fed way) }
+        ensures { result ≡ nat_lt 0 (count_at self.now.fed.entries way) }
     {
         0 < count_of(&self.fed, way.get())
     }

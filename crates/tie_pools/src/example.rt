@@ -1,6 +1,6 @@
 //! The crate in use.
 
-ghost use Rattle.std.specs.Prelude.{◌<◌};
+ghost use Rattle.std.specs.Prelude.{◌≡◌, ◌<◌};
 ghost use Rattle.plant_config.specs.Plant.{destinations_of};
 ghost use Rattle.crosspoint_state.specs.Ties.{HaveValidTies};
 ghost use Rattle.tie_pools.specs.Counts.{AreCountsOf};
@@ -35,10 +35,12 @@ fn take(
     source: Option<SourceId>,
 ) -> Result<(), Exhausted>
     requires dest { dest < destinations_of plant.now }
-    requires counts { AreCountsOf plant.now points.old ties.old }
-    requires valid { HaveValidTies plant.now points.old }
-    ensures counts { AreCountsOf plant.now points.new ties.new }
-    ensures valid { HaveValidTies plant.now points.new }
+    requires room { points.old.room ≡ destinations_of plant.now }
+    requires counts { AreCountsOf plant.now points.old.entries ties.old }
+    requires valid { HaveValidTies plant.now points.old.entries }
+    ensures room { points.new.room ≡ points.old.room }
+    ensures counts { AreCountsOf plant.now points.new.entries ties.new }
+    ensures valid { HaveValidTies plant.now points.new.entries }
 {
     let changes = [Change { dest, source }];
     let planned = ties.plan(plant, points, &changes)?;
@@ -49,7 +51,7 @@ fn take(
 #[test]
 fn one_origin_comes_by_one_tie(rt: HostRuntime) -> Result<(), Fail> {
     let plant = Plant::from_toml(rt.alloc(), PLANT)?;
-    let mut points = Crosspoints::new(rt.alloc())?;
+    let mut points = Crosspoints::new(rt.alloc(), plant.destination_count())?;
     let mut ties = Ties::new(rt.alloc(), &plant)?;
     // The ties are valid where nothing is carried.
     ties_stay_valid();

@@ -1,24 +1,24 @@
 //! Which ties the ways hold.
 
-ghost use Rattle.std.specs.Prelude.{◌≡◌, ◌<◌, ◌≤◌, IfOk, is_none};
-ghost use Rattle.std.specs.FinMap.{get};
-ghost use Rattle.tie_pools.specs.Counts.{tie_place};
-ghost use Rattle.tie_pools.specs.HoldingsInside.{no_holdings, holding, freed};
+ghost use Rattle.std.specs.Prelude.{◌≡◌, ◌*◌, ◌<◌, ◌≤◌, length, IfOk, is_none};
+ghost use Rattle.std.specs.FinMap.{empty, get};
+ghost use Rattle.plant_config.specs.Plant.{sources_of};
+ghost use Rattle.tie_pools.specs.Counts.{tie_place, tie_limit};
+ghost use Rattle.tie_pools.specs.HoldingsInside.{holding, freed};
 ghost use Rattle.tie_pools.specs.HoldingsInside.{lowest_unheld, tie_for};
 
-use crate::demand::MAX_POOLS;
 use number_map::NumberMap;
-use plant_config::{MAX_SOURCES, PoolId, SourceId, TieNo};
+use plant_config::{Plant, PoolId, SourceId, TieNo};
 use std::alloc::{AllocError, Global};
 use std::marker::Model;
+
+// The most pools of a plant.
+const MAX_POOLS: u32 = 256;
 
 // The most ties of a pool.
 const MAX_TIES: u32 = 1024;
 
-// The most ties of all pools.
-const MAX_PLACES: u32 = 262_144;
-
-/// The tie of each way that feeds some destination, and the ties that are held. A contract sees both as finite maps.
+/// The tie of each way that feeds some destination, and the ties that are held. A contract sees both as tables.
 #[derive(Debug, Drop)]
 pub(crate) struct Holdings {
     ties: NumberMap<TieNo>,
@@ -26,36 +26,33 @@ pub(crate) struct Holdings {
 }
 
 impl Model for Holdings {
-    ghost use Rattle.std.specs.Prelude.{◌≡◌};
-    ghost use Rattle.plant_config.specs.Limits.{all_sources_limit};
-    ghost use Rattle.tie_pools.specs.HoldingsInside.{Holdings, holdings_code, place_limit};
+    ghost use Rattle.tie_pools.specs.HoldingsInside.{Holdings, holdings_code};
 
     ghost Value = { Holdings };
 
     ghost coded = { holdings_code };
 
-    ghost view = { λ holdings. record {
-      ties = holdings.ties.entries;
-      held = holdings.held.entries;
-    } };
-
-    ghost invariant = { λ holdings.
-        (holdings.ties.room ≡ all_sources_limit) × (holdings.held.room ≡ place_limit) };
+    ghost view = { λ holdings. record { ties = holdings.ties; held = holdings.held } };
 }
 
 impl Holdings {
-    // No way has a tie.
-    pub(crate) fn new(alloc: Global) -> Result<Holdings, AllocError>
-        ensures { IfOk result (λ holdings. holdings ≡ no_holdings) }
+    // No way has a tie, and there is room for all ways of a plant and for all ties of its pools.
+    pub(crate) fn new(alloc: Global, plant: &Plant) -> Result<Holdings, AllocError>
+        ensures ties { IfOk result (λ holdings. holdings.ties.entries ≡ empty) }
+        ensures held { IfOk result (λ holdings. holdings.held.entries ≡ empty) }
+        ensures way_room { IfOk result (λ holdings.
+            holdings.ties.room ≡ sources_of plant.now) }
+        ensures tie_room { IfOk result (λ holdings.
+            holdings.held.room ≡ length plant.now.pools * tie_limit) }
     {
-        let ties = NumberMap::new(alloc, MAX_SOURCES as usize)?;
-        let held = NumberMap::new(alloc, MAX_PLACES as usize)?;
+        let ties = NumberMap::new(alloc, plant.source_count() as usize)?;
+        let held = NumberMap::new(alloc, plant.pools().len() * MAX_TIES as usize)?;
         Ok(Holdings { ties, held })
     }
 
     // The tie of a way, `None` where it has none.
     fn tie_of(&self, way: SourceId) -> Option<TieNo>
-        ensures { result ≡ get self.now.ties way }
+        ensures { result ≡ get self.now.ties.entries way }
     {
         self.ties.get(way.get())
     }
@@ -64,7 +61,7 @@ impl Holdings {
     fn is_free(&self, pool: PoolId, tie: TieNo) -> bool
         requires pool { pool < MAX_POOLS }
         requires tie { tie < MAX_TIES }
-        ensures { result ≡ is_none (get self.now.held (tie_place pool tie)) }
+        ensures { result ≡ is_none (get self.now.held.entries (tie_place pool tie)) }
     {
         self.held.get(place_of(pool, tie)).is_none()
     }
@@ -99,8 +96,9 @@ impl Holdings {
     // A way holds a tie of its pool.
     pub(crate) fn hold(&mut self, pool: PoolId, way: SourceId, tie: TieNo)
         requires pool { pool < MAX_POOLS }
-        requires way { way < MAX_SOURCES }
         requires tie { tie < MAX_TIES }
+        requires way_room { way < self.old.ties.room }
+        requires tie_room { tie_place pool tie < self.old.held.room }
         ensures { self.new ≡ holding self.old pool way tie }
     {
         self.ties.set(way.get(), Some(tie));
@@ -110,8 +108,9 @@ impl Holdings {
     // A way holds its tie no longer.
     pub(crate) fn free(&mut self, pool: PoolId, way: SourceId, tie: TieNo)
         requires pool { pool < MAX_POOLS }
-        requires way { way < MAX_SOURCES }
         requires tie { tie < MAX_TIES }
+        requires way_room { way < self.old.ties.room }
+        requires tie_room { tie_place pool tie < self.old.held.room }
         ensures { self.new ≡ freed self.old pool way tie }
     {
         self.ties.set(way.get(), None);
@@ -123,8 +122,7 @@ impl Holdings {
 fn place_of(pool: PoolId, tie: TieNo) -> u32
     requires pool { pool < MAX_POOLS }
     requires tie { tie < MAX_TIES }
-    ensures place { result ≡ tie_place pool tie }
-    ensures below { result < MAX_PLACES }
+    ensures { result ≡ tie_place pool tie }
 {
     pool.get() * MAX_TIES + tie.get()
 }

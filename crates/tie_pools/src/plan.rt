@@ -6,7 +6,7 @@ ghost use Rattle.crosspoint_state.specs.Crosspoints.{NamesOnce};
 ghost use Rattle.crosspoint_state.specs.Applied.{put_all, are_enough};
 ghost use Rattle.crosspoint_state.specs.Laws.{AreInside};
 ghost use Rattle.tie_pools.specs.Counts.{AreCountsOf, AreWays};
-ghost use Rattle.tie_pools.specs.DemandInside.{AreDemandOf, HasRoomFor};
+ghost use Rattle.tie_pools.specs.DemandInside.{IsDemandFor, AreDemandOf, HasRoomFor};
 ghost use Rattle.tie_pools.specs.DemandInside.{route_of, left, taken, moved};
 ghost use Rattle.tie_pools.specs.Plans.{IsExhausted};
 
@@ -21,6 +21,7 @@ use plant_config::{Change, Plant, SourceId};
 impl Ties {
     /// Whether the ties are enough for a list of changes, with all new sources put in at once; else the lowest pool that
     /// isn't. Nothing is changed.
+    #[inline]
     pub fn plan(
         &mut self,
         plant: &Plant,
@@ -29,10 +30,11 @@ impl Ties {
     ) -> Result<Planned, Exhausted>
         requires dests { AreInside plant.now changes.now }
         requires once { NamesOnce changes.now }
-        requires counts { AreCountsOf plant.now points.now self.old }
-        ensures enough { IfOk result (λ _. are_enough plant.now points.now changes.now ≡ true) }
-        ensures exhausted { IfErr result (IsExhausted plant.now points.now changes.now) }
-        ensures counts { AreCountsOf plant.now points.now self.new }
+        requires counts { AreCountsOf plant.now points.now.entries self.old }
+        ensures enough { IfOk result (λ _.
+            are_enough plant.now points.now.entries changes.now ≡ true) }
+        ensures exhausted { IfErr result (IsExhausted plant.now points.now.entries changes.now) }
+        ensures counts { AreCountsOf plant.now points.now.entries self.new }
     {
         // A plant without pools needs no ties.
         if plant.pools().is_empty() {
@@ -49,13 +51,14 @@ impl Ties {
 }
 
 // Puts the new sources of all changes into the demand.
+#[inline(never)]
 fn put_in(demand: &mut Demand, ways: &Ways, plant: &Plant, points: &Crosspoints, changes: &[Change])
     requires plant { IsPlant plant.now }
     requires ways { AreWays plant.now ways.now }
     requires dests { AreInside plant.now changes.now }
     requires once { NamesOnce changes.now }
-    requires demand { AreDemandOf plant.now points.now demand.old }
-    ensures { AreDemandOf plant.now (put_all points.now changes.now) demand.new }
+    requires demand { AreDemandOf plant.now points.now.entries demand.old }
+    ensures { AreDemandOf plant.now (put_all points.now.entries changes.now) demand.new }
 {
     for change in changes {
         let source = points.source_at(change.dest);
@@ -64,6 +67,7 @@ fn put_in(demand: &mut Demand, ways: &Ways, plant: &Plant, points: &Crosspoints,
 }
 
 // Takes the new sources of all changes out of the demand again.
+#[inline(never)]
 fn take_out(
     demand: &mut Demand,
     ways: &Ways,
@@ -75,8 +79,8 @@ fn take_out(
     requires ways { AreWays plant.now ways.now }
     requires dests { AreInside plant.now changes.now }
     requires once { NamesOnce changes.now }
-    requires demand { AreDemandOf plant.now (put_all points.now changes.now) demand.old }
-    ensures { AreDemandOf plant.now points.now demand.new }
+    requires demand { AreDemandOf plant.now (put_all points.now.entries changes.now) demand.old }
+    ensures { AreDemandOf plant.now points.now.entries demand.new }
 {
     for change in changes {
         let source = points.source_at(change.dest);
@@ -93,6 +97,7 @@ fn shift(
     to: Option<SourceId>,
 )
     requires ways { AreWays plant.now ways.now }
+    requires tables { IsDemandFor plant.now demand.old }
     requires room { HasRoomFor (left demand.old (route_of plant.now from)) (route_of plant.now to) }
     ensures { demand.new ≡ moved plant.now demand.old from to }
 {
@@ -102,8 +107,10 @@ fn shift(
 
 // A destination leaves a source.
 fn leave(demand: &mut Demand, ways: &Ways, plant: &Plant, source: Option<SourceId>)
-    requires { AreWays plant.now ways.now }
-    ensures { demand.new ≡ left demand.old (route_of plant.now source) }
+    requires ways { AreWays plant.now ways.now }
+    requires tables { IsDemandFor plant.now demand.old }
+    ensures demand { demand.new ≡ left demand.old (route_of plant.now source) }
+    ensures tables { IsDemandFor plant.now demand.new }
 {
     if let Some(route) = route_of(ways, plant, source) {
         demand.unfeed(route.pool, route.way);
@@ -113,6 +120,7 @@ fn leave(demand: &mut Demand, ways: &Ways, plant: &Plant, source: Option<SourceI
 // A destination takes a source.
 fn take(demand: &mut Demand, ways: &Ways, plant: &Plant, source: Option<SourceId>)
     requires ways { AreWays plant.now ways.now }
+    requires tables { IsDemandFor plant.now demand.old }
     requires room { HasRoomFor demand.old (route_of plant.now source) }
     ensures { demand.new ≡ taken demand.old (route_of plant.now source) }
 {

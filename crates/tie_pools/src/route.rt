@@ -1,6 +1,6 @@
 //! By which pool and way a remote source comes.
 
-ghost use Rattle.std.specs.Prelude.{◌≡◌, ◌<◌, IfSome};
+ghost use Rattle.std.specs.Prelude.{◌≡◌, ◌<◌, length, IfSome};
 ghost use Rattle.plant_config.specs.Sources.{pool_of};
 ghost use Rattle.plant_config.specs.IsPlant.{IsPlant};
 ghost use Rattle.tie_pools.specs.Counts.{AreWays};
@@ -20,7 +20,7 @@ pub(crate) struct Route {
 pub(crate) fn route_of(ways: &Ways, plant: &Plant, source: Option<SourceId>) -> Option<Route>
     requires { AreWays plant.now ways.now }
     ensures route { result ≡ route_of plant.now source }
-    ensures within { IfSome result IsRoute }
+    ensures within { IfSome result (IsRoute plant.now) }
 {
     let source = source?;
     let pool = pool_of(plant, source)?;
@@ -31,7 +31,7 @@ pub(crate) fn route_of(ways: &Ways, plant: &Plant, source: Option<SourceId>) -> 
 // The pool of a source, also of one that the plant hasn't.
 fn pool_of(plant: &Plant, source: SourceId) -> Option<PoolId>
     ensures pool { result ≡ pool_of plant.now source }
-    ensures below { IfSome result (λ pool. pool < 256) }
+    ensures below { IfSome result (λ pool. pool < length plant.now.pools) }
     ensures plant { IsPlant plant.now }
 {
     if plant.source_count() <= source.get() {

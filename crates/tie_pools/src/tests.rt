@@ -55,10 +55,12 @@ fn take_all(
 ) -> Result<(), Exhausted>
     requires dests { AreInside plant.now changes.now }
     requires once { NamesOnce changes.now }
-    requires counts { AreCountsOf plant.now points.old ties.old }
-    requires valid { HaveValidTies plant.now points.old }
-    ensures counts { AreCountsOf plant.now points.new ties.new }
-    ensures valid { HaveValidTies plant.now points.new }
+    requires room { points.old.room ≡ destinations_of plant.now }
+    requires counts { AreCountsOf plant.now points.old.entries ties.old }
+    requires valid { HaveValidTies plant.now points.old.entries }
+    ensures room { points.new.room ≡ points.old.room }
+    ensures counts { AreCountsOf plant.now points.new.entries ties.new }
+    ensures valid { HaveValidTies plant.now points.new.entries }
 {
     let planned = ties.plan(plant, points, changes)?;
     ties.commit(plant, points, planned, changes);
@@ -68,7 +70,7 @@ fn take_all(
 #[test]
 fn a_tie_goes_to_another_origin_with_all_its_destinations(rt: HostRuntime) -> Result<(), Fail> {
     let plant = two_routers(rt.alloc(), 1)?;
-    let mut points = Crosspoints::new(rt.alloc())?;
+    let mut points = Crosspoints::new(rt.alloc(), plant.destination_count())?;
     let mut ties = Ties::new(rt.alloc(), &plant)?;
     ties_stay_valid();
     assert!(rt; 2 < plant.destination_count());
@@ -100,10 +102,12 @@ fn a_tie_goes_to_another_origin_with_all_its_destinations(rt: HostRuntime) -> Re
 // Gives the destinations 1 up to this one a source each, and each takes the lowest free tie.
 fn fill(rt: &impl Abort, plant: &Plant, ties: &mut Ties, points: &mut Crosspoints, last: u16)
     requires last { last < destinations_of plant.now }
-    requires counts { AreCountsOf plant.now points.old ties.old }
-    requires valid { HaveValidTies plant.now points.old }
-    ensures counts { AreCountsOf plant.now points.new ties.new }
-    ensures valid { HaveValidTies plant.now points.new }
+    requires room { points.old.room ≡ destinations_of plant.now }
+    requires counts { AreCountsOf plant.now points.old.entries ties.old }
+    requires valid { HaveValidTies plant.now points.old.entries }
+    ensures room { points.new.room ≡ points.old.room }
+    ensures counts { AreCountsOf plant.now points.new.entries ties.new }
+    ensures valid { HaveValidTies plant.now points.new.entries }
 {
     for number in 0..last {
         let taken = take_all(plant, ties, points, &[change(number + 1, number)]);
@@ -120,7 +124,7 @@ fn fill(rt: &impl Abort, plant: &Plant, ties: &mut Ties, points: &mut Crosspoint
 #[test]
 fn a_large_pool_is_exhausted_behind_its_last_tie(rt: HostRuntime) -> Result<(), Fail> {
     let plant = two_routers(rt.alloc(), 1022)?;
-    let mut points = Crosspoints::new(rt.alloc())?;
+    let mut points = Crosspoints::new(rt.alloc(), plant.destination_count())?;
     let mut ties = Ties::new(rt.alloc(), &plant)?;
     ties_stay_valid();
     assert!(rt; 1023 < plant.destination_count());
@@ -141,5 +145,41 @@ fn a_large_pool_is_exhausted_behind_its_last_tie(rt: HostRuntime) -> Result<(), 
         tie: Some(TieNo::of(1021)),
     };
     assert_eq!(rt; points.at(DestId::of(1023)), Some(spot));
+    Ok(())
+}
+
+#[test]
+fn a_plant_without_pools_has_no_ties(rt: HostRuntime) -> Result<(), Fail> {
+    let plant = Plant::bench(rt.alloc())?;
+    let mut points = Crosspoints::new(rt.alloc(), plant.destination_count())?;
+    let mut ties = Ties::new(rt.alloc(), &plant)?;
+    ties_stay_valid();
+    assert!(rt; 2 < plant.destination_count());
+    let (first, second) = (DestId::of(1), DestId::of(2));
+    let camera = SourceId::of(7);
+    let takes = [
+        Change {
+            dest: first,
+            source: Some(camera),
+        },
+        Change {
+            dest: second,
+            source: Some(camera),
+        },
+    ];
+    let taken = take_all(&plant, &mut ties, &mut points, &takes);
+    assert_eq!(rt; taken, Ok(()));
+    let parking = Change {
+        dest: second,
+        source: None,
+    };
+    let parked = take_all(&plant, &mut ties, &mut points, &[parking]);
+    assert_eq!(rt; parked, Ok(()));
+    let spot = Some(Spot {
+        source: camera,
+        tie: None,
+    });
+    assert_eq!(rt; points.at(first), spot);
+    assert_eq!(rt; points.at(second), None);
     Ok(())
 }

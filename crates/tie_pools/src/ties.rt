@@ -42,8 +42,8 @@ impl Ties {
         ensures { IfOk result (AreCountsOf plant.now empty) }
     {
         let ways = Ways::new(alloc, plant)?;
-        let demand = Demand::new(alloc)?;
-        let holdings = Holdings::new(alloc)?;
+        let demand = Demand::new(alloc, plant)?;
+        let holdings = Holdings::new(alloc, plant)?;
         Ok(Ties {
             ways,
             demand,

@@ -41,9 +41,10 @@ impl Ways {
     pub(crate) fn new(alloc: Global, plant: &Plant) -> Result<Ways, AllocError>
         ensures { IfOk result (AreWays plant.now) }
     {
-        let mut ways = NumberMap::new(alloc, MAX_SOURCES as usize)?;
+        let sources = plant.source_count();
+        let mut ways = NumberMap::new(alloc, sources as usize)?;
         let mut lowest = BTreeMap::new(alloc);
-        for number in 0..plant.source_count() {
+        for number in 0..sources {
             let way = way_for(plant, SourceId::of(number), &mut lowest)?;
             ways.set(number, way);
         }

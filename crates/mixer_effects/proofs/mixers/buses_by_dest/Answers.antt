@@ -12,7 +12,7 @@ loop-number-init c =
     let plant = c.args.plant.now in
     record {
       have = subst (λ (buses : List Bus). HaveBusesFrom plant (length buses) c.in_ok-by_dest.by_dest.entries) (sym c.buses-buses.ensures.buses) (buses_none plant c.in_ok-by_dest.by_dest.entries c.in_ok-by_dest.ensures.empty);
-      room = c.in_ok-by_dest.ensures.room;
+      room = c.in_ok-by_dest.ensures.room ∙ c.destination_count.ensures.count;
     }
 
 pub set-requires : goal.set-requires

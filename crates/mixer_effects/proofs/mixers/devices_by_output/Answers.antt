@@ -12,7 +12,7 @@ loop-number-init c =
     let plant = c.args.plant.now in
     record {
       have = subst (λ (devices : List Device). HaveDevicesFrom plant (length devices) c.in_ok-by_output.by_output.entries) (sym c.devices-devices.ensures.devices) (devices_none plant c.in_ok-by_output.by_output.entries c.in_ok-by_output.ensures.empty);
-      room = c.in_ok-by_output.ensures.room;
+      room = c.in_ok-by_output.ensures.room ∙ c.source_count.ensures.count;
     }
 
 pub set-requires : goal.set-requires

@@ -7,5 +7,5 @@ use Rattle.plant_core.proofs.notify.notify_moved.Given as goal
 abbrev pub invariant-loop-change : goal.invariant-loop-change
 invariant-loop-change l = record {
   count : length l.notices ≡ length l.fn.notices;
-  marked : all_marked l.notices (moved l.crosspoints (drop l.change-index l.changes)) ≡ all_marked l.fn.notices (moved l.crosspoints l.changes);
+  marked : all_marked l.notices (moved l.crosspoints.entries (drop l.change-index l.changes)) ≡ all_marked l.fn.notices (moved l.crosspoints.entries l.changes);
 }

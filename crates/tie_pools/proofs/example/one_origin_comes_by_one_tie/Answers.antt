@@ -1,4 +1,4 @@
 use Rattle.tie_pools.proofs.example.one_origin_comes_by_one_tie.Goals as goal
 
 pub take-taken-requires-clause-valid : goal.take-taken-requires-clause-valid
-take-taken-requires-clause-valid g c = rw c.in_ok-points.ensures (c.ties_stay_valid.ensures.none _)
+take-taken-requires-clause-valid g c = rw c.in_ok-points.ensures.parked (c.ties_stay_valid.ensures.none _)

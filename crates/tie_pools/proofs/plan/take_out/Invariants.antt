@@ -4,4 +4,4 @@ use Rattle.tie_pools.specs.DemandInside.{AreDemandOf}
 use Rattle.tie_pools.proofs.plan.take_out.Given as goal
 
 abbrev pub invariant-loop-change : goal.invariant-loop-change
-invariant-loop-change l = AreDemandOf l.plant (put_all l.points (drop l.change-index l.changes)) l.demand
+invariant-loop-change l = AreDemandOf l.plant (put_all l.points.entries (drop l.change-index l.changes)) l.demand

@@ -6,7 +6,7 @@ pub take_all-taken-requires-clause-once : goal.take_all-taken-requires-clause-on
 take_all-taken-requires-clause-once g c = IsDistinct-two _ _ (λ e. omega (arith, c.change.ensures, c.change-2.ensures, e))
 
 pub take_all-taken-requires-clause-valid : goal.take_all-taken-requires-clause-valid
-take_all-taken-requires-clause-valid g c = rw c.in_ok-points.ensures (c.ties_stay_valid.ensures.none _)
+take_all-taken-requires-clause-valid g c = rw c.in_ok-points.ensures.parked (c.ties_stay_valid.ensures.none _)
 
 pub take_all-first_alone-requires-clause-once : goal.take_all-first_alone-requires-clause-once
 take_all-first_alone-requires-clause-once g c = IsDistinct-one _

@@ -6,7 +6,7 @@ use Rattle.mixer_effects.proofs.mixers.Mixers.new.Goals as goal
 pub loop-number-init : goal.loop-number-init
 loop-number-init c = record {
   spans = spans_none c.args.plant.now c.in_ok-span_by_switch.span_by_switch.entries c.new-switched.result.items c.in_ok-span_by_switch.ensures.empty c.new-switched.ensures.items;
-  room = c.in_ok-span_by_switch.ensures.room;
+  room = c.in_ok-span_by_switch.ensures.room ∙ c.destination_count.ensures.count;
 }
 
 pub put_switch-requires-clause-room : goal.put_switch-requires-clause-room

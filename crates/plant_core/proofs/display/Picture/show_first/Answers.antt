@@ -7,7 +7,7 @@ use Rattle.plant_core.proofs.display.Picture.show_first.Goals as goal
 
 pub loop-display-preserved : goal.loop-display-preserved
 loop-display-preserved c =
-    let values : ℕ → Value = value_in c.args.self.now.plant.now c.args.self.now.points.now in
+    let values : ℕ → Value = value_in c.args.self.now.plant.now c.args.self.now.points.now.entries in
     let rest : List ℕ = drop (c.loop-display.display-index + 1) c.args.displays.now in
     let before : drop c.loop-display.display-index c.args.displays.now ≡ c.display-item.result ∷ rest =
     drop_more c.args.displays.now c.loop-display.display-index c.display-item.result c.loop-display-test.true ∙ ap (λ display. display ∷ rest) (sym c.display-item.is) in

@@ -6,10 +6,10 @@ use Rattle.plant_core.proofs.display.Picture.show_first.Given as goal
 -- What is left to be shown and told leads to what is wanted.
 abbrev pub invariant-loop-display : goal.invariant-loop-display
 invariant-loop-display l = record {
-  lit : shown_all (value_in l.self.plant.now l.self.points.now) (left_of (value_in l.self.plant.now l.self.points.now) (64 - length l.out.items) l.shown (drop l.display-index l.displays)) l.shown
-      ≡ shown_all (value_in l.self.plant.now l.self.points.now) (first_differing (value_in l.self.plant.now l.self.points.now) l.fn.shown l.displays) l.fn.shown;
-  told : l.out.items ++ lamps_of (value_in l.self.plant.now l.self.points.now) (left_of (value_in l.self.plant.now l.self.points.now) (64 - length l.out.items) l.shown (drop l.display-index l.displays))
-      ≡ lamps_of (value_in l.self.plant.now l.self.points.now) (first_differing (value_in l.self.plant.now l.self.points.now) l.fn.shown l.displays);
+  lit : shown_all (value_in l.self.plant.now l.self.points.now.entries) (left_of (value_in l.self.plant.now l.self.points.now.entries) (64 - length l.out.items) l.shown (drop l.display-index l.displays)) l.shown
+      ≡ shown_all (value_in l.self.plant.now l.self.points.now.entries) (first_differing (value_in l.self.plant.now l.self.points.now.entries) l.fn.shown l.displays) l.fn.shown;
+  told : l.out.items ++ lamps_of (value_in l.self.plant.now l.self.points.now.entries) (left_of (value_in l.self.plant.now l.self.points.now.entries) (64 - length l.out.items) l.shown (drop l.display-index l.displays))
+      ≡ lamps_of (value_in l.self.plant.now l.self.points.now.entries) (first_differing (value_in l.self.plant.now l.self.points.now.entries) l.fn.shown l.displays);
   few : length l.out.items ≤ 64;
   count : length l.shown ≡ length l.fn.shown;
   places : l.out.places ≡ l.fn.out.places;

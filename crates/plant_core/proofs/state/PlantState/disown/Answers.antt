@@ -1,3 +1,4 @@
+use Rattle.std.proofs.Common.{◌∙◌}
 use Rattle.plant_core.specs.StateInside.{state_of}
 use Rattle.plant_core.proofs.Validity.{IsValid-owners, AreOwners-lifted}
 use Rattle.plant_core.proofs.state.PlantState.disown.Goals as goal
@@ -5,6 +6,7 @@ use Rattle.plant_core.proofs.state.PlantState.disown.Goals as goal
 pub invariant_of-self : goal.invariant_of-self
 invariant_of-self c =
     record {
-      valid = rw c.lift.ensures.owners (IsValid-owners (state_of c.self.inside.plant c.self.inside.crosspoints c.self.inside.protects c.self.inside.groups c.self.inside.notices c.self.inside.shown) _ c.self.invariant.valid (AreOwners-lifted c.self.inside.plant c.self.inside.protects c.args.device c.args.master c.args.dest c.self.invariant.valid.owners));
+      valid = rw c.lift.ensures.owners (IsValid-owners (state_of c.self.inside.plant c.self.inside.crosspoints c.self.inside.protects c.self.inside.groups c.self.inside.notices c.self.inside.shown) _ c.self.invariant.valid (AreOwners-lifted c.self.inside.plant c.self.inside.protects.entries c.args.device c.args.master c.args.dest c.self.invariant.valid.owners));
+      room = record { crosspoints = c.self.invariant.room.crosspoints; protects = c.lift.ensures.room ∙ c.self.invariant.room.protects };
       beside = c.self.invariant.beside;
     }

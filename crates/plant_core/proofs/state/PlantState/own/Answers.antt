@@ -1,3 +1,4 @@
+use Rattle.std.proofs.Common.{◌∙◌}
 use Rattle.plant_core.specs.StateInside.{state_of}
 use Rattle.plant_core.proofs.Validity.{IsValid-owners, AreOwners-taken}
 use Rattle.plant_core.proofs.state.PlantState.own.Goals as goal
@@ -6,6 +7,7 @@ pub invariant_of-self : goal.invariant_of-self
 invariant_of-self c =
     let within = rw (← c.self.view_is) at c.requires.dest in
     record {
-      valid = rw c.take.ensures.owners (IsValid-owners (state_of c.self.inside.plant c.self.inside.crosspoints c.self.inside.protects c.self.inside.groups c.self.inside.notices c.self.inside.shown) _ c.self.invariant.valid (AreOwners-taken c.self.inside.plant c.self.inside.protects c.args.device c.args.dest within c.requires.device c.self.invariant.valid.owners));
+      valid = rw c.take.ensures.owners (IsValid-owners (state_of c.self.inside.plant c.self.inside.crosspoints c.self.inside.protects c.self.inside.groups c.self.inside.notices c.self.inside.shown) _ c.self.invariant.valid (AreOwners-taken c.self.inside.plant c.self.inside.protects.entries c.args.device c.args.dest within c.requires.device c.self.invariant.valid.owners));
+      room = record { crosspoints = c.self.invariant.room.crosspoints; protects = c.take.ensures.room ∙ c.self.invariant.room.protects };
       beside = c.self.invariant.beside;
     }

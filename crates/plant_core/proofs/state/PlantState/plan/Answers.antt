@@ -19,5 +19,5 @@ pub returns-clause-exhausted : goal.returns-clause-exhausted
 returns-clause-exhausted c =
     let short = rw c.from_ref-changes.ensures.value at c.plan.ensures.exhausted in
     rw (← c.self.view_is)
-    (IfErr-weaker c.plan.result (IsExhausted c.self.inside.plant c.self.inside.crosspoints (c.args.change.now ∷ [])) (λ fault. are_enough c.self.inside.plant c.self.inside.crosspoints (c.args.change.now ∷ []) ≡ false)
-    (too_few c.self.inside.plant c.self.inside.crosspoints (c.args.change.now ∷ [])) short)
+    (IfErr-weaker c.plan.result (IsExhausted c.self.inside.plant c.self.inside.crosspoints.entries (c.args.change.now ∷ [])) (λ fault. are_enough c.self.inside.plant c.self.inside.crosspoints.entries (c.args.change.now ∷ []) ≡ false)
+    (too_few c.self.inside.plant c.self.inside.crosspoints.entries (c.args.change.now ∷ [])) short)

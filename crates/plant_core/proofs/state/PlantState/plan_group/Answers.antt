@@ -20,5 +20,5 @@ returns-clause-exhausted c =
     let group : Group = group_of c.self.inside.groups c.args.salvo in
     let short = rw c.entries-entries.ensures.entries at c.plan.ensures.exhausted in
     rw (← c.self.view_is)
-    (IfErr-weaker c.plan.result (IsExhausted c.self.inside.plant c.self.inside.crosspoints group) (λ fault. are_enough c.self.inside.plant c.self.inside.crosspoints group ≡ false)
-    (too_few c.self.inside.plant c.self.inside.crosspoints group) short)
+    (IfErr-weaker c.plan.result (IsExhausted c.self.inside.plant c.self.inside.crosspoints.entries group) (λ fault. are_enough c.self.inside.plant c.self.inside.crosspoints.entries group ≡ false)
+    (too_few c.self.inside.plant c.self.inside.crosspoints.entries group) short)

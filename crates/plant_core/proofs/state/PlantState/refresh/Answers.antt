@@ -19,5 +19,6 @@ invariant_of-self c = record {
   valid =
       IsValid-shown (state_of c.self.inside.plant c.self.inside.crosspoints c.self.inside.protects c.self.inside.groups c.self.inside.notices c.self.inside.shown) c.forget.new.self c.self.invariant.valid
       (ap length c.forget.ensures ∙ length-with_forgotten c.displays.result.now c.self.inside.shown);
+  room = c.self.invariant.room;
   beside = c.self.invariant.beside;
 }

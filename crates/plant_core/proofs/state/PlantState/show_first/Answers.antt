@@ -14,7 +14,7 @@ use Rattle.plant_core.proofs.DisplayLemmas.{carried, all_shown-are, length-shown
 use Rattle.plant_core.proofs.state.PlantState.show_first.Goals as goal
 
 pub show_first-requires-clause-carried : goal.show_first-requires-clause-carried
-show_first-requires-clause-carried c = carried c.self.inside.plant c.self.inside.crosspoints c.self.invariant.valid.is_plant c.self.invariant.valid.is_crosspoint
+show_first-requires-clause-carried c = carried c.self.inside.plant c.self.inside.crosspoints.entries c.self.invariant.valid.is_plant c.self.invariant.valid.is_crosspoint
 
 pub show_first-requires-clause-below : goal.show_first-requires-clause-below
 show_first-requires-clause-below c =
@@ -30,18 +30,19 @@ show_first-requires-clause-once c =
 
 pub invariant_of-self : goal.invariant_of-self
 invariant_of-self c =
-    let values : ℕ → Value = value_in c.self.inside.plant c.self.inside.crosspoints in
+    let values : ℕ → Value = value_in c.self.inside.plant c.self.inside.crosspoints.entries in
     record {
       valid =
           IsValid-shown (state_of c.self.inside.plant c.self.inside.crosspoints c.self.inside.protects c.self.inside.groups c.self.inside.notices c.self.inside.shown) c.show_first.new.shown c.self.invariant.valid
           (ap length c.show_first.ensures.shown ∙ length-shown_all (first_differing values c.self.inside.shown c.displays.result.now) values c.self.inside.shown);
+      room = c.self.invariant.room;
       beside = c.self.invariant.beside;
     }
 
 pub returns-clause-state : goal.returns-clause-state
 returns-clause-state c =
     let before : State = state_of c.self.inside.plant c.self.inside.crosspoints c.self.inside.protects c.self.inside.groups c.self.inside.notices c.self.inside.shown in
-    let values : ℕ → Value = value_in c.self.inside.plant c.self.inside.crosspoints in
+    let values : ℕ → Value = value_in c.self.inside.plant c.self.inside.crosspoints.entries in
     let are : c.displays.result.now ≡ displays_of c.self.inside.plant c.args.screen =
     c.displays.ensures ∙ ap (λ (tables : Tables). displays_at tables.screens c.args.screen) c.deref-2.ensures ∙ c.self.invariant.beside.screened c.args.screen in
     ap (λ (shown : Shown). record before { shown = shown })
@@ -52,7 +53,7 @@ returns-clause-state c =
 
 pub returns-clause-answers : goal.returns-clause-answers
 returns-clause-answers c =
-    let values : ℕ → Value = value_in c.self.inside.plant c.self.inside.crosspoints in
+    let values : ℕ → Value = value_in c.self.inside.plant c.self.inside.crosspoints.entries in
     let are : c.displays.result.now ≡ displays_of c.self.inside.plant c.args.screen =
     c.displays.ensures ∙ ap (λ (tables : Tables). displays_at tables.screens c.args.screen) c.deref-2.ensures ∙ c.self.invariant.beside.screened c.args.screen in
     c.show_first.ensures.answers

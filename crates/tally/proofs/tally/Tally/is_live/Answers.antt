@@ -7,7 +7,7 @@ use Rattle.tally.proofs.tally.Tally.is_live.Goals as goal
 pub returns-then-has : goal.returns-then-has
 returns-then-has c =
     let plant = c.args.graph.now.plant.now in
-    let points = c.args.graph.now.points.now in
+    let points = c.args.graph.now.points.now.entries in
     let fed = is_fed_bus plant points (seen_at c.args.self.now c.args.roots) c.args.dest in
     c.if-has.true
     ∙ ap (λ b. b || fed) (sym c.if-has.true ∙ c.has.ensures)
@@ -16,7 +16,7 @@ returns-then-has c =
 pub returns-else-has : goal.returns-else-has
 returns-else-has c =
     let plant = c.args.graph.now.plant.now in
-    let points = c.args.graph.now.points.now in
+    let points = c.args.graph.now.points.now.entries in
     let fed = is_fed_bus plant points (seen_at c.args.self.now c.args.roots) c.args.dest in
     c.is_fed_bus.ensures
     ∙ ap (λ b. b || fed) (sym c.if-has.false ∙ c.has.ensures)

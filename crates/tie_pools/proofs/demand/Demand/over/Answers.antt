@@ -10,7 +10,7 @@ returns-then-pool-wanted c =
     let n = c.loop-number.number in
     let within : n < length c.args.plant.now.pools = omega (arith, ap (λ (pools : List Pool). length pools) c.pools-pool-items.ensures.pools) in
     over_at c.args.plant.now c.args.self.now n c.count_of-wanted.result _ within
-    (c.count_of-wanted.ensures ∙ ap (λ (demand : Demand). count_at demand.used n) c.self.view_is)
+    (c.count_of-wanted.ensures ∙ ap (λ (demand : Demand). count_at demand.used.entries n) c.self.view_is)
     (size_is c.args.plant.now c.pools-pool-items.result.now n _ within c.pools-pool-items.ensures.pools)
     c.loop-number.invariant c.of.result c.of.ensures c.if-pool-wanted.true
 
@@ -19,6 +19,6 @@ loop-number-preserved c =
     let n = c.loop-number.number in
     let within : n < length c.args.plant.now.pools = omega (arith, ap (λ (pools : List Pool). length pools) c.pools-pool-items.ensures.pools) in
     not_over_at c.args.plant.now c.args.self.now n c.count_of-wanted.result _ within
-    (c.count_of-wanted.ensures ∙ ap (λ (demand : Demand). count_at demand.used n) c.self.view_is)
+    (c.count_of-wanted.ensures ∙ ap (λ (demand : Demand). count_at demand.used.entries n) c.self.view_is)
     (size_is c.args.plant.now c.pools-pool-items.result.now n (record { from = 0; to = 0; level = 0; ties = 0 }) within c.pools-pool-items.ensures.pools)
     c.loop-number.invariant c.if-pool-wanted.false

@@ -8,4 +8,4 @@ use Rattle.tie_pools.proofs.holdings.Holdings.lowest_free.Given as goal
 
 abbrev pub invariant-loop-number : goal.invariant-loop-number
 invariant-loop-number l =
-    find (λ tie. is_none (get l.self.held (tie_place l.pool tie))) (range_with_len l.number (l.size - l.number)) ≡ lowest_unheld l.self l.pool l.size
+    find (λ tie. is_none (get l.self.held.entries (tie_place l.pool tie))) (range_with_len l.number (l.size - l.number)) ≡ lowest_unheld l.self l.pool l.size

@@ -17,31 +17,33 @@ pub give-requires-clause-ready : goal.give-requires-clause-ready
 give-requires-clause-ready c =
     let rest = drop (c.loop-index.index + 1) c.args.changes.now in
     let next = next_change c.args.changes.now c.loop-index.index c.index-changes-index.result c.loop-index-test.true c.index-changes-index.is in
-    ready_first c.loop-index.points c.index-changes-index.result rest (subst (AreReady c.loop-index.points) next c.loop-index.invariant.2)
+    ready_first c.loop-index.points.entries c.index-changes-index.result rest (subst (AreReady c.loop-index.points.entries) next c.loop-index.invariant.ready)
 
 pub give-requires-clause-valid : goal.give-requires-clause-valid
 give-requires-clause-valid c =
     let plant = c.args.plant.now in
-    let points = c.loop-index.points in
+    let points = c.loop-index.points.entries in
     let rest = drop (c.loop-index.index + 1) c.args.changes.now in
     let next = next_change c.args.changes.now c.loop-index.index c.index-changes-index.result c.loop-index-test.true c.index-changes-index.is in
     one_valid plant points c.index-changes-index.result rest
     (subst NamesOnce next (NamesOnce-drop c.loop-index.index c.args.changes.now c.requires.once))
-    (subst (AreReady points) next c.loop-index.invariant.2)
-    (subst (HaveValidTies plant) (sym c.loop-index.invariant.0 ∙ ap (given_each plant points) next) c.requires.valid)
+    (subst (AreReady points) next c.loop-index.invariant.ready)
+    (subst (HaveValidTies plant) (sym c.loop-index.invariant.points ∙ ap (given_each plant points) next) c.requires.valid)
 
 pub loop-index-preserved : goal.loop-index-preserved
 loop-index-preserved c =
     let plant = c.args.plant.now in
-    let points = c.loop-index.points in
+    let points = c.loop-index.points.entries in
     let rest = drop (c.loop-index.index + 1) c.args.changes.now in
-    let next = next_change c.args.changes.now c.loop-index.index c.index-changes-index.result c.loop-index-test.true c.index-changes-index.is in (
-      ap (λ points. given_each plant points rest) c.give.ensures.points
+    let next = next_change c.args.changes.now c.loop-index.index c.index-changes-index.result c.loop-index-test.true c.index-changes-index.is in
+    record {
+      points = ap (λ points. given_each plant points rest) c.give.ensures.points
           ∙ sym (ap (given_each plant points) next)
-          ∙ c.loop-index.invariant.0,
-      c.give.ensures.counts,
-      subst (λ points. AreReady points rest) (sym c.give.ensures.points)
+          ∙ c.loop-index.invariant.points;
+      room = c.give.ensures.room ∙ c.loop-index.invariant.room;
+      counts = c.give.ensures.counts;
+      ready = subst (λ points. AreReady points rest) (sym c.give.ensures.points)
           (ready_behind plant points c.index-changes-index.result rest
           (subst NamesOnce next (NamesOnce-drop c.loop-index.index c.args.changes.now c.requires.once))
-          (subst (AreReady points) next c.loop-index.invariant.2)),
-    )
+          (subst (AreReady points) next c.loop-index.invariant.ready));
+    }

@@ -13,10 +13,12 @@ release-requires-clause-dest c =
 pub loop-index-preserved : goal.loop-index-preserved
 loop-index-preserved c =
     let rest = drop (c.loop-index.index + 1) c.args.changes.now in
-    let next = next_change c.args.changes.now c.loop-index.index c.index-changes-index.result c.loop-index-test.true c.index-changes-index.is in (
-      ap (λ points. released_each points rest) c.release.ensures.points
-          ∙ sym (ap (released_each c.loop-index.points) next)
-          ∙ c.loop-index.invariant.0,
-      c.release.ensures.counts,
-      c.release.ensures.valid,
-    )
+    let next = next_change c.args.changes.now c.loop-index.index c.index-changes-index.result c.loop-index-test.true c.index-changes-index.is in
+    record {
+      points = ap (λ points. released_each points rest) c.release.ensures.points
+          ∙ sym (ap (released_each c.loop-index.points.entries) next)
+          ∙ c.loop-index.invariant.points;
+      room = c.release.ensures.room ∙ c.loop-index.invariant.room;
+      counts = c.release.ensures.counts;
+      valid = c.release.ensures.valid;
+    }

@@ -5,7 +5,9 @@ use Rattle.tie_pools.specs.CommitInside.{released_each}
 use Rattle.tie_pools.proofs.ties.Ties.release_all.Given as goal
 
 abbrev pub invariant-loop-index : goal.invariant-loop-index
-invariant-loop-index l =
-    (released_each l.points (drop l.index l.changes) ≡ released_each l.initial.points l.changes)
-    × AreCountsOf l.plant l.points l.self
-    × HaveValidTies l.plant l.points
+invariant-loop-index l = record {
+  points : released_each l.points.entries (drop l.index l.changes) ≡ released_each l.initial.points.entries l.changes;
+  room : l.points.room ≡ l.initial.points.room;
+  counts : AreCountsOf l.plant l.points.entries l.self;
+  valid : HaveValidTies l.plant l.points.entries;
+}

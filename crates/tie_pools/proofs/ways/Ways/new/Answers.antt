@@ -8,7 +8,7 @@ pub loop-number-init : goal.loop-number-init
 loop-number-init c = record {
   lowest = lowest_none c.args.plant.now c.new-lowest.result c.new-lowest.ensures.empty;
   ways = ways_none c.args.plant.now c.in_ok-ways.ways.entries c.in_ok-ways.ensures.empty;
-  room = c.in_ok-ways.ensures.room;
+  room = c.in_ok-ways.ensures.room ∙ c.source_count-sources.ensures.count;
 }
 
 pub loop-number-preserved : goal.loop-number-preserved
@@ -24,5 +24,5 @@ loop-number-preserved c =
 pub returns : goal.returns
 returns c =
     let plant = c.args.plant.now in
-    let all : c.loop-number.number ≡ length plant.sources = omega (arith, c.loop-number-test.false, c.loop-number.auto.number-end, c.source_count-number-end.ensures.count, c.source_count-number-end.ensures.plant.named.sources) in
+    let all : c.loop-number.number ≡ length plant.sources = omega (arith, c.loop-number-test.false, c.loop-number.auto.number-end, c.source_count-sources.ensures.count, c.source_count-sources.ensures.plant.named.sources) in
     ways_all plant c.loop-number.ways.entries (subst (λ (number : ℕ). AreWaysBelow plant number c.loop-number.ways.entries) all c.loop-number.invariant.ways)
