@@ -5,6 +5,7 @@ pub mod KeepsLemmas
 pub mod KeptTurnLemmas
 pub mod StandsLemmas
 pub mod ActsLemmas
+pub mod ReadLemmas
 pub mod SessionLemmas
 pub mod FrameRoom
 pub mod FrameLemmas
@@ -19,6 +20,8 @@ pub mod AsksExist
 pub mod TurnExists
 pub mod TurnsFit
 pub mod TurnsOnce
+pub mod SentLemmas
+pub mod WorkLemmas
 pub mod SessionRequests
 pub mod LampLemmas
 pub mod TraceLemmas

@@ -1,5 +1,5 @@
 -- A turn that is on its way.
-use Rattle.std.proofs.Common.{◌≡◌, ◌≢◌, ℕ, ◌^◌, ◌<◌, List, [], ◌∷◌, ◌++◌, length, take, drop, All, refl, sym, ap, ◌∙◌, subst, arith}
+use Rattle.std.proofs.Common.{◌≡◌, ◌≢◌, ℕ, ◌^◌, ◌<◌, true, false, if◌then◌else◌, Bool, List, [], ◌∷◌, ◌++◌, length, take, drop, All, refl, sym, ap, ◌∙◌, subst, arith}
 use Rattle.std.proofs.lemmas.List.{append_assoc, append-nil, take-append-drop, length-drop, nil_from_length, take_all}
 use Rattle.std.proofs.lemmas.List.Elements.{All-nil, All-push}
 use Rattle.dle_framing.specs.Items.{items}
@@ -24,14 +24,14 @@ use Rattle.panel_session.specs.Turns.{Turn, bytes_of, entries_in, entries_of, Is
 use Rattle.panel_session.specs.Text.{IsText}
 
 -- nothing is left of nothing
-drop-none : (used : ℕ) (rest : List ℕ) → rest ≡ [] → drop used rest ≡ []
+pub drop-none : (used : ℕ) (rest : List ℕ) → rest ≡ [] → drop used rest ≡ []
 drop-none used rest none = nil_from_length (drop used rest) (omega (arith, length-drop used rest, ap (length {A = ℕ}) none))
 
 drop_all : (used : ℕ) (rest : List ℕ) → used ≡ length rest → drop used rest ≡ []
 drop_all used rest all = nil_from_length (drop used rest) (omega (arith, length-drop used rest))
 
 -- a request's entry, behind those of the turn
-told_behind : (told polls : List PlantEntry) (entry : PlantEntry) → polls ≡ [] → (told ++ entry ∷ []) ++ polls ≡ (told ++ polls) ++ entry ∷ []
+pub told_behind : (told polls : List PlantEntry) (entry : PlantEntry) → polls ≡ [] → (told ++ entry ∷ []) ++ polls ≡ (told ++ polls) ++ entry ∷ []
 told_behind told polls entry none =
     let P : List PlantEntry → Type 0 = λ polls. (told ++ entry ∷ []) ++ polls ≡ (told ++ polls) ++ entry ∷ [] in
     subst P (sym none) (append-nil (told ++ entry ∷ []) ∙ ap (λ (told : List PlantEntry). told ++ entry ∷ []) (sym (append-nil told)))
@@ -57,7 +57,7 @@ module _ {State : Type 0} {step : State → Request → Stepped State Answer} {F
       }
 
   -- what is left of the piece may go on the turn so far
-  may_go_on : {most : State → ℕ} {machine_now : State} {session session_now : Session} {now : Past} {rest more : List ℕ}
+  pub may_go_on : {most : State → ℕ} {machine_now : State} {session session_now : Session} {now : Past} {rest more : List ℕ}
       → MayTurn step Fits most plant panel session past machine piece
       → IsUnderWay step Fits plant panel past piece machine machine_now session_now rest now more → MayGoOn now rest
   may_go_on {now = now} {rest = rest} may way =
@@ -95,7 +95,7 @@ module _ {State : Type 0} {step : State → Request → Stepped State Answer} {F
       subst SayableIn (sym way.machine_is) (may.serves.sayable (entries_in now.now) request way.legal (subst FitsIn way.machine_is fits))
 
   -- more of the piece was used
-  used_more : {machine_now : State} {session_now : Session} {now : Past} {rest more : List ℕ} (used : ℕ)
+  pub used_more : {machine_now : State} {session_now : Session} {now : Past} {rest more : List ℕ} (used : ℕ)
       → IsUnderWay step Fits plant panel past piece machine machine_now session_now rest now more
       → (now.now.piece ++ take used rest) ++ drop used rest ≡ piece
   used_more {now = now} {rest = rest} used way =
@@ -119,16 +119,16 @@ module _ {State : Type 0} {step : State → Request → Stepped State Answer} {F
     stands = acts.1;
   }
 
-  -- A request was answered, with its entry behind the others.
-  asked_behind : {machine_now machine_then : State} {session_now after : Session} {now later : Past} {rest left more : List ℕ}
-      (used : ℕ) (request : Request)
+  -- A request was answered, with its entry behind the others, and bytes were sent.
+  pub asked_behind : {machine_now machine_then : State} {session_now after : Session} {now later : Past} {rest left more : List ℕ}
+      (used : ℕ) (request : Request) (added : List ℕ)
       → IsUnderWay step Fits plant panel past piece machine machine_now session_now rest now more → left ≡ drop used rest
       → Fits machine_now request → machine_then ≡ (step machine_now request).state → StandsFor plant panel after later
-      → later.turns ≡ now.turns → later.now.piece ≡ now.now.piece ++ take used rest → later.sent ≡ now.sent
+      → later.turns ≡ now.turns → later.now.piece ≡ now.now.piece ++ take used rest → later.sent ≡ now.sent ++ added
       → entries_in later.now ≡ entries_in now.now ++ entry_at step machine_now panel request ∷ []
       → (later.now.polls ≢ [] → left ≡ [])
-      → IsUnderWay step Fits plant panel past piece machine machine_then after left later more
-  asked_behind {machine_now = machine_now} {now = now} {rest = rest} {left = left} used request way is fits state stands turns pieces sent entries idle =
+      → IsUnderWay step Fits plant panel past piece machine machine_then after left later (more ++ added)
+  asked_behind {machine_now = machine_now} {now = now} {rest = rest} {left = left} {more = more} used request added way is fits state stands turns pieces sent entries idle =
       let before = entries_in now.now in
       let entry = entry_at step machine_now panel request in
       let own : entry ≡ entry_at step (run step machine before) panel request = ap (λ (state : State). entry_at step state panel request) way.machine_is in
@@ -141,13 +141,21 @@ module _ {State : Type 0} {step : State → Request → Stepped State Answer} {F
         turns = turns ∙ way.turns;
         piece_is = ap (λ (front : List ℕ). front ++ left) pieces ∙ ap (λ (left : List ℕ). (now.now.piece ++ take used rest) ++ left) is ∙ used_more used way;
         idle = idle;
-        sent = sent ∙ way.sent;
+        sent = sent ∙ ap (λ (bytes : List ℕ). bytes ++ added) way.sent ∙ append_assoc past.sent more added;
         seats = subst (All Seat) (sym entries) (All-push Seat before entry way.seats refl);
         legal = subst Legal (sym entries) legal;
         machine_is = state ∙ ap (λ (state : State). (step state request).state) way.machine_is
             ∙ sym (run-append step machine before (entry ∷ [])) ∙ ap (run step machine) (sym entries);
         stands = stands;
       }
+
+  -- no bytes more were sent
+  no_more : {machine_now : State} {session_now : Session} {now : Past} {rest more : List ℕ}
+      → IsUnderWay step Fits plant panel past piece machine machine_now session_now rest now (more ++ [])
+      → IsUnderWay step Fits plant panel past piece machine machine_now session_now rest now more
+  no_more {machine_now = machine_now} {session_now = session_now} {now = now} {rest = rest} {more = more} way =
+      let Sent : List ℕ → Type 0 = λ more. IsUnderWay step Fits plant panel past piece machine machine_now session_now rest now more in
+      subst Sent (append-nil more) way
 
   -- the machine answered a request
   pub way_asked : {machine_now machine_then : State} {session_now after : Session} {now : Past} {rest left more : List ℕ}
@@ -158,14 +166,14 @@ module _ {State : Type 0} {step : State → Request → Stepped State Answer} {F
       → StandsFor plant panel after (with_entry (entry_at step machine_now panel request) (with_bytes (take used rest) now))
       → IsUnderWay step Fits plant panel past piece machine machine_then after left
       (with_entry (entry_at step machine_now panel request) (with_bytes (take used rest) now)) more
-  way_asked {machine_now = machine_now} {now = now} used (Told asker item message) way is place fits state stands =
+  way_asked {machine_now = machine_now} {now = now} {rest = rest} {more = more} used (Told asker item message) way is place fits state stands =
       let entry = entry_at step machine_now panel (Told asker item message) in
-      asked_behind used (Told asker item message) way is fits state stands refl refl refl
-      (told_behind now.now.told now.now.polls entry place) (λ some. absurd (some place))
-  way_asked {machine_now = machine_now} {now = now} {rest = rest} used (Poll asker item turn) way is place fits state stands =
+      no_more (asked_behind used (Told asker item message) [] way is fits state stands refl refl (sym (append-nil now.sent))
+      (told_behind now.now.told now.now.polls entry place) (λ some. absurd (some place)))
+  way_asked {machine_now = machine_now} {now = now} {rest = rest} {more = more} used (Poll asker item turn) way is place fits state stands =
       let entry = entry_at step machine_now panel (Poll asker item turn) in
-      asked_behind used (Poll asker item turn) way is fits state stands refl refl refl
-      (sym (append_assoc now.now.told now.now.polls (entry ∷ []))) (λ some. is ∙ drop_all used rest place)
+      no_more (asked_behind used (Poll asker item turn) [] way is fits state stands refl refl (sym (append-nil now.sent))
+      (sym (append_assoc now.now.told now.now.polls (entry ∷ []))) (λ some. is ∙ drop_all used rest place))
   way_asked used (Leave asker) way is place fits state stands = absurd place
   way_asked used (DisplayPoll screen refresh) way is place fits state stands = absurd place
 
@@ -195,3 +203,43 @@ module _ {State : Type 0} {step : State → Request → Stepped State Answer} {F
             (ap (λ (turns : List Turn). record { turns = turns ++ turn ∷ []; now = unread; sent = now.sent }) way.turns
             ∙ ap (λ (sent : List ℕ). record { turns = past.turns ++ turn ∷ []; now = unread; sent = sent }) way.sent) acts.2;
       }
+
+-- A turn that went on, with bytes more,
+pub goes_more : {State : Type 0} {step : State → Request → Stepped State Answer} {Fits : State → Request → Type 0} {plant : PlantData} {panel : ℕ} {past : Past} {piece : List ℕ} {first machine : State}
+    {session : Session} {rest : List ℕ} {now : Past} (more added bytes : List ℕ)
+    → IsUnderWay step Fits plant panel past piece first machine session rest now ((more ++ added) ++ bytes)
+    → IsUnderWay step Fits plant panel past piece first machine session rest now (more ++ (added ++ bytes))
+goes_more {step = step} {Fits = Fits} {plant = plant} {panel = panel} {past = past} {piece = piece} {first = first} {machine = machine} {session = session} {rest = rest} {now = now} more added bytes way =
+    let More : List ℕ → Type 0 = λ more. IsUnderWay step Fits plant panel past piece first machine session rest now more in
+    subst More (append_assoc more added bytes) way
+
+-- with no bytes more,
+pub goes_none : {State : Type 0} {step : State → Request → Stepped State Answer} {Fits : State → Request → Type 0} {plant : PlantData} {panel : ℕ} {past : Past} {piece : List ℕ} {first machine : State}
+    {session : Session} {rest : List ℕ} {now : Past} {more : List ℕ}
+    → IsUnderWay step Fits plant panel past piece first machine session rest now more
+    → IsUnderWay step Fits plant panel past piece first machine session rest now (more ++ [])
+goes_none {step = step} {Fits = Fits} {plant = plant} {panel = panel} {past = past} {piece = piece} {first = first} {machine = machine} {session = session} {rest = rest} {now = now} {more = more} way =
+    let More : List ℕ → Type 0 = λ more. IsUnderWay step Fits plant panel past piece first machine session rest now more in
+    subst More (sym (append-nil more)) way
+
+-- with bytes that were sent for an item,
+pub goes_sent : {State : Type 0} {step : State → Request → Stepped State Answer} {Fits : State → Request → Type 0} {plant : PlantData} {panel : ℕ} {past : Past} {piece : List ℕ} {first machine : State}
+    {session : Session} {rest left : List ℕ} {now : Past} (more added bytes : List ℕ) (send : Bool) → send ≡ true → left ≡ rest
+    → IsUnderWay step Fits plant panel past piece first machine session rest now ((more ++ added) ++ (if send then bytes else []))
+    → IsUnderWay step Fits plant panel past piece first machine session left now (more ++ (added ++ bytes))
+goes_sent {step = step} {Fits = Fits} {plant = plant} {panel = panel} {past = past} {piece = piece} {first = first} {machine = machine} {session = session} {rest = rest} {now = now} more added bytes send loud is way =
+    let Way : List ℕ → List ℕ → Type 0 = λ rest more. IsUnderWay step Fits plant panel past piece first machine session rest now more in
+    let Sends : Bool → Type 0 = λ send. Way rest ((more ++ added) ++ (if send then bytes else [])) in
+    let Left : List ℕ → Type 0 = λ rest. Way rest (more ++ (added ++ bytes)) in
+    subst Left (sym is) (subst (Way rest) (append_assoc more added bytes) (subst Sends loud way))
+
+-- or with none.
+pub goes_quiet : {State : Type 0} {step : State → Request → Stepped State Answer} {Fits : State → Request → Type 0} {plant : PlantData} {panel : ℕ} {past : Past} {piece : List ℕ} {first machine : State}
+    {session : Session} {rest left : List ℕ} {now : Past} (more bytes : List ℕ) (send : Bool) → send ≡ false → left ≡ rest
+    → IsUnderWay step Fits plant panel past piece first machine session rest now (more ++ (if send then bytes else []))
+    → IsUnderWay step Fits plant panel past piece first machine session left now more
+goes_quiet {step = step} {Fits = Fits} {plant = plant} {panel = panel} {past = past} {piece = piece} {first = first} {machine = machine} {session = session} {rest = rest} {now = now} more bytes send quiet is way =
+    let Way : List ℕ → List ℕ → Type 0 = λ rest more. IsUnderWay step Fits plant panel past piece first machine session rest now more in
+    let Sends : Bool → Type 0 = λ send. Way rest (more ++ (if send then bytes else [])) in
+    let Left : List ℕ → Type 0 = λ rest. Way rest more in
+    subst Left (sym is) (subst (Way rest) (append-nil more) (subst Sends quiet way))

@@ -31,4 +31,5 @@ pub mod TraceLine
 pub mod TraceInside
 pub mod TraceLaws
 pub mod RunInside
+pub mod WorkInside
 pub mod SettledInside

@@ -1,5 +1,6 @@
 -- What a session becomes, step by step.
 use Rattle.std.specs.Prelude.{ℕ, ◌+◌, ◌%◌, ◌^◌, Bool, List, []}
+use Rattle.dle_framing.specs.Numbers.{ack}
 use Rattle.plant_config.specs.Plant.{PlantData}
 use Rattle.plant_core.specs.declared.answer.Answer.{Answer}
 use Rattle.panel_session.specs.declared.asked.Asked.{Asked}
@@ -9,8 +10,9 @@ use Rattle.panel_session.specs.declared.session.Session.{Session}
 use Rattle.panel_session.specs.declared.stage.Stage.{Stage}
 use Rattle.panel_session.specs.declared.stage.Stage.TheVariants.{Read, Tell}
 use Rattle.panel_session.specs.TakenInside.{taken_output}
-use Rattle.panel_session.specs.Text.{with_frames, frames_of}
+use Rattle.panel_session.specs.Text.{with_control, with_frames, frames_of}
 use Rattle.panel_session.specs.OutgoingInside.{emptied}
+use Rattle.panel_session.specs.RoomsInside.{fitting}
 use Rattle.panel_session.specs.SenderKept.{sending}
 
 -- one more, as the code counts
@@ -42,12 +44,34 @@ took plant asked session = record session {
   counts = counts_with asked session.counts;
 }
 
+-- A good frame is counted, and its ACK is to be sent.
+abbrev pub acknowledged : Session → Session
+acknowledged session = record session {
+  sender = sending (with_control ack (emptied session.sender.output)) session.sender;
+  counts = record session.counts { goods = next session.counts.goods };
+}
+
 -- The answers in the outbox are what is to be sent.
 abbrev pub took_answers : List Answer → Bool → Session → Session
 took_answers answers unsent session = record session {
   sender = sending (with_frames (frames_of answers) (emptied session.sender.output)) session.sender;
   unsent = unsent;
   outbox = record session.outbox { items = [] };
+}
+
+-- The answers to a request were taken, so far as there is room for them: their frames are to be sent behind what is.
+abbrev pub answered_too : List Answer → Session → Session
+answered_too answers session = record session {
+  sender = sending
+      (with_frames (frames_of (fitting session.sender.names answers)) session.sender.output)
+      session.sender;
+  outbox = record session.outbox { items = [] };
+}
+
+-- nothing is to be sent
+abbrev pub silenced : Session → Session
+silenced session = record session {
+  sender = sending (emptied session.sender.output) session.sender;
 }
 
 -- The turn is over.

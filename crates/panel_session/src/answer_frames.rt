@@ -27,14 +27,45 @@ impl Outgoing {
         ensures most { length self.new.output.bytes ≤ answer_bytes (length answers.now) }
     {
         self.clear();
-        if answers.is_empty() {
-            return false;
+        self.answer_too(answers);
+        !self.as_slice().is_empty()
+    }
+
+    // The frames of these answers are to be sent too, in order. Nearly every request has one answer or none.
+    #[inline(always)]
+    pub(crate) fn answer_too(&mut self, answers: &[Answer])
+        requires sayable { All IsSayable answers.now }
+        requires room { length self.old.output.bytes + answer_bytes (length answers.now)
+            ≤ self.old.room }
+        ensures output { self.new.output
+            ≡ with_frames (frames_of answers.now) self.old.output }
+        ensures room { self.new.room ≡ self.old.room }
+        ensures most { length self.new.output.bytes
+            ≤ length self.old.output.bytes + answer_bytes (length answers.now) }
+    {
+        match answers {
+            [] => {}
+            [Answer::Say(message)] => self.say(message),
+            _ => self.add_answers(answers),
         }
+    }
+
+    // The same of any answers.
+    #[inline(never)]
+    fn add_answers(&mut self, answers: &[Answer])
+        requires sayable { All IsSayable answers.now }
+        requires room { length self.old.output.bytes + answer_bytes (length answers.now)
+            ≤ self.old.room }
+        ensures output { self.new.output
+            ≡ with_frames (frames_of answers.now) self.old.output }
+        ensures room { self.new.room ≡ self.old.room }
+        ensures most { length self.new.output.bytes
+            ≤ length self.old.output.bytes + answer_bytes (length answers.now) }
+    {
         let said = self.say_first(answers);
         if said < answers.len() {
             self.add_pages(&answers[said..]);
         }
-        !self.as_slice().is_empty()
     }
 
     // The frames of what is said before all else are to be sent too. It answers how many answers that are.
@@ -54,7 +85,7 @@ impl Outgoing {
             let Answer::Say(message) = answers[said] else {
                 return said;
             };
-            self.say(message);
+            self.say(&message);
             said += 1;
         }
         said
@@ -113,7 +144,7 @@ impl Outgoing {
     {
         self.send_filled(page);
         page.clear();
-        self.say(message);
+        self.say(&message);
     }
 
     // This destination comes behind those of the page, which goes on with it, or is sent, and another begins there.

@@ -159,10 +159,11 @@ impl Outgoing {
     }
 
     // The frame of this message is to be sent too.
-    pub(crate) fn say(&mut self, message: Message)
-        requires in_range { InRange message }
+    #[inline(always)]
+    pub(crate) fn say(&mut self, message: &Message)
+        requires in_range { InRange message.now }
         requires room { length self.old.output.bytes + most_message_frame ≤ self.old.room }
-        ensures output { self.new.output ≡ with_frame (frame (text message)) self.old.output }
+        ensures output { self.new.output ≡ with_frame (frame (text message.now)) self.old.output }
         ensures room { self.new.room ≡ self.old.room }
         ensures most { length self.new.output.bytes
             ≤ length self.old.output.bytes + most_message_frame }

@@ -1,6 +1,6 @@
 //! What a session sends next, with the names of its plant.
 
-ghost use Rattle.std.specs.Prelude.{◌≡◌, ◌≢◌, true, false, [], All, IfOk};
+ghost use Rattle.std.specs.Prelude.{◌≡◌, ◌≢◌, ◌≤◌, true, false, [], length, All, IfOk};
 ghost use Rattle.dle_framing.specs.Numbers.{ack, nak};
 ghost use Rattle.swp08_messages.specs.Text.{InRange};
 ghost use Rattle.plant_config.specs.IsPlant.{IsPlant};
@@ -125,6 +125,26 @@ impl<'p> Sender<'p> {
             return false;
         }
         self.outgoing.answer(answers)
+    }
+
+    // Nothing is to be sent.
+    pub(crate) fn clear(&mut self)
+        ensures { self.new ≡ sending (emptied self.old.output) self.old }
+    {
+        self.outgoing.clear();
+    }
+
+    // The frames of these answers are to be sent behind a control or nothing, in order, where there is room for them.
+    #[inline(always)]
+    pub(crate) fn answer_too(&mut self, answers: &[Answer])
+        requires sayable { All IsSayable answers.now }
+        requires front { length self.old.output.bytes ≤ 2 }
+        ensures { self.new ≡ sending (with_frames
+            (frames_of (fitting self.old.names answers.now)) self.old.output) self.old }
+    {
+        if answers.len() <= self.most {
+            self.outgoing.answer_too(answers);
+        }
     }
 }
 

@@ -1,21 +1,20 @@
 //! The session of one panel.
 
-ghost use Rattle.std.specs.Prelude.{◌≡◌, ◌≢◌, ℕ, ◌<◌, ◌≤◌, true, false, [], ◌++◌};
-ghost use Rattle.std.specs.Prelude.{length, take, All, IfOk, Some};
+ghost use Rattle.std.specs.Prelude.{◌≡◌, ℕ, ◌<◌, ◌≤◌, false, [], length, All, IfOk};
 ghost use Rattle.std.specs.Borrow.{sem};
 ghost use Rattle.plant_config.specs.Plant.{PlantData};
 ghost use Rattle.plant_core.specs.declared.request.Request.{Request};
 ghost use Rattle.plant_core.specs.declared.request.Request.TheVariants.{Leave};
 ghost use Rattle.plant_core.specs.Answer.{IsSayable, room_of};
 ghost use Rattle.panel_session.specs.SoFar.{Past, nothing_yet};
-ghost use Rattle.panel_session.specs.RoomsInside.{fitting};
 ghost use Rattle.panel_session.specs.TraceLine.{trace_line};
-ghost use Rattle.panel_session.specs.TakenInside.{IsSending, IsAnswer, IsNoAnswer};
 
+mod moves;
 mod requests;
+mod work;
 
 use crate::act::Act;
-use crate::asked::{Asked, next_asked};
+use crate::asked::next_asked;
 use crate::counts::Counts;
 use crate::leave_line::LeaveLine;
 use crate::sender::Sender;
@@ -26,7 +25,6 @@ use plant_config::{PanelNo, Plant};
 use plant_core::{Answer, PlantState, Request};
 use plant_names::Names;
 use std::alloc::{AllocError, Global};
-use swp08_messages::Message;
 
 /// A session of one panel: what the panel sends is handed in, in whatever pieces it comes, and what it is sent comes out.
 /// Between the two a session asks the plant, by its caller. All its memory is taken by `start`.
@@ -49,12 +47,10 @@ pub struct Session<'p> {
 
 impl<'p> Session<'p> {
     ghost use Rattle.panel_session.specs.Acting.{ActsOn};
-    ghost use Rattle.panel_session.specs.AskedInside.{NamesInRange};
     ghost use Rattle.panel_session.specs.Counted.{AreCounts};
     ghost use Rattle.panel_session.specs.Lending.{LendsOutbox, StaysTheSame};
     ghost use Rattle.panel_session.specs.CallsLeft.{stage_left, IsNearer, LeavesLess};
     ghost use Rattle.panel_session.specs.declared.stage.Stage.TheVariants.{Read};
-    ghost use Rattle.panel_session.specs.MovesInside.{took, took_answers, ended_turn};
     ghost use Rattle.panel_session.specs.ReadingInside.{ReadsOn, HasReadOn};
     ghost use Rattle.panel_session.specs.Session.{outgoing_of, outbox_of, StandsFor, Awaits};
     ghost use Rattle.panel_session.specs.Session.{TakesAnswers, BeginsAnew, BeginsAnewUnanswered};
@@ -236,65 +232,5 @@ impl<'p> Session<'p> {
             Some(asked) => (used, self.take(asked)),
             None => (used, false),
         }
-    }
-
-    // Does what an item asks, and answers whether something is to be sent.
-    fn take(&mut self, asked: Asked) -> bool
-        requires names { NamesInRange (Some asked) }
-        ensures session { self.new ≡ took self.old.sender.names asked self.old }
-        ensures some { result ≡ true
-            → IsAnswer self.old.sender.names asked self.old.sender.output }
-        ensures bytes { result ≡ true → IsSending self.old.sender.names asked
-            self.old.sender.output self.new.sender.output }
-        ensures none { result ≡ false
-            → IsNoAnswer self.old.sender.names asked self.old.sender.output }
-        ensures quiet { result ≡ false → self.new.stage ≡ self.old.stage }
-    {
-        self.items = self.items.wrapping_add(1);
-        match asked {
-            Asked::Nothing => false,
-            Asked::Repeat => self.sender.repeat(),
-            Asked::Refused => {
-                self.counts.bads = self.counts.bads.wrapping_add(1);
-                self.sender.nak();
-                true
-            }
-            Asked::Noted => {
-                self.counts.goods = self.counts.goods.wrapping_add(1);
-                self.sender.ack();
-                true
-            }
-            Asked::Named(message) => {
-                self.counts.goods = self.counts.goods.wrapping_add(1);
-                self.sender.names(message);
-                true
-            }
-            Asked::Sent(message) => {
-                self.counts.goods = self.counts.goods.wrapping_add(1);
-                self.sender.ack();
-                self.stage = Stage::Tell(message);
-                true
-            }
-        }
-    }
-
-    // Makes the answers in the outbox what is to be sent.
-    fn take_answers(&mut self)
-        requires { All IsSayable self.old.outbox.items }
-        ensures took { self.new ≡ took_answers
-            (fitting self.old.sender.names self.old.outbox.items) self.new.unsent self.old }
-        ensures some { self.new.unsent ≡ true → self.new.sender.output.bytes ≢ [] }
-        ensures none { self.new.unsent ≡ false → self.new.sender.output.bytes ≡ [] }
-    {
-        self.unsent = self.sender.answer(self.outbox.items());
-        self.outbox.clear();
-    }
-
-    fn end_turn(&mut self)
-        ensures { self.new ≡ ended_turn self.old }
-    {
-        self.stage = Stage::Read;
-        self.polls = 0;
-        self.counts.turns = self.counts.turns.wrapping_add(1);
     }
 }

@@ -17,11 +17,12 @@ use swp08_messages::Message;
 
 // Appends the frame of a message. Most tell a crosspoint, and have DATA of one length; those of any other stand in place of
 // what was spelled.
-pub(crate) fn spell_frame(message: Message, spelled: &mut Vec<u8>, out: &mut Vec<u8>)
-    requires in_range { InRange message }
+#[inline(always)]
+pub(crate) fn spell_frame(message: &Message, spelled: &mut Vec<u8>, out: &mut Vec<u8>)
+    requires in_range { InRange message.now }
     requires room { max_page_len ≤ vec_capacity spelled.old }
     requires frame_room { vec_len out.old + most_message_frame ≤ vec_capacity out.old }
-    ensures frame { out.new.items ≡ out.old.items ++ frame (text message) }
+    ensures frame { out.new.items ≡ out.old.items ++ frame (text message.now) }
     ensures most { vec_len out.new ≤ vec_len out.old + most_message_frame }
     ensures room { vec_capacity spelled.new ≡ vec_capacity spelled.old }
     ensures frame_room { vec_capacity out.new ≡ vec_capacity out.old }
@@ -30,6 +31,20 @@ pub(crate) fn spell_frame(message: Message, spelled: &mut Vec<u8>, out: &mut Vec
         encode_frame(&told, out);
         return;
     }
+    spell_other(message, spelled, out);
+}
+
+// The same of any message, by its DATA.
+#[inline(never)]
+fn spell_other(message: &Message, spelled: &mut Vec<u8>, out: &mut Vec<u8>)
+    requires in_range { InRange message.now }
+    requires room { max_page_len ≤ vec_capacity spelled.old }
+    requires frame_room { vec_len out.old + most_message_frame ≤ vec_capacity out.old }
+    ensures frame { out.new.items ≡ out.old.items ++ frame (text message.now) }
+    ensures most { vec_len out.new ≤ vec_len out.old + most_message_frame }
+    ensures room { vec_capacity spelled.new ≡ vec_capacity spelled.old }
+    ensures frame_room { vec_capacity out.new ≡ vec_capacity out.old }
+{
     spelled.clear();
     message.write(spelled);
     encode_frame(spelled, out);

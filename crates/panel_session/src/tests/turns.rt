@@ -113,3 +113,25 @@ fn an_outlet_is_given_what_a_turn_sends(rt: HostRuntime) -> Result<(), Fail> {
     assert_eq!(rt; (out.bytes.as_slice(), out.lost), (SENT, false));
     Ok(())
 }
+
+// The same, and behind it an ACK and a NAK: the frame alone is sent again, and not the ACK before it.
+const PIECE_AGAIN: &[u8] =
+    b"\x10\x02\x01\x00\x00\x05\x04\xF5\x10\x03\x10\x02\x01\x00\x00\x05\x04\xF6\x10\x03\x10\x06\x10\x15";
+
+const SENT_AGAIN: &[u8] =
+    b"\x10\x15\x10\x06\x10\x02\x03\x00\x07\x05\x7F\x05\x6D\x10\x03\x10\x02\x03\x00\x07\x05\x7F\x05\x6D\x10\x03";
+
+#[test]
+fn a_turn_worked_at_once_sends_the_same(rt: HostRuntime) -> Result<(), Fail> {
+    let alloc = rt.alloc();
+    let plant = Plant::bench(alloc)?;
+    let names = Names::new(alloc, &plant)?;
+    let mut session = Session::start(alloc, &plant, &names, PanelNo::of(0))?;
+    let mut out = Given {
+        bytes: Vec::new(alloc),
+        lost: false,
+    };
+    session.work_turn(&mut Parked, PIECE_AGAIN, &mut out);
+    assert_eq!(rt; (out.bytes.as_slice(), out.lost), (SENT_AGAIN, false));
+    Ok(())
+}

@@ -1,25 +1,8 @@
-use Rattle.std.proofs.Common.{◌≡◌, ℕ, List, ◌++◌, length, ap, ◌∙◌, arith, length-append}
-use Rattle.dle_framing.specs.Frame.{frame}
-use Rattle.swp08_messages.specs.Text.{text}
+use Rattle.std.proofs.Common.{arith}
 use Rattle.panel_session.proofs.FrameRoom.{message_frame-most}
 use Rattle.panel_session.proofs.spell.spell_frame.Goals as goal
 
 -- The DATA of a message that tells a crosspoint are those of its text.
 pub encode_frame-requires-clause-room : goal.encode_frame-requires-clause-room
 encode_frame-requires-clause-room c =
-    omega (arith, c.requires.frame_room, message_frame-most c.args.message _ c.in-Some.ensures)
-
-pub encode_frame-requires-2-clause-room : goal.encode_frame-requires-2-clause-room
-encode_frame-requires-2-clause-room c =
-    let is : c.deref.result.now ≡ text c.args.message = c.deref.ensures.value ∙ c.write.ensures.text ∙ ap (λ (bytes : List ℕ). bytes ++ text c.args.message) c.clear.ensures.items in
-    omega (arith, c.requires.frame_room, message_frame-most c.args.message c.deref.result.now is)
-
-pub returns-clause-frame : goal.returns-clause-frame
-returns-clause-frame c =
-    let is : c.deref.result.now ≡ text c.args.message = c.deref.ensures.value ∙ c.write.ensures.text ∙ ap (λ (bytes : List ℕ). bytes ++ text c.args.message) c.clear.ensures.items in
-    c.encode_frame-2.ensures.frame ∙ ap (λ (bytes : List ℕ). c.args.out.now.items ++ frame bytes) is
-
-pub returns-clause-most : goal.returns-clause-most
-returns-clause-most c =
-    let is : c.deref.result.now ≡ text c.args.message = c.deref.ensures.value ∙ c.write.ensures.text ∙ ap (λ (bytes : List ℕ). bytes ++ text c.args.message) c.clear.ensures.items in
-    omega (arith, ap (length {A = ℕ}) c.encode_frame-2.ensures.frame, length-append c.args.out.now.items (frame c.deref.result.now), message_frame-most c.args.message c.deref.result.now is)
+    omega (arith, c.requires.frame_room, message_frame-most c.args.message.now _ c.in-Some.ensures)

@@ -1,0 +1,81 @@
+//! What a session does for an item, with answers, and at the end of a turn.
+
+ghost use Rattle.std.specs.Prelude.{◌≡◌, ◌≢◌, true, false, [], All, Some};
+ghost use Rattle.plant_core.specs.Answer.{IsSayable};
+ghost use Rattle.panel_session.specs.AskedInside.{NamesInRange};
+ghost use Rattle.panel_session.specs.MovesInside.{took, acknowledged, took_answers, ended_turn};
+ghost use Rattle.panel_session.specs.RoomsInside.{fitting};
+ghost use Rattle.panel_session.specs.TakenInside.{IsSending, IsAnswer, IsNoAnswer};
+
+use super::Session;
+use crate::asked::Asked;
+use crate::stage::Stage;
+
+impl Session<'_> {
+    // Does what an item asks, and answers whether something is to be sent.
+    pub(super) fn take(&mut self, asked: Asked) -> bool
+        requires names { NamesInRange (Some asked) }
+        ensures session { self.new ≡ took self.old.sender.names asked self.old }
+        ensures some { result ≡ true
+            → IsAnswer self.old.sender.names asked self.old.sender.output }
+        ensures bytes { result ≡ true → IsSending self.old.sender.names asked
+            self.old.sender.output self.new.sender.output }
+        ensures none { result ≡ false
+            → IsNoAnswer self.old.sender.names asked self.old.sender.output }
+        ensures quiet { result ≡ false → self.new.stage ≡ self.old.stage }
+    {
+        self.items = self.items.wrapping_add(1);
+        match asked {
+            Asked::Nothing => false,
+            Asked::Repeat => self.sender.repeat(),
+            Asked::Refused => {
+                self.counts.bads = self.counts.bads.wrapping_add(1);
+                self.sender.nak();
+                true
+            }
+            Asked::Noted => {
+                self.acknowledge();
+                true
+            }
+            Asked::Named(message) => {
+                self.counts.goods = self.counts.goods.wrapping_add(1);
+                self.sender.names(message);
+                true
+            }
+            Asked::Sent(message) => {
+                self.acknowledge();
+                self.stage = Stage::Tell(message);
+                true
+            }
+        }
+    }
+
+    // A good frame is counted, and its ACK is to be sent.
+    pub(super) fn acknowledge(&mut self)
+        ensures { self.new ≡ acknowledged self.old }
+    {
+        self.counts.goods = self.counts.goods.wrapping_add(1);
+        self.sender.ack();
+    }
+
+    // Makes the answers in the outbox what is to be sent.
+    pub(super) fn take_answers(&mut self)
+        requires { All IsSayable self.old.outbox.items }
+        ensures took { self.new ≡ took_answers
+            (fitting self.old.sender.names self.old.outbox.items) self.new.unsent self.old }
+        ensures some { self.new.unsent ≡ true → self.new.sender.output.bytes ≢ [] }
+        ensures none { self.new.unsent ≡ false → self.new.sender.output.bytes ≡ [] }
+    {
+        self.unsent = self.sender.answer(self.outbox.items());
+        self.outbox.clear();
+    }
+
+    // The turn is over.
+    pub(super) fn end_turn(&mut self)
+        ensures { self.new ≡ ended_turn self.old }
+    {
+        self.stage = Stage::Read;
+        self.polls = 0;
+        self.counts.turns = self.counts.turns.wrapping_add(1);
+    }
+}

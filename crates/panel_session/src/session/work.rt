@@ -1,0 +1,153 @@
+//! A whole turn of a session, worked over a machine at once.
+
+ghost use Rattle.std.specs.Prelude.{◌≡◌, ◌<◌, ◌≤◌, false, [], All, length};
+ghost use Rattle.plant_core.specs.Answer.{IsSayable};
+ghost use Rattle.plant_core.specs.declared.request.Request.{Request};
+ghost use Rattle.panel_session.specs.MovesInside.{answered_too};
+ghost use Rattle.panel_session.specs.Run.{IsReady, RunsOn};
+ghost use Rattle.panel_session.specs.WorkInside.{unsent_bytes, IsOnItsWay, WorksOn, GoesOn, Ends};
+ghost use Rattle.panel_session.specs.declared.stage.Stage.TheVariants.{Read};
+
+use super::Session;
+use crate::asked::{Asked, next_asked};
+use crate::outlet::Outlet;
+use crate::stage::{Stage, stage_behind};
+use history_lock::Machine;
+use plant_core::{Answer, Request};
+
+impl Session<'_> {
+    /// Works one turn of this session with this piece, as `run_turn` does call by call: the machine works what the session
+    /// asks, and the outlet is given what it sends, an ACK together with the frames behind it. It takes no memory.
+    pub fn work_turn<M, O>(&mut self, machine: &mut M, piece: &[u8], out: &mut O)
+    where
+        M: Machine<Request = Request, Answer = Answer>,
+        O: Outlet,
+        requires { IsReady M.step M.Fits M.room self.old machine.old piece.now }
+        ensures { RunsOn M.step M.Fits M.room O.Given piece.now self.old self.new
+            machine.old machine.new out.old out.new }
+    {
+        self.give_unsent(out);
+        self.work_items(machine, piece, out);
+        self.work_polls(machine, out);
+    }
+
+    // Gives the outlet what was not yet handed out.
+    fn give_unsent<O: Outlet>(&mut self, out: &mut O)
+        ensures session { self.new ≡ record self.old { unsent = false } }
+        ensures given { O.Given out.old (unsent_bytes self.old) out.new }
+    {
+        if self.unsent {
+            self.unsent = false;
+            out.give(self.outgoing());
+        }
+    }
+
+    // Works the items of a piece.
+    #[inline]
+    fn work_items<M, O>(&mut self, machine: &mut M, piece: &[u8], out: &mut O)
+    where
+        M: Machine<Request = Request, Answer = Answer>,
+        O: Outlet,
+        requires way { IsOnItsWay M.step M.Fits M.room self.old machine.old piece.now }
+        requires reads { self.old.stage ≡ Read }
+        requires none { self.old.unsent ≡ false }
+        ensures goes_on { GoesOn M.step M.Fits M.room O.Given piece.now []
+            self.old self.new machine.old machine.new out.old out.new }
+        ensures reads { self.new.stage ≡ Read }
+        ensures none { self.new.unsent ≡ false }
+        ensures fits { (request : Request)
+            → M.Fits machine.old request → M.Fits machine.new request }
+        ensures same { M.room machine.new ≡ M.room machine.old }
+    {
+        let mut rest = piece;
+        while !rest.is_empty() {
+            let (used, send) = self.work_item(machine, rest);
+            rest = &rest[used..];
+            if send {
+                out.give(self.outgoing());
+            }
+        }
+    }
+
+    // Takes the bytes up to the end of the next item and works what that asks: how many, and whether something is to be sent.
+    #[inline]
+    fn work_item<M>(&mut self, machine: &mut M, piece: &[u8]) -> (usize, bool)
+    where
+        M: Machine<Request = Request, Answer = Answer>,
+        requires way { IsOnItsWay M.step M.Fits M.room self.old machine.old piece.now }
+        requires reads { self.old.stage ≡ Read }
+        requires none { self.old.unsent ≡ false }
+        ensures within { result.0 ≤ length piece.now }
+        ensures progress { 0 < length piece.now → 0 < result.0 }
+        ensures works { WorksOn M.step M.Fits M.room piece.now result.0 result.1
+            self.old self.new machine.old machine.new }
+        ensures reads { self.new.stage ≡ Read }
+        ensures none { self.new.unsent ≡ false }
+        ensures fits { (request : Request)
+            → M.Fits machine.old request → M.Fits machine.new request }
+        ensures same { M.room machine.new ≡ M.room machine.old }
+    {
+        let (used, asked) = next_asked(&mut self.framer, piece);
+        let Some(asked) = asked else {
+            return (used, false);
+        };
+        let Asked::Sent(message) = asked else {
+            return (used, self.take(asked));
+        };
+        self.items = self.items.wrapping_add(1);
+        let request = self.telling(message);
+        machine.step(&request, &mut self.outbox);
+        self.acknowledge();
+        self.answer_too();
+        (used, true)
+    }
+
+    // Polls, once the piece is used up, and ends the turn.
+    #[inline]
+    fn work_polls<M, O>(&mut self, machine: &mut M, out: &mut O)
+    where
+        M: Machine<Request = Request, Answer = Answer>,
+        O: Outlet,
+        requires way { IsOnItsWay M.step M.Fits M.room self.old machine.old [] }
+        requires reads { self.old.stage ≡ Read }
+        requires none { self.old.unsent ≡ false }
+        ensures { Ends M.step M.Fits M.room O.Given
+            self.old self.new machine.old machine.new out.old out.new }
+    {
+        let mut polls = 0;
+        loop {
+            polls += 1;
+            let request = self.polling();
+            machine.step(&request, &mut self.outbox);
+            let stage = stage_behind(self.outbox.items(), polls);
+            self.sender.clear();
+            self.answer_too();
+            self.give_some(out);
+            if let Stage::End = stage {
+                self.end_turn();
+                return;
+            }
+        }
+    }
+
+    // Takes the answers in the outbox: their frames are to be sent behind a control or nothing.
+    #[inline(always)]
+    fn answer_too(&mut self)
+        requires sayable { All IsSayable self.old.outbox.items }
+        requires front { length self.old.sender.output.bytes ≤ 2 }
+        ensures { self.new ≡ answered_too self.old.outbox.items self.old }
+    {
+        self.sender.answer_too(self.outbox.items());
+        self.outbox.clear();
+    }
+
+    // Gives the outlet what is to be sent, if something is.
+    fn give_some<O: Outlet>(&self, out: &mut O)
+        ensures { O.Given out.old self.now.sender.output.bytes out.new }
+    {
+        let bytes = self.outgoing();
+        if !bytes.is_empty() {
+            out.give(bytes);
+        }
+    }
+}
