@@ -1,9 +1,9 @@
 -- The first line of a text.
-use Rattle.std.proofs.Common.{◌≡◌, ◌≢◌, ℕ, suc, ◌+◌, ◌-◌, ◌*◌, ◌<◌, ◌≤◌, List, [], ◌∷◌, ◌++◌, length, get_or, take, drop, Ok, refl, sym, ap, ◌∙◌, subst, length-append, arith}
-use Rattle.std.specs.Prelude.{codes}
+use Rattle.std.proofs.Common.{◌≡◌, ◌≢◌, ℕ, ◌-◌, ◌*◌, ◌<◌, ◌≤◌, List, [], ◌∷◌, ◌++◌, length, take, Option, Some, None, Ok, inr, refl, sym, ap, ◌∙◌, length-append, arith}
+use Rattle.std.specs.Prelude.{MatchOption, IfSome}
 use Rattle.std.specs.List.{AllPass}
 use Rattle.std.proofs.lemmas.Bool.{true≢false}
-use Rattle.std.proofs.lemmas.List.{take-append-drop, drop_more, take_all, length-drop, length-take-le}
+use Rattle.std.proofs.lemmas.List.{length-take-le}
 use Rattle.std.proofs.lemmas.List.Elements.{All-nil, All-cons, All-head, All-tail}
 use Rattle.hex.specs.Hex.{decode_of, is_hex_digit}
 use Rattle.hex.proofs.HexLemmas.{decode_of-ok}
@@ -12,9 +12,10 @@ use Rattle.line_text.specs.Decimal.{IsDigit}
 use Rattle.line_text.specs.Laws.{IsLine}
 use Rattle.line_text.proofs.DecimalLemmas.{value_more}
 use Rattle.line_text.proofs.LinesLemmas.{lines_end, lines_on}
-use Rattle.record_replay.specs.Script.{space, line_feed, in_line, lines, NumberSpells}
+use Rattle.record_replay.specs.Script.{Read, space, line_feed, in_line, lines, NumberSpells}
 use Rattle.record_replay.specs.LineInside.{SpellsPanel}
-use Rattle.record_replay.specs.FirstInside.{IsFirst, BeginsWithTurn}
+use Rattle.record_replay.specs.PairsInside.{ArePairs}
+use Rattle.record_replay.specs.FirstInside.{IsFirst, BeginsFormed, BeginsWithTurn, BeginsAsTurn, EndsBehind}
 use Rattle.record_replay.proofs.DigitsLemmas.{HexSpells-whole}
 use Rattle.record_replay.proofs.LineSpellsLemmas.{turn_spells}
 
@@ -56,15 +57,6 @@ digit_spells digit least most = record {
   few = omega arith;
 }
 
--- a text is cut at a byte
-cut_at : (text : List ℕ) (n byte : ℕ) → n < length text → get_or text n 0 ≡ byte → text ≡ take n text ++ byte ∷ drop (n + 1) text
-cut_at text n byte within is =
-    sym (take-append-drop n text) ∙ ap (λ (more : List ℕ). take n text ++ more) (drop_more text n 0 within ∙ ap (λ (first : ℕ). first ∷ drop (n + 1) text) is)
-
--- a slice to the end
-to_end : (text : List ℕ) (n : ℕ) → take (length text - n) (drop n text) ≡ drop n text
-to_end text n = take_all _ _ (omega (arith, length-drop n text))
-
 -- A text begins with a turn, by its parts.
 turn_of_parts : (plant : PlantData) (text hex behind piece : List ℕ) (digit panel : ℕ) → text ≡ 62 ∷ 32 ∷ digit ∷ space ∷ (hex ++ line_feed ∷ behind) → SpellsPanel plant (digit ∷ []) panel
     → decode_of hex ≡ Ok piece → 1 ≤ length piece → length piece ≤ 256 → BeginsWithTurn plant text panel piece behind
@@ -88,25 +80,23 @@ turn_of_parts plant text hex behind piece digit panel is spells read some few =
       ),
     )
 
--- the same, by what is behind `> `
-pub turn_found : (plant : PlantData) (text behind piece : List ℕ) (digit panel count : ℕ) → text ≡ codes "> " ++ behind → SpellsPanel plant (digit ∷ []) panel
-    → 2 * count + 2 < length behind → get_or behind 0 0 ≡ digit → get_or behind 1 0 ≡ space → get_or behind (2 * count + 2) 0 ≡ line_feed
-    → decode_of (take (2 * count) (take (length behind - 2) (drop 2 behind))) ≡ Ok piece → 1 ≤ count → count ≤ 256
-    → BeginsWithTurn plant text panel piece (take (length behind - (2 * count + 3)) (drop (2 * count + 3) behind))
-turn_found plant text [] piece digit panel count is spells within first second end read some few = absurd (omega arith)
-turn_found plant text (a ∷ []) piece digit panel count is spells within first second end read some few = absurd (omega arith)
-turn_found plant text (a ∷ b ∷ more) piece digit panel count is spells within first second end read some few =
-    let whole : take (length (a ∷ b ∷ more) - 2) more ≡ more = to_end (a ∷ b ∷ more) 2 in
-    let at_end : 2 * count + 2 ≡ suc (suc (2 * count)) = omega arith in
-    let past_end : 2 * count + 3 ≡ suc (suc (2 * count + 1)) = omega arith in
-    let ends : get_or more (2 * count) 0 ≡ line_feed = ap (λ (n : ℕ). get_or (a ∷ b ∷ more) n 0) (sym at_end) ∙ end in
-    let cut = cut_at more (2 * count) line_feed (omega (arith, within)) ends in
-    let rest : take (length (a ∷ b ∷ more) - (2 * count + 3)) (drop (2 * count + 3) (a ∷ b ∷ more)) ≡ drop (2 * count + 1) more =
-    to_end (a ∷ b ∷ more) (2 * count + 3) ∙ ap (λ (n : ℕ). drop n (a ∷ b ∷ more)) past_end in
-    let hex : List ℕ = take (2 * count) more in
-    let decoded : decode_of hex ≡ Ok piece = ap (λ (text : List ℕ). decode_of (take (2 * count) text)) (sym whole) ∙ read in
-    let ok = decode_of-ok hex piece decoded in
-    let long = length-take-le (2 * count) more (omega (arith, within)) in
-    subst (BeginsWithTurn plant text panel piece) (sym rest)
-    (turn_of_parts plant text hex (drop (2 * count + 1) more) piece digit panel
-    (is ∙ (λ i. 62 ∷ 32 ∷ first i ∷ second i ∷ cut i)) spells decoded (omega (arith, ok.2, long, some)) (omega (arith, ok.2, long, few)))
+-- the same, by what is found of it
+pub turn_found : (plant : PlantData) (text hex behind piece : List ℕ) (digit panel count : ℕ) → BeginsAsTurn text digit hex → SpellsPanel plant (digit ∷ []) panel → 2 * count < length hex → EndsBehind (2 * count) hex behind
+    → decode_of (take (2 * count) hex) ≡ Ok piece → 1 ≤ count → count ≤ 256 → BeginsWithTurn plant text panel piece behind
+turn_found plant text hex behind piece digit panel count begins spells within ends read some few =
+    let ok = decode_of-ok (take (2 * count) hex) piece read in
+    let long = length-take-le (2 * count) hex (omega (arith, within)) in
+    turn_of_parts plant text (take (2 * count) hex) behind piece digit panel (begins ∙ ap (λ (hex : List ℕ). 62 ∷ 32 ∷ digit ∷ space ∷ hex) ends) spells read
+    (omega (arith, ok.2, long, some)) (omega (arith, ok.2, long, few))
+
+-- the same of a turn whose bytes aren't kept
+pub formed_found : (plant : PlantData) (text hex behind : List ℕ) (digit panel count : ℕ) → BeginsAsTurn text digit hex → SpellsPanel plant (digit ∷ []) panel → 2 * count < length hex → EndsBehind (2 * count) hex behind
+    → ArePairs count hex → 1 ≤ count → count ≤ 256 → BeginsFormed plant text behind
+formed_found plant text hex behind digit panel count begins spells within ends (piece, read) some few =
+    let turn = turn_found plant text hex behind piece digit panel count begins spells within ends read some few in
+    (turn.0, turn.1, inr (Read panel piece, turn.2))
+
+-- what is found of a value, where one is
+pub some_found : {X : Type 0} (result : Option X) (Else : Type 0) (Found Wanted : X → Type 0) → MatchOption result Else Found → ((x : X) → Found x → Wanted x) → IfSome result Wanted
+some_found None Else Found Wanted found wanted = tt
+some_found (Some x) Else Found Wanted found wanted = wanted x found

@@ -1,6 +1,7 @@
 -- Pairs of hexadecimal digits that are read where they stand.
-use Rattle.std.specs.Prelude.{◌≡◌, ℕ, ◌*◌, List, take, Ok, option_map, unwrap_or}
+use Rattle.std.specs.Prelude.{◌≡◌, ℕ, ◌+◌, ◌*◌, List, [], ◌∷◌, take, slice_index, Ok, option_map, unwrap_or}
 use Rattle.hex.specs.Hex.{decode_of, hex_digit_value}
+use Rattle.record_replay.specs.LineInside.{IsNoHex}
 
 -- the most pairs that are read so
 abbrev pub most_pairs : ℕ
@@ -9,6 +10,15 @@ most_pairs = 256
 -- The first so many pairs of a text are the digits of the bytes in front of the room.
 abbrev pub AreRead : ℕ → List ℕ → List ℕ → Type 0
 AreRead count text room = decode_of (take (2 * count) text) ≡ Ok (take count room)
+
+-- The first so many pairs of a text are digits.
+abbrev pub ArePairs : ℕ → List ℕ → Type 0
+ArePairs count text = (bytes : List ℕ) × (decode_of (take (2 * count) text) ≡ Ok bytes)
+
+-- The pair behind so many of them isn't.
+abbrev pub IsNoPair : ℕ → List ℕ → Type 0
+IsNoPair count text =
+    IsNoHex (slice_index text (2 * count) ∷ slice_index text (2 * count + 1) ∷ [])
 
 -- what stands in a table for a byte that is no digit
 abbrev pub no_digit : ℕ

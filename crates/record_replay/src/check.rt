@@ -7,7 +7,7 @@ ghost use Rattle.record_replay.specs.LineInside.{HasWorks, IsFormed, IsBad};
 ghost use Rattle.record_replay.specs.FirstInside.{BeginsFormed, BeginsBad};
 
 use crate::digits::Digits;
-use crate::first::take_turn;
+use crate::first::pass_turn;
 use crate::line::read_line;
 use line_text::split_line;
 use plant_config::Plant;
@@ -51,7 +51,7 @@ fn pass_line<'s>(
         (BeginsBad plant.now text.now)
         (λ behind. BeginsFormed plant.now text.now behind.now) }
 {
-    if let Some((_, behind)) = take_turn(digits, plant, text) {
+    if let Some(behind) = pass_turn(plant, text) {
         return Some(behind);
     }
     let (line, behind) = split_line(text);

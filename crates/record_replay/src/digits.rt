@@ -1,16 +1,16 @@
 //! The bytes of a turn, in room that was taken before.
 
 ghost use Rattle.std.specs.Prelude.{◌≡◌, ◌≤◌, ◌*◌, ◌/◌, ◌==◌, ℕ, List, [], length, take, not};
-ghost use Rattle.std.specs.Prelude.{filter, unwrap_or, vec_len, vec_capacity, IfOk};
+ghost use Rattle.std.specs.Prelude.{filter, vec_len, vec_capacity, IfOk};
 ghost use Rattle.std.specs.Bool.{OnTrue, OnFalse};
-ghost use Rattle.hex.specs.Hex.{decode_of, hex_digit_value};
+ghost use Rattle.hex.specs.Hex.{decode_of};
 ghost use Rattle.swp08_messages.specs.Text.{InRange};
 ghost use Rattle.record_replay.specs.Take.{message_frame};
 ghost use Rattle.record_replay.specs.Script.{HexSpells, longest_line, space};
 ghost use Rattle.record_replay.specs.LineInside.{IsNoHex};
 ghost use Rattle.record_replay.specs.PairsInside.{most_pairs};
 
-use crate::pairs::read_pairs;
+use crate::pairs::{NO_BYTE, byte_of, read_pairs};
 use crate::script::{MAX_LINE, SPACE};
 use dle_framing::{MAX_FRAME, encode_frame};
 use std::alloc::{AllocError, Global};
@@ -19,24 +19,6 @@ use swp08_messages::Message;
 
 // The most bytes that a line spells.
 const MAX_BYTES: usize = MAX_LINE / 2;
-
-// What `value_of` answers for each byte: a look-up takes no test of where a digit lies.
-static VALUES: [u32; 256] = [
-    256, 256, 256, 256, 256, 256, 256, 256, 256, 256, 256, 256, 256, 256, 256, 256, 256, 256, 256,
-    256, 256, 256, 256, 256, 256, 256, 256, 256, 256, 256, 256, 256, 256, 256, 256, 256, 256, 256,
-    256, 256, 256, 256, 256, 256, 256, 256, 256, 256, 0, 1, 2, 3, 4, 5, 6, 7, 8, 9, 256, 256, 256,
-    256, 256, 256, 256, 10, 11, 12, 13, 14, 15, 256, 256, 256, 256, 256, 256, 256, 256, 256, 256,
-    256, 256, 256, 256, 256, 256, 256, 256, 256, 256, 256, 256, 256, 256, 256, 256, 10, 11, 12, 13,
-    14, 15, 256, 256, 256, 256, 256, 256, 256, 256, 256, 256, 256, 256, 256, 256, 256, 256, 256,
-    256, 256, 256, 256, 256, 256, 256, 256, 256, 256, 256, 256, 256, 256, 256, 256, 256, 256, 256,
-    256, 256, 256, 256, 256, 256, 256, 256, 256, 256, 256, 256, 256, 256, 256, 256, 256, 256, 256,
-    256, 256, 256, 256, 256, 256, 256, 256, 256, 256, 256, 256, 256, 256, 256, 256, 256, 256, 256,
-    256, 256, 256, 256, 256, 256, 256, 256, 256, 256, 256, 256, 256, 256, 256, 256, 256, 256, 256,
-    256, 256, 256, 256, 256, 256, 256, 256, 256, 256, 256, 256, 256, 256, 256, 256, 256, 256, 256,
-    256, 256, 256, 256, 256, 256, 256, 256, 256, 256, 256, 256, 256, 256, 256, 256, 256, 256, 256,
-    256, 256, 256, 256, 256, 256, 256, 256, 256, 256, 256, 256, 256, 256, 256, 256, 256, 256, 256,
-    256, 256, 256,
-];
 
 /// The bytes that were spelled last, as which a contract sees them. Only `new` takes memory: there is room for the
 /// hexadecimal of the longest line and for a frame.
@@ -188,20 +170,12 @@ fn decode(digits: &[u8], room: &mut [u8]) -> bool
     // A byte that isn't one of two digits shows in here at the end: so the loop has no other end.
     let mut all = 0;
     for i in 0..digits.len() / 2 {
-        let byte = 16 * value_of(digits[2 * i]) + value_of(digits[2 * i + 1]);
+        let byte = byte_of(digits[2 * i], digits[2 * i + 1]);
         all |= byte;
         room[i] = (byte % 256) as u8;
     }
-    if all > 255 {
+    if all >= NO_BYTE {
         return false;
     }
     true
-}
-
-// The value of a digit of either case, and more than two digits make together for any other byte.
-#[inline]
-fn value_of(digit: u8) -> u32
-    ensures { result ≡ unwrap_or (hex_digit_value digit) 256 }
-{
-    VALUES[digit as usize]
 }

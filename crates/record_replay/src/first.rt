@@ -1,13 +1,19 @@
 //! The first line of a script, or of its rest, where it is a turn as most are.
 
-ghost use Rattle.std.specs.Prelude.{[], ◌∷◌, IfSome};
+ghost use Rattle.std.specs.Prelude.{◌≢◌, ◌*◌, ◌<◌, ◌≤◌, [], ◌∷◌, length, slice_index};
+ghost use Rattle.std.specs.Prelude.{IfSome, MatchOption};
 ghost use Rattle.record_replay.specs.LineInside.{SpellsPanel};
-ghost use Rattle.record_replay.specs.FirstInside.{BeginsWithTurn};
+ghost use Rattle.record_replay.specs.PairsInside.{most_pairs};
+ghost use Rattle.record_replay.specs.FirstInside.{BeginsFormed, BeginsWithTurn, BeginsAsTurn};
+ghost use Rattle.record_replay.specs.FirstInside.{EndsBehind};
 
 use crate::digits::Digits;
-use crate::pairs::MOST_PAIRS;
+use crate::pairs::{MOST_PAIRS, count_pairs};
 use crate::script::{LF, SPACE};
 use plant_config::{PanelNo, Plant};
+
+// Begins the line of a turn.
+const GREATER: u8 = b'>';
 
 // So many bytes are left where the most pairs can be read behind `> P `, and the LF behind these.
 const LEAST: usize = 2 * MOST_PAIRS + 5;
@@ -24,19 +30,49 @@ pub(crate) fn take_turn<'s>(
     ensures { IfSome result
         (λ turn. BeginsWithTurn plant.now text.now turn.0 digits.new turn.1.now) }
 {
+    let (digit, hex) = split_digit(text)?;
+    let panel = panel_of(plant, digit)?;
+    let count = digits.read_pairs(hex);
+    Some((panel, behind_pairs(hex, count)?))
+}
+
+// What is behind the first line of a text, where `take_turn` finds a turn. The turn's bytes are put nowhere.
+#[inline(always)]
+pub(crate) fn pass_turn<'s>(plant: &Plant, text: &'s [u8]) -> Option<&'s [u8]>
+    ensures { IfSome result (λ behind. BeginsFormed plant.now text.now behind.now) }
+{
+    let (digit, hex) = split_digit(text)?;
+    let _panel = panel_of(plant, digit)?;
+    behind_pairs(hex, count_pairs(hex))
+}
+
+// The digit of a turn's panel, and the text from its hexadecimal on.
+#[inline(always)]
+fn split_digit(text: &[u8]) -> Option<(u8, &[u8])>
+    ensures turn { IfSome result (λ turn. BeginsAsTurn text.now turn.0 turn.1.now) }
+    ensures long { IfSome result (λ turn. 2 * most_pairs < length turn.1.now) }
+{
     if text.len() < LEAST {
         return None;
     }
-    let behind = text.strip_prefix(b"> ")?;
-    let panel = panel_of(plant, behind[0])?;
-    if behind[1] != SPACE {
+    match text {
+        [GREATER, SPACE, digit, SPACE, hex @ ..] => Some((*digit, hex)),
+        _ => None,
+    }
+}
+
+// What is behind the line that ends behind so many pairs, `None` where it doesn't end there, or has no pairs.
+#[inline(always)]
+fn behind_pairs(hex: &[u8], count: usize) -> Option<&[u8]>
+    requires { 2 * count < length hex.now }
+    ensures { MatchOption result
+        (1 ≤ count → slice_index hex.now (2 * count) ≢ LF)
+        (λ behind. (1 ≤ count) × EndsBehind (2 * count) hex.now behind.now) }
+{
+    if count == 0 || hex[2 * count] != LF {
         return None;
     }
-    let count = digits.read_pairs(&behind[2..]);
-    if count == 0 || behind[2 * count + 2] != LF {
-        return None;
-    }
-    Some((panel, &behind[2 * count + 3..]))
+    Some(&hex[2 * count + 1..])
 }
 
 // The panel of the plant whose number is one digit.

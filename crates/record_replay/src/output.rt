@@ -68,6 +68,16 @@ impl<'k, K: Drain> Output<'k, K> {
         }
     }
 
+    // Puts bytes in hexadecimal, for which there is room.
+    #[inline]
+    fn push_hex(&mut self, bytes: &[u8])
+        requires { length self.old.buffer.now + 2 * length bytes.now ≤ 65536 }
+        ensures puts { Puts K.written K.faults (encode_upper bytes.now) self.old self.new }
+        ensures some { self.new.some ≡ self.old.some }
+    {
+        self.buffer.push_hex(bytes);
+    }
+
     // Puts bytes in hexadecimal.
     pub(crate) fn put_hex(&mut self, bytes: &[u8])
         requires { 2 * length bytes.now ≤ 65536 }
@@ -75,10 +85,10 @@ impl<'k, K: Drain> Output<'k, K> {
         ensures some { self.new.some ≡ self.old.some }
     {
         self.make_room(2 * bytes.len());
-        self.buffer.push_hex(bytes);
+        self.push_hex(bytes);
     }
 
-    // Puts bytes in hexadecimal, of which there may be more than there is room for.
+    // Puts bytes in hexadecimal, of which there may be more than there is room for, or than there is at once.
     #[cold]
     fn put_pieces(&mut self, bytes: &[u8])
         ensures puts { Puts K.written K.faults (encode_upper bytes.now) self.old self.new }
@@ -198,8 +208,8 @@ impl<K: Drain> Outlet for Output<'_, K> {
     #[inline(never)]
     fn give(&mut self, bytes: &[u8]) {
         self.some = self.some || !bytes.is_empty();
-        if bytes.len() <= MOST_BYTES {
-            self.put_hex(bytes);
+        if bytes.len() <= MOST_BYTES && self.buffer.has_room(2 * bytes.len()) {
+            self.push_hex(bytes);
         } else {
             self.put_pieces(bytes);
         }

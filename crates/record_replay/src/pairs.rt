@@ -3,7 +3,9 @@
 ghost use Rattle.std.specs.Prelude.{◌≡◌, ℕ, ◌+◌, ◌*◌, ◌^◌, ◌<◌, ◌≤◌, [], ◌∷◌, length, Ok};
 ghost use Rattle.std.specs.Bool.{OnTrue, OnFalse};
 ghost use Rattle.hex.specs.Hex.{decode_of};
-ghost use Rattle.record_replay.specs.PairsInside.{AreRead, most_pairs, high_of, low_of};
+ghost use Rattle.record_replay.specs.LineInside.{IsNoHex};
+ghost use Rattle.record_replay.specs.PairsInside.{AreRead, ArePairs, IsNoPair, most_pairs};
+ghost use Rattle.record_replay.specs.PairsInside.{high_of, low_of};
 
 // The most pairs that are read: more than most turns have.
 pub(crate) const MOST_PAIRS: usize = 4 * FOURS;
@@ -11,9 +13,12 @@ pub(crate) const MOST_PAIRS: usize = 4 * FOURS;
 // So many times four pairs.
 const FOURS: usize = 64;
 
-// Stands in the tables for a byte that is no digit. With a digit's value it makes at least 2^31, and so do two of it, where
-// their sum wraps.
+// Stands in the tables for a byte that is no digit. With a digit's value it makes at least `NO_BYTE`, and so do two of it,
+// where their sum wraps.
 const NO_DIGIT: u32 = 3 << 30;
+
+// What two bytes make is below this where they are digits, and only there.
+pub(crate) const NO_BYTE: u32 = 1 << 31;
 
 // What a byte makes as the first digit of a pair,
 static HIGHS: [u32; 256] = [
@@ -129,17 +134,70 @@ fn read_pair(text: &[u8], at: usize, room: &mut [u8]) -> bool
     ensures other { OnFalse result (AreRead at text.now room.new) }
 {
     let byte = byte_of(text[2 * at], text[2 * at + 1]);
-    if byte >= 1 << 31 {
+    if byte >= NO_BYTE {
         return false;
     }
     room[at] = byte as u8;
     true
 }
 
-// The byte of two digits; at least 2^31 where one of them is none.
+// How many pairs at the front of a text are two digits each, at most so many. Their bytes are put nowhere.
 #[inline(always)]
-fn byte_of(high: u8, low: u8) -> u32
-    ensures { result < 2 ^ 31 → decode_of (high ∷ low ∷ []) ≡ Ok (result ∷ []) }
+pub(crate) fn count_pairs(text: &[u8]) -> usize
+    requires { 2 * most_pairs ≤ length text.now }
+    ensures digits { ArePairs result text.now }
+    ensures other { result < most_pairs → IsNoPair result text.now }
+    ensures most { result ≤ most_pairs }
+{
+    for i in 0..FOURS {
+        let count = count_four(text, 4 * i);
+        if count < 4 {
+            return 4 * i + count;
+        }
+    }
+    MOST_PAIRS
+}
+
+// The same from this pair on, for four of them.
+#[inline(always)]
+fn count_four(text: &[u8], at: usize) -> usize
+    requires text { 2 * at + 8 ≤ length text.now }
+    requires digits { ArePairs at text.now }
+    ensures digits { ArePairs (at + result) text.now }
+    ensures other { result < 4 → IsNoPair (at + result) text.now }
+    ensures most { result ≤ 4 }
+{
+    if !is_pair(text, at) {
+        return 0;
+    }
+    if !is_pair(text, at + 1) {
+        return 1;
+    }
+    if !is_pair(text, at + 2) {
+        return 2;
+    }
+    if !is_pair(text, at + 3) {
+        return 3;
+    }
+    4
+}
+
+// Whether this pair is two digits, as those before it are.
+#[inline(always)]
+fn is_pair(text: &[u8], at: usize) -> bool
+    requires text { 2 * at + 1 < length text.now }
+    requires digits { ArePairs at text.now }
+    ensures digits { OnTrue result (ArePairs (at + 1) text.now) }
+    ensures other { OnFalse result (IsNoPair at text.now) }
+{
+    byte_of(text[2 * at], text[2 * at + 1]) < NO_BYTE
+}
+
+// The byte of two digits; at least `NO_BYTE` where one of them is none.
+#[inline(always)]
+pub(crate) fn byte_of(high: u8, low: u8) -> u32
+    ensures digits { result < NO_BYTE → decode_of (high ∷ low ∷ []) ≡ Ok (result ∷ []) }
+    ensures other { NO_BYTE ≤ result → IsNoHex (high ∷ low ∷ []) }
 {
     first_of(high).wrapping_add(second_of(low))
 }

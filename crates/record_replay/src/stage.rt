@@ -16,7 +16,7 @@ use crate::output::Output;
 use crate::show::{PacketRoom, put_show_line};
 use history_lock::OutBox;
 use line_text::split_line;
-use panel_session::{Session, run_turn};
+use panel_session::Session;
 use plant_config::{PanelNo, Plant};
 use plant_core::{Answer, PlantState, Request};
 use plant_names::Names;
@@ -150,12 +150,7 @@ impl<'p> Stage<'p> {
             (λ text. Puts K.written K.faults text out.old out.new) }
     {
         out.begin_turn(panel);
-        run_turn(
-            &mut self.sessions[panel.get() as usize],
-            &mut self.state,
-            piece,
-            out,
-        );
+        self.sessions[panel.get() as usize].work_turn(&mut self.state, piece, out);
         out.end_turn();
     }
 

@@ -5,8 +5,8 @@ use Rattle.record_replay.proofs.TurnLemmas.{Puts-turn}
 use Rattle.record_replay.proofs.StageLemmas.{ready, may_turn, turn_done}
 use Rattle.record_replay.proofs.stage.Stage.turn.Goals as goal
 
-pub run_turn-requires : goal.run_turn-requires
-run_turn-requires g c =
+pub work_turn-requires : goal.work_turn-requires
+work_turn-requires g c =
     ready c.args.self.now.plant.now c.args.panel c.args.piece.now c.args.self.now c.index_mut.result.now c.requires.panel c.requires.may
     (subst (λ (place : ℕ). c.index_mut.result.now ≡ slice_index_or c.args.self.now.sessions.items place c.index_mut.result.now) c.get.ensures c.index_mut.ensures.value)
 
@@ -15,8 +15,8 @@ returns g c = λ stand used stands within.
     let plant = c.args.self.now.plant.now in
     let is = subst (λ (place : ℕ). c.index_mut.result.now ≡ slice_index_or c.args.self.now.sessions.items place c.index_mut.result.now) c.get.ensures c.index_mut.ensures.value in
     let may = may_turn plant c.args.panel c.args.piece.now c.args.self.now c.index_mut.result.now stand used c.requires.panel stands within is in
-    let ran = c.run_turn.ensures plant c.args.panel (stand.pasts c.args.panel) may in (
+    let ran = c.work_turn.ensures plant c.args.panel (stand.pasts c.args.panel) may in (
       turn_line c.args.panel ran.0,
-      Puts-turn g.K.Drain.written g.K.Drain.faults c.args.panel ran.0 c.args.out.now c.begin_turn.new.self c.run_turn.new.out c.end_turn.new.self c.begin_turn.ensures.puts c.begin_turn.ensures.none ran.1 c.end_turn.ensures,
-      turn_done plant c.args.panel c.args.piece.now c.args.self.now _ c.run_turn.new.session stand used ran.0 c.requires.panel stands ran.2 refl (ap (λ (place : ℕ). slice_set c.args.self.now.sessions.items place c.run_turn.new.session) c.get.ensures) refl,
+      Puts-turn g.K.Drain.written g.K.Drain.faults c.args.panel ran.0 c.args.out.now c.begin_turn.new.self c.work_turn.new.out c.end_turn.new.self c.begin_turn.ensures.puts c.begin_turn.ensures.none ran.1 c.end_turn.ensures,
+      turn_done plant c.args.panel c.args.piece.now c.args.self.now _ c.work_turn.new.self stand used ran.0 c.requires.panel stands ran.2 refl (ap (λ (place : ℕ). slice_set c.args.self.now.sessions.items place c.work_turn.new.self) c.get.ensures) refl,
     )
