@@ -35,6 +35,8 @@ pub(crate) fn is_good_body(body: &[u8]) -> bool
 pub(crate) fn is_whole(body: &[u8]) -> bool
     ensures good { OnTrue result (IsTrue (is_good body.now)) }
     ensures single { OnTrue result (doubled body.now ≡ body.now) }
+    ensures other { OnFalse result
+        (IsTrue (is_good body.now) → doubled body.now ≡ body.now → ⊥) }
 {
     is_single(body) && is_good_body(body)
 }
