@@ -1,14 +1,14 @@
 //! The bytes of a turn, in room that was taken before.
 
-ghost use Rattle.std.specs.Prelude.{◌≡◌, ◌≤◌, ◌*◌, ◌/◌, ◌==◌, ℕ, List, [], length, take, not};
-ghost use Rattle.std.specs.Prelude.{filter, vec_len, vec_capacity, IfOk};
+ghost use Rattle.std.specs.Prelude.{◌≡◌, ◌<◌, ◌≤◌, ◌*◌, ◌/◌, ◌==◌, ℕ, List, [], length, take};
+ghost use Rattle.std.specs.Prelude.{not, filter, vec_len, vec_capacity, IfOk};
 ghost use Rattle.std.specs.Bool.{OnTrue, OnFalse};
 ghost use Rattle.hex.specs.Hex.{decode_of};
 ghost use Rattle.swp08_messages.specs.Text.{InRange};
 ghost use Rattle.record_replay.specs.Take.{message_frame};
 ghost use Rattle.record_replay.specs.Script.{HexSpells, longest_line, space};
 ghost use Rattle.record_replay.specs.LineInside.{IsNoHex};
-ghost use Rattle.record_replay.specs.PairsInside.{most_pairs};
+ghost use Rattle.record_replay.specs.PairsInside.{IsNoPair, most_pairs};
 
 use crate::pairs::{NO_BYTE, byte_of, read_pairs};
 use crate::script::{MAX_LINE, SPACE};
@@ -114,6 +114,7 @@ impl Digits {
     pub(crate) fn read_pairs(&mut self, text: &[u8]) -> usize
         requires { 2 * most_pairs ≤ length text.now }
         ensures read { decode_of (take (2 * result) text.now) ≡ Ok self.new }
+        ensures other { result < most_pairs → IsNoPair result text.now }
         ensures most { result ≤ most_pairs }
     {
         let count = read_pairs(text, self.room.as_mut_slice());

@@ -2,10 +2,10 @@
 
 ghost use Rattle.std.specs.Prelude.{◌≢◌, ◌*◌, ◌<◌, ◌≤◌, [], ◌∷◌, length, slice_index};
 ghost use Rattle.std.specs.Prelude.{IfSome, MatchOption};
-ghost use Rattle.record_replay.specs.LineInside.{SpellsPanel};
+ghost use Rattle.record_replay.specs.LineInside.{SpellsPanel, SpellsNoPanel};
 ghost use Rattle.record_replay.specs.PairsInside.{most_pairs};
 ghost use Rattle.record_replay.specs.FirstInside.{BeginsFormed, BeginsWithTurn, BeginsAsTurn};
-ghost use Rattle.record_replay.specs.FirstInside.{EndsBehind};
+ghost use Rattle.record_replay.specs.FirstInside.{BeginsPlainly, BeginsShort, EndsBehind};
 
 use crate::digits::Digits;
 use crate::pairs::{MOST_PAIRS, count_pairs};
@@ -18,16 +18,16 @@ const GREATER: u8 = b'>';
 // So many bytes are left where the most pairs can be read behind `> P `, and the LF behind these.
 const LEAST: usize = 2 * MOST_PAIRS + 5;
 
-// The panel of the turn that the first line of a text is, and what is behind that line. The digits take its bytes. `None`
-// where the line is something else or isn't as most are: where its panel has more than one digit, its hexadecimal a space or
-// more than the most pairs, or where it is one of the last lines.
+// The panel of the turn that the first line of a text is, and what is behind that line. The digits take its bytes. It is found
+// wherever the line is a turn as most are, and no line that is something else is taken for one.
 #[inline(always)]
 pub(crate) fn take_turn<'s>(
     digits: &mut Digits,
     plant: &Plant,
     text: &'s [u8],
 ) -> Option<(PanelNo, &'s [u8])>
-    ensures { IfSome result
+    ensures { MatchOption result
+        (BeginsPlainly plant.now text.now → ⊥)
         (λ turn. BeginsWithTurn plant.now text.now turn.0 digits.new turn.1.now) }
 {
     let (digit, hex) = split_digit(text)?;
@@ -39,17 +39,22 @@ pub(crate) fn take_turn<'s>(
 // What is behind the first line of a text, where `take_turn` finds a turn. The turn's bytes are put nowhere.
 #[inline(always)]
 pub(crate) fn pass_turn<'s>(plant: &Plant, text: &'s [u8]) -> Option<&'s [u8]>
-    ensures { IfSome result (λ behind. BeginsFormed plant.now text.now behind.now) }
+    ensures { MatchOption result
+        (BeginsPlainly plant.now text.now → ⊥)
+        (λ behind. BeginsFormed plant.now text.now behind.now) }
 {
     let (digit, hex) = split_digit(text)?;
     let _panel = panel_of(plant, digit)?;
     behind_pairs(hex, count_pairs(hex))
 }
 
-// The digit of a turn's panel, and the text from its hexadecimal on.
+// The digit of a turn's panel, and the text from its hexadecimal on. It finds them wherever a text begins so and isn't near
+// the end.
 #[inline(always)]
 fn split_digit(text: &[u8]) -> Option<(u8, &[u8])>
-    ensures turn { IfSome result (λ turn. BeginsAsTurn text.now turn.0 turn.1.now) }
+    ensures turn { MatchOption result
+        (BeginsShort text.now)
+        (λ turn. BeginsAsTurn text.now turn.0 turn.1.now) }
     ensures long { IfSome result (λ turn. 2 * most_pairs < length turn.1.now) }
 {
     if text.len() < LEAST {
@@ -78,7 +83,9 @@ fn behind_pairs(hex: &[u8], count: usize) -> Option<&[u8]>
 // The panel of the plant whose number is one digit.
 #[inline(always)]
 fn panel_of(plant: &Plant, digit: u8) -> Option<PanelNo>
-    ensures { IfSome result (λ panel. SpellsPanel plant.now (digit ∷ []) panel) }
+    ensures { MatchOption result
+        (SpellsNoPanel plant.now (digit ∷ []))
+        (λ panel. SpellsPanel plant.now (digit ∷ []) panel) }
 {
     let panels = plant.panels().len().min(10);
     let digit = digit as usize;

@@ -89,6 +89,7 @@ pub(crate) fn read_pairs(text: &[u8], room: &mut [u8]) -> usize
     requires text { 2 * most_pairs ≤ length text.now }
     requires room { most_pairs ≤ length room.old }
     ensures read { AreRead result text.now room.new }
+    ensures other { result < most_pairs → IsNoPair result text.now }
     ensures most { result ≤ most_pairs }
 {
     for i in 0..FOURS {
@@ -107,6 +108,7 @@ fn read_four(text: &[u8], at: usize, room: &mut [u8]) -> usize
     requires room { at + 4 ≤ length room.old }
     requires read { AreRead at text.now room.old }
     ensures read { AreRead (at + result) text.now room.new }
+    ensures other { result < 4 → IsNoPair (at + result) text.now }
     ensures most { result ≤ 4 }
 {
     if !read_pair(text, at, room) {
@@ -131,7 +133,8 @@ fn read_pair(text: &[u8], at: usize, room: &mut [u8]) -> bool
     requires room { at < length room.old }
     requires read { AreRead at text.now room.old }
     ensures digits { OnTrue result (AreRead (at + 1) text.now room.new) }
-    ensures other { OnFalse result (AreRead at text.now room.new) }
+    ensures other { OnFalse result (IsNoPair at text.now) }
+    ensures kept { OnFalse result (AreRead at text.now room.new) }
 {
     let byte = byte_of(text[2 * at], text[2 * at + 1]);
     if byte >= NO_BYTE {
