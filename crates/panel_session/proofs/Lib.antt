@@ -21,6 +21,7 @@ pub mod TurnExists
 pub mod TurnsFit
 pub mod TurnsOnce
 pub mod SentLemmas
+pub mod WayLemmas
 pub mod WorkLemmas
 pub mod SessionRequests
 pub mod LampLemmas

@@ -1,5 +1,5 @@
 -- What a session has read, by what its next item asks.
-use Rattle.std.proofs.Common.{◌≡◌, ◌≢◌, ℕ, true, false, Bool, List, [], take, Option, Some, None, refl, sym, ap, subst, arith, length}
+use Rattle.std.proofs.Common.{◌≡◌, ◌≢◌, ℕ, true, false, Bool, List, [], take, Some, None, refl, sym, subst}
 use Rattle.std.proofs.lemmas.Bool.{false≢true}
 use Rattle.dle_framing.specs.Framer as framer
 use Rattle.dle_framing.specs.Framer.{GoesOver}
@@ -10,7 +10,6 @@ use Rattle.panel_session.specs.declared.asked.Asked.{Asked}
 use Rattle.panel_session.specs.declared.asked.Asked.TheVariants.{Nothing, Repeat, Refused, Noted, Named, Sent}
 use Rattle.panel_session.specs.declared.session.Session.{Session}
 use Rattle.panel_session.specs.declared.stage.Stage.{Stage}
-use Rattle.panel_session.specs.declared.stage.Stage.TheVariants.{Read}
 use Rattle.panel_session.specs.AskedInside.{FoundAsks}
 use Rattle.panel_session.specs.MovesInside.{took, stage_with}
 use Rattle.panel_session.specs.ReadingInside.{HasReadOn}

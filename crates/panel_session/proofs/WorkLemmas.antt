@@ -2,7 +2,6 @@
 use Rattle.std.proofs.Common.{◌≡◌, ℕ, ◌+◌, ◌-◌, ◌%◌, ◌^◌, ◌<◌, ◌≤◌, true, false, if◌then◌else◌, Bool, List, [], ◌∷◌, ◌++◌, length, take, drop, refl, sym, ap, ◌∙◌, subst, arith}
 use Rattle.std.proofs.Math.Nat.{mod-eq_of_lt}
 use Rattle.std.proofs.lemmas.List.{append_assoc, append-nil}
-use Rattle.dle_framing.specs.Items.{items}
 use Rattle.history_lock.specs.History.{entry_at}
 use Rattle.history_lock.specs.Step.{Stepped}
 use Rattle.plant_config.specs.Plant.{PlantData}
@@ -28,11 +27,11 @@ use Rattle.panel_session.specs.Session.{StandsFor, outgoing_of}
 use Rattle.panel_session.specs.SoFar.{Past, with_bytes, with_sent, with_entry}
 use Rattle.panel_session.specs.StandsInside.{behind}
 use Rattle.panel_session.specs.Text.{Output, frames_of, with_frames}
-use Rattle.panel_session.specs.WorkInside.{unsent_bytes, polling_at}
+use Rattle.panel_session.specs.WorkInside.{polling_at}
 use Rattle.panel_session.proofs.ActsLemmas.{no_bytes}
-use Rattle.panel_session.proofs.RunLemmas.{asked_behind, drop-none, goes_none, may_go_on, told_behind, used_more, way_begins, way_over, way_sent}
-use Rattle.panel_session.proofs.SentLemmas.{behind_frames, polled_sent, polls_none, reading_stands, reads_unread, stands_whatever, told_is, told_sent}
-use Rattle.panel_session.proofs.SessionLemmas.{asks_first_poll, asks_poll, asks_told, is_reading, rests, sends, sends_unsent}
+use Rattle.panel_session.proofs.RunLemmas.{asked_behind, drop-none, goes_none, may_go_on, told_behind, used_more, way_over, way_sent}
+use Rattle.panel_session.proofs.SentLemmas.{behind_frames, polled_sent, polls_none, reading_stands, stands_whatever, told_is, told_sent}
+use Rattle.panel_session.proofs.SessionLemmas.{asks_first_poll, asks_poll, asks_told, is_reading, rests, sends}
 
 module _ {State : Type 0} {step : State → Request → Stepped State Answer} {Fits : State → Request → Type 0}
     {plant : PlantData} {panel : ℕ} {past : Past} {piece : List ℕ} {machine : State} where
@@ -215,22 +214,6 @@ module _ {State : Type 0} {step : State → Request → Stepped State Answer} {F
       → HasRun step Fits plant panel past piece machine machine_now (ended_turn session_now) more
   way_ends {now = now} session_now polls may way none =
       way_over 0 way (rests plant panel (record session_now { stage = End; polls = polls }) now [] way.stands (may_go_on may way) refl none)
-
-  -- A turn begins, and what was not yet sent is.
-  way_given : {most : State → ℕ} {begun : Session} (unsent : Bool) → begun.unsent ≡ unsent → MayTurn step Fits most plant panel begun past machine piece
-      → (now : Past) × IsUnderWay step Fits plant panel past piece machine machine (record begun { unsent = false }) piece now (if unsent then outgoing_of begun else [])
-  way_given {begun = begun} true is may = (_, way_sent 0 (way_begins may) refl (sends_unsent plant panel begun past piece may.stands is))
-  way_given {begun = begun} false is may =
-      let At : Bool → Type 0 = λ unsent. IsUnderWay step Fits plant panel past piece machine machine (record begun { unsent = unsent }) piece past [] in
-      (past, subst At is (way_begins may))
-
-  pub way_begun : {most : State → ℕ} {begun : Session} → MayTurn step Fits most plant panel begun past machine piece
-      → (now : Past) × IsUnderWay step Fits plant panel past piece machine machine (record begun { unsent = false }) piece now (unsent_bytes begun)
-  way_begun {begun = begun} may = way_given begun.unsent refl may
-
-  -- A session reads at the beginning of a turn.
-  pub begins_reading : {most : State → ℕ} {begun : Session} → MayTurn step Fits most plant panel begun past machine piece → begun.stage ≡ Read
-  begins_reading {begun = begun} may = reads_unread plant panel begun past begun.stage refl may.stands may.begins
 
   -- What an item asks that sends the plant a message, once its ACK is sent.
   pub asks_item : {most : State → ℕ} {begun : Session} {machine_now : State} {session_now : Session} {now : Past} {rest more : List ℕ} (after : Session) (used : ℕ) (request : Request) (message : Message)

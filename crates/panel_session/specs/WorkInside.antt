@@ -19,7 +19,8 @@ unsent_bytes session = if session.unsent then outgoing_of session else []
 abbrev pub polling_at : ℕ → Session → Session
 polling_at polls session = record session { stage = Poll; polls = polls }
 
--- A turn is under way, and the machine still takes what it took at its begin.
+-- A turn is under way behind some past that the session stood for when it began, and the machine still takes what it took
+-- then.
 pub record IsOnItsWay {State : Type 0} (step : State → Request → Stepped State Answer)
     (Fits : State → Request → Type 0) (most : State → ℕ)
     (session : Session) (machine : State) (rest : List ℕ) : Type 0 where
@@ -36,43 +37,43 @@ pub record IsOnItsWay {State : Type 0} (step : State → Request → Stepped Sta
   pub fits : (request : Request) → Fits first request → Fits machine request
   pub room : most machine ≡ most first
 
+-- It has come so far since it was on its way: this is left of its piece, and these bytes more were sent.
+abbrev pub HasCome : {State : Type 0} {step : State → Request → Stepped State Answer}
+    {Fits : State → Request → Type 0} {most : State → ℕ}
+    {session : Session} {machine : State} {rest : List ℕ}
+    → IsOnItsWay step Fits most session machine rest
+    → Session → State → List ℕ → Past → List ℕ → Type 0
+HasCome {step = step} {Fits = Fits} on session_then machine_then rest_then now_then added =
+    IsUnderWay step Fits on.plant on.panel on.past on.piece on.first machine_then session_then
+    rest_then now_then (on.more ++ added)
+
 -- So many bytes of the rest were worked, up to the end of an item, and what is to be sent for it is sent.
 abbrev pub WorksOn : {State : Type 0} (step : State → Request → Stepped State Answer)
     (Fits : State → Request → Type 0) (most : State → ℕ)
     → List ℕ → ℕ → Bool → Session → Session → State → State → Type 0
-WorksOn {State = State} step Fits most rest used send session session_then machine machine_then =
-    (plant : PlantData) (panel : ℕ) (begun : Session) (past now : Past) (piece more : List ℕ)
-    (first : State)
-    → MayTurn step Fits most plant panel begun past first piece
-    → IsUnderWay step Fits plant panel past piece first machine session rest now more
+WorksOn step Fits most rest used send session session_then machine machine_then =
+    (on : IsOnItsWay step Fits most session machine rest)
     → (now_then : Past)
-    × IsUnderWay step Fits plant panel past piece first machine_then session_then (drop used rest)
-    now_then (more ++ (if send then outgoing_of session_then else []))
+    × HasCome on session_then machine_then (drop used rest) now_then
+    (if send then outgoing_of session_then else [])
 
--- A turn that is under way goes on, up to where this is left of its piece: exactly what was sent was given to the outlet.
+-- A turn goes on, up to where this is left of its piece: exactly what was sent was given to the outlet.
 abbrev pub GoesOn : {State Outlet : Type 0} (step : State → Request → Stepped State Answer)
     (Fits : State → Request → Type 0) (most : State → ℕ)
     (Given : Outlet → List ℕ → Outlet → Type 0)
     → List ℕ → List ℕ → Session → Session → State → State → Outlet → Outlet → Type 0
-GoesOn {State = State} step Fits most Given rest rest_then session session_then machine machine_then
-    out out_then =
-    (plant : PlantData) (panel : ℕ) (begun : Session) (past now : Past) (piece more : List ℕ)
-    (first : State)
-    → MayTurn step Fits most plant panel begun past first piece
-    → IsUnderWay step Fits plant panel past piece first machine session rest now more
+GoesOn step Fits most Given rest rest_then session session_then machine machine_then out out_then =
+    (on : IsOnItsWay step Fits most session machine rest)
     → (now_then : Past) × (added : List ℕ) × Given out added out_then
-    × IsUnderWay step Fits plant panel past piece first machine_then session_then rest_then now_then
-    (more ++ added)
+    × HasCome on session_then machine_then rest_then now_then added
 
--- A turn that is under way and of whose piece nothing is left goes on to its end.
+-- A turn of whose piece nothing is left goes on to its end.
 abbrev pub Ends : {State Outlet : Type 0} (step : State → Request → Stepped State Answer)
     (Fits : State → Request → Type 0) (most : State → ℕ)
     (Given : Outlet → List ℕ → Outlet → Type 0)
     → Session → Session → State → State → Outlet → Outlet → Type 0
-Ends {State = State} step Fits most Given session session_then machine machine_then out out_then =
-    (plant : PlantData) (panel : ℕ) (begun : Session) (past now : Past) (piece more : List ℕ)
-    (first : State)
-    → MayTurn step Fits most plant panel begun past first piece
-    → IsUnderWay step Fits plant panel past piece first machine session [] now more
+Ends step Fits most Given session session_then machine machine_then out out_then =
+    (on : IsOnItsWay step Fits most session machine [])
     → (added : List ℕ) × Given out added out_then
-    × HasRun step Fits plant panel past piece first machine_then session_then (more ++ added)
+    × HasRun step Fits on.plant on.panel on.past on.piece on.first machine_then session_then
+    (on.more ++ added)

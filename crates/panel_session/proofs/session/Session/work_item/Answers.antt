@@ -1,4 +1,4 @@
-use Rattle.std.proofs.Common.{◌≡◌, ℕ, ◌-◌, ◌^◌, ◌<◌, ◌≤◌, false, List, ◌++◌, length, drop, All, Option, Some, refl, sym, ap, ◌∙◌, subst, arith}
+use Rattle.std.proofs.Common.{◌≡◌, ℕ, ◌-◌, ◌^◌, ◌<◌, ◌≤◌, false, List, length, drop, All, Option, Some, refl, sym, ap, ◌∙◌, subst, arith}
 use Rattle.history_lock.specs.Places.{Placed}
 use Rattle.plant_core.specs.Answer.{IsSayable, room_of}
 use Rattle.plant_core.specs.declared.answer.Answer.{Answer}
@@ -10,8 +10,8 @@ use Rattle.panel_session.specs.declared.session.Session.{Session}
 use Rattle.panel_session.specs.declared.stage.Stage.{Stage}
 use Rattle.panel_session.specs.declared.stage.Stage.TheVariants.{Read}
 use Rattle.panel_session.specs.MovesInside.{answered_too}
-use Rattle.panel_session.specs.RunInside.{IsUnderWay}
 use Rattle.panel_session.specs.Session.{outgoing_of, with_outbox}
+use Rattle.panel_session.specs.WorkInside.{HasCome}
 use Rattle.panel_session.proofs.ReadLemmas.{has_passed, has_taken, has_told, stage_stays, told_by}
 use Rattle.panel_session.proofs.RunLemmas.{sayable_now}
 use Rattle.panel_session.proofs.SentLemmas.{taken_too}
@@ -89,7 +89,6 @@ answer_too-requires-clause-sayable g c =
 
 pub returns-clause-works : goal.returns-clause-works
 returns-clause-works g c =
-    let w = c.requires.way in
     let framer_then = c.next_asked-used.new.framer in
     let used = c.next_asked-used.result.0 in
     let message = c.in-Sent.message in
@@ -101,40 +100,36 @@ returns-clause-works g c =
     (λ text stands. subst (Found text) is (c.next_asked-used.ensures.finds text stands)) in
     let Asks : Session → Type 0 = λ session. 0 < session.items → session.items < 2 ^ 62 → request ≡ Told session.panel (session.items - 1) message in
     let asks : Asks told = c.telling-request.ensures in
-    let mine = asks_item told used request message w.may w.way c.requires.reads c.requires.none reads refl c.requires.none asks in
-    λ plant panel begun past now piece more first may way.
-    let asked = asks_item told used request message may way c.requires.reads c.requires.none reads refl c.requires.none asks in
+    λ on.
+    let asked = asks_item told used request message on.may on.way c.requires.reads c.requires.none reads refl c.requires.none asks in
     let answers = (g.M.Machine.step c.args.machine.now request).answers in
-    let few : length answers ≤ room_of plant = omega (
+    let few : length answers ≤ room_of on.plant = omega (
       arith,
       c.step.ensures.at_most,
       ap (length {A = Answer}) c.step.ensures.answers,
-      w.room,
-      w.may.serves.within,
-      ap (λ (box : Placed Answer). box.places) mine.2.1,
-      ap (λ (box : Placed Answer). box.places) asked.2.1,
+      on.room,
+      on.may.serves.within,
     ) in
-    let done = way_told more request message asked.1 refl c.requires.none asked.2 (w.fits request (w.may.serves.takes request mine.2.2)) c.step.ensures.state few in
+    let done = way_told on.more request message asked.1 refl c.requires.none asked.2 (on.fits request (on.may.serves.takes request asked.2.2)) c.step.ensures.state few in
     let same : c.answer_too.new.self ≡ answered_too answers (record told { stage = Read }) =
     c.answer_too.ensures
     ∙ ap (λ (session : Session). answered_too session.outbox.items session) c.acknowledge.ensures
     ∙ ap (λ (stage : Stage). answered_too c.step.new.out.items (with_outbox (record told { stage = stage }) c.step.new.out)) c.requires.reads
     ∙ taken_too (record told { stage = Read }) c.step.new.out answers c.step.ensures.answers c.step.ensures.places in
-    let Of : Session → Type 0 = λ session.
-    IsUnderWay g.M.Machine.step g.M.Machine.Fits plant panel past piece first c.step.new.self session (drop used c.args.piece.now) done.0 (more ++ outgoing_of session) in
+    let Of : Session → Type 0 = λ session. HasCome on session c.step.new.self (drop used c.args.piece.now) done.0 (outgoing_of session) in
     (done.0, subst Of (sym same) done.1)
 
 pub returns-in_default-clause-works : goal.returns-in_default-clause-works
-returns-in_default-clause-works g c = λ plant panel begun past now piece more first may way.
+returns-in_default-clause-works g c = λ on.
     let Found : List ℕ → Option Asked → Type 0 = λ text asked. FoundAsks text c.args.piece.now c.next_asked-used.result.0 asked in
-    way_item (record c.args.self.now { framer = c.next_asked-used.new.framer }) c.next_asked-used.result.0 false may way c.requires.reads c.requires.none
+    way_item (record c.args.self.now { framer = c.next_asked-used.new.framer }) c.next_asked-used.result.0 false on.may on.way c.requires.reads c.requires.none
     (has_passed c.args.self.now c.next_asked-used.new.framer c.args.piece.now c.next_asked-used.result.0 c.next_asked-used.ensures.stands
     (λ text stands. subst (Found text) c.in_default.is (c.next_asked-used.ensures.finds text stands)))
 
 pub returns-in_default-asked-clause-works : goal.returns-in_default-asked-clause-works
-returns-in_default-asked-clause-works g c = λ plant panel begun past now piece more first may way.
+returns-in_default-asked-clause-works g c = λ on.
     let Found : List ℕ → Option Asked → Type 0 = λ text asked. FoundAsks text c.args.piece.now c.next_asked-used.result.0 asked in
-    way_item c.take.new.self c.next_asked-used.result.0 c.take.result may way c.requires.reads c.requires.none
+    way_item c.take.new.self c.next_asked-used.result.0 c.take.result on.may on.way c.requires.reads c.requires.none
     (has_taken c.args.self.now c.take.new.self c.next_asked-used.new.framer c.args.piece.now c.next_asked-used.result.0 c.in-Some.asked c.take.result c.next_asked-used.ensures.stands
     (λ text stands. subst (Found text) c.in-Some.is (c.next_asked-used.ensures.finds text stands))
     c.take.ensures.session c.take.ensures.some c.take.ensures.bytes c.take.ensures.none c.take.ensures.quiet)
