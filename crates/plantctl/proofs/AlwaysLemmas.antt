@@ -179,7 +179,8 @@ check_always words before now status word plant ask shows run =
 
 -- a replay
 
-replayed_of : (words : List (List ℕ)) (before now : World) (end : End) (plant : PlantData) (name : List ℕ) (held : Held) → AskHeld words before plant name held
+-- how a run ends whose words ask to replay a script on a plant that the files show, unless it is kept from that
+pub replayed_of : (words : List (List ℕ)) (before now : World) (end : End) (plant : PlantData) (name : List ℕ) (held : Held) → AskHeld words before plant name held
     → now.file_faults ≡ counted (is_file_fault end) before.file_faults → Came words before end → ReplayEnds plant name held end ⊎ WasKept before now (status_of end)
 replayed_of words before now end plant name held asks count (at_words none is) = absurd (none (Replay asks.word name) asks.ask)
 replayed_of words before now end plant name held asks count (at_plant command ask opens) =

@@ -17,6 +17,7 @@ pub mod FindingLemmas
 pub mod ScriptLemmas
 pub mod AskedLemmas
 pub mod AlwaysLemmas
+pub mod HistoryLemmas
 pub mod ShownLemmas
 pub mod TracesLemmas
 pub mod RunEndsLemmas

@@ -9,6 +9,7 @@ pub mod Audit
 pub mod Run
 pub mod Asked
 pub mod Outcomes
+pub mod History
 pub mod Statuses
 pub mod StopInside
 pub mod WordsInside

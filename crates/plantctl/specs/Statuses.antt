@@ -16,6 +16,7 @@ use Rattle.plantctl.specs.Asked.{AskFile, AskHeld, AskTraces, ShowsPlant, NamesF
 use Rattle.plantctl.specs.Run.{RunEnds}
 use Rattle.plantctl.specs.Outcomes.{WasChecked, WasReplayed, RanOutOfMemory, WasMissing, HadFileFault, HadPlantFault, WasTooLong, RefusedLine}
 use Rattle.plantctl.specs.Outcomes.{RefusedLength, WereAudited, RefusedTraces, IsFinding, IsRefusedPlant, IsAccepted, IsRefused, WasKept}
+use Rattle.plantctl.specs.History.{ShowsHistory}
 
 -- Every run ends with one of eight statuses.
 abbrev pub IsKnown : ℕ → Type 0
@@ -32,6 +33,13 @@ abbrev pub ZeroHasDone : Type 0
 ZeroHasDone = (words : List (List ℕ)) (before now : World) → RunEnds words before now 0
     → WasChecked words before now ⊎ WasReplayed words before now ⊎
     ((count : ℕ) × WereAudited words before now (Confirmed count))
+
+-- A run that ends with 0, and was to replay a script that the files show, has shown one history of the plant.
+abbrev pub ReplaysShowHistories : Type 0
+ReplaysShowHistories =
+    (words : List (List ℕ)) (before now : World) (plant : PlantData) (name script : List ℕ)
+    → AskHeld words before plant name (Holds script)
+    → RunEnds words before now 0 → ShowsHistory plant script before now
 
 -- A run that ends with 1 ran out of memory.
 abbrev pub OneRanOutOfMemory : Type 0

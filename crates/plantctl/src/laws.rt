@@ -1,6 +1,7 @@
 //! What the exit statuses tell of a run, each as a law over the ends of runs.
 
 ghost use Rattle.plantctl.specs.Statuses.{StatusesAreKnown, ZeroHasDone, OneRanOutOfMemory};
+ghost use Rattle.plantctl.specs.Statuses.{ReplaysShowHistories};
 ghost use Rattle.plantctl.specs.Statuses.{TwoHasNoForm, TwoTellsUsage, NoFormEndsWithTwo};
 ghost use Rattle.plantctl.specs.Statuses.{ThreeHasCause, NoPlantEndsWithThree};
 ghost use Rattle.plantctl.specs.Statuses.{NoScriptEndsWithThree, NoTraceEndsWithThree};
@@ -14,6 +15,7 @@ ghost use Rattle.plantctl.specs.Statuses.{SourcesComeBack, NoSinkIsMade, OtherNa
 ghost use Rattle.plantctl.specs.Statuses.{FileFaultsStay, FileFaultsRiseOnce};
 
 use plant_file::a_plant_file_is_right;
+use record_replay::{lines_answer_items, one_history};
 
 /// No other status is answered.
 pub fn statuses()
@@ -27,6 +29,16 @@ pub fn done()
     ensures checked { PlantEndsWithZero }
     ensures no_memory { OneRanOutOfMemory }
 {}
+
+/// Status 0 of a replay whose script and plant the files show: behind the lines that were appended stands one history of the
+/// plant, from its start. What is sent in a turn answers the items that end in its piece, a frame by NAK exactly where its
+/// length or its check byte is wrong, and at no place does a tie carry two sources.
+pub fn history_shown()
+    ensures { ReplaysShowHistories }
+{
+    one_history();
+    lines_answer_items();
+}
 
 /// Status 2: exactly where the words have no form, unless the line could not be written.
 pub fn usage_told()

@@ -16,8 +16,8 @@ mod verdict;
 mod words;
 
 pub use laws::{
-    done, file_refused, files_stay, output_fault, plant_refused, script_refused, statuses,
-    traces_audited, usage_told,
+    done, file_refused, files_stay, history_shown, output_fault, plant_refused, script_refused,
+    statuses, traces_audited, usage_told,
 };
 pub use run::run_quiet;
 
