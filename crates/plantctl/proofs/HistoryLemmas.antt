@@ -5,7 +5,7 @@ use Rattle.ctl_io.specs.Held.{Holds}
 use Rattle.plant_config.specs.Plant.{PlantData}
 use Rattle.record_replay.specs.Laws.{Deed, Turned, Left, Polled, IsHistory}
 use Rattle.record_replay.specs.TiedReplay.{IsTiedReplay}
-use Rattle.record_replay.specs.ScriptLaws.{ReplaysHaveHistory, TurnsAnswerItems}
+use Rattle.record_replay.specs.ScriptLaws.{ReplaysHaveHistory, HistoriesAreOne, TurnsAnswerItems}
 use Rattle.plantctl.specs.World.{World}
 use Rattle.plantctl.specs.End.{End, Done, NoMemory, Usage, FileMissing, FileFault, PlantRefused, PlantTooLong, LineRefused, ScriptTooLong, Audited, TraceTooLong, status_of}
 use Rattle.plantctl.specs.Replay.{ReplayEnds}
@@ -22,7 +22,7 @@ not_kept before now status is (inl one) = omega arith
 not_kept before now status is (inr (inl three)) = omega (arith, three.0)
 not_kept before now status is (inr (inr seven)) = omega (arith, seven.0)
 
-module _ (some : ReplaysHaveHistory) (answer : TurnsAnswerItems) where
+module _ (some : ReplaysHaveHistory) (one : HistoriesAreOne) (answer : TurnsAnswerItems) where
   is_answered : (plant : PlantData) (script output : List ℕ) (deeds front later : List Deed) (deed : Deed) → IsHistory plant script output deeds → deeds ≡ front ++ deed ∷ later → AnswersItsPiece front deed
   is_answered plant script output deeds front later (Turned panel piece entries sent) history is = answer plant script output deeds front later panel piece sent entries history is
   is_answered plant script output deeds front later (Left panel) history is = tt
@@ -36,6 +36,7 @@ module _ (some : ReplaysHaveHistory) (answer : TurnsAnswerItems) where
         appends = appends;
         deeds = made.0;
         history = made.1;
+        alone = λ other others is. one plant script other output others made.0 is made.1;
         answered = λ front later deed is. is_answered plant script output made.0 front later deed made.1 is;
         ties = tied.ties made.0 made.1;
       }

@@ -16,13 +16,15 @@ AnswersItsPiece before (Turned panel piece entries sent) =
 AnswersItsPiece before (Left panel) = Unit {0}
 AnswersItsPiece before (Polled screen refresh answers) = Unit {0}
 
--- The lines that were appended show one history of the plant, in which the script was worked: in each turn the items of the
--- piece are answered, and at no place does a tie carry two sources.
+-- The lines that were appended show a history of the plant in which the script was worked, and there is no other: in each turn
+-- the items of the piece are answered, and at no place does a tie carry two sources.
 pub record ShowsHistory (plant : PlantData) (script : List ℕ) (before now : World) : Type 0 where
   pub output : List ℕ
   pub appends : now.written ≡ appended before.written output
   pub deeds : List Deed
   pub history : IsHistory plant script output deeds
+  pub alone : (other : List ℕ) (others : List Deed)
+      → IsHistory plant script other others → others ≡ deeds
   pub answered : (front later : List Deed) (deed : Deed)
       → deeds ≡ front ++ deed ∷ later → AnswersItsPiece front deed
   pub ties : KeepsTiesValid plant (history_of deeds)

@@ -34,7 +34,7 @@ ZeroHasDone = (words : List (List ℕ)) (before now : World) → RunEnds words b
     → WasChecked words before now ⊎ WasReplayed words before now ⊎
     ((count : ℕ) × WereAudited words before now (Confirmed count))
 
--- A run that ends with 0, and was to replay a script that the files show, has shown one history of the plant.
+-- A run that ends with 0, and was to replay a script that the files show, has shown a history of the plant.
 abbrev pub ReplaysShowHistories : Type 0
 ReplaysShowHistories =
     (words : List (List ℕ)) (before now : World) (plant : PlantData) (name script : List ℕ)

@@ -30,9 +30,9 @@ pub fn done()
     ensures no_memory { OneRanOutOfMemory }
 {}
 
-/// Status 0 of a replay whose script and plant the files show: behind the lines that were appended stands one history of the
-/// plant, from its start. What is sent in a turn answers the items that end in its piece, a frame by NAK exactly where its
-/// length or its check byte is wrong, and at no place does a tie carry two sources.
+/// Status 0 of a replay whose script and plant the files show: behind the lines that were appended stands a legal history of
+/// the plant, from its start, and no other has the script's work. What is sent in a turn answers the items that end in its
+/// piece, a frame by NAK exactly where its length or its check byte is wrong, and at no place does a tie carry two sources.
 pub fn history_shown()
     ensures { ReplaysShowHistories }
 {
