@@ -1,5 +1,5 @@
 -- What a lock shows.
-use Rattle.std.specs.Prelude.{◌≡◌, ◌<◌, ℕ, false, List, [], Some, slice_get}
+use Rattle.std.specs.Prelude.{◌≡◌, ◌<◌, ℕ, false, List, [], Some, None, slice_get}
 use Rattle.atomic_table.specs.Seated.{TableId}
 use Rattle.history_lock.specs.declared.view.Start.{Start}
 use Rattle.history_lock.specs.Seats.{SeatData}
@@ -18,12 +18,14 @@ lock_data id start = record { id = id; first = start.machine.value; seats = star
 abbrev pub IsLockOf : {State : Type 0} → State → ℕ → LockData State → Type 0
 IsLockOf machine seats lock = (lock.first ≡ machine) × (lock.seats ≡ seats)
 
--- Its table has two words and one slot, and it knows its number of seats.
-pub record IsLock {State : Type 0} (id : TableId) (start : Start State) (seats : ℕ) : Type 0 where
+-- Its table has two words and one slot, and it knows its number of seats and the room of the machine that it was made with.
+pub record IsLock {State : Type 0} (room_of : State → ℕ) (id : TableId) (start : Start State)
+    (seats room : ℕ) : Type 0 where
   pub words : id.words ≡ 2
   pub slots : id.slots ≡ 1
   pub counted : seats ≡ start.seats
   pub some : 0 < seats
+  pub roomy : room ≡ room_of start.machine.value
 
 -- a seat that has seen nothing
 abbrev pub new_seat : {State Request Answer : Type 0} → TableId → State → ℕ
@@ -33,6 +35,7 @@ new_seat lock first number = record {
   first = first;
   number = number;
   seen = [];
+  read = None;
   tried = [];
   ticket_full = false;
   serving_full = false;

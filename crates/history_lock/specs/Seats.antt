@@ -1,5 +1,5 @@
 -- The seats of a lock's table.
-use Rattle.std.specs.Prelude.{◌≡◌, ℕ, Bool, true, false, List, [], ◌∷◌, ◌++◌, ◌<◌, Some, None}
+use Rattle.std.specs.Prelude.{◌≡◌, ℕ, Bool, true, false, List, [], ◌∷◌, ◌++◌, ◌<◌, Option, Some, None}
 use Rattle.atomic_table.specs.Seated.{TableId}
 use Rattle.history_lock.specs.declared.view.Stage.TheVariants.{Idle, Waits}
 use Rattle.history_lock.specs.declared.entry.Entry.{Entry}
@@ -68,13 +68,14 @@ IsMakerOf step Fits room id start place =
     (place.table_id ≡ id) × (place.me ≡ (maker step Fits room start, []))
 
 -- What a seat shows: its lock; the machine that the lock was made with; the number under which it makes entries; the
--- history that it has seen; of each of its refused tries, what it read of `serving` and found at `ticket`; and whether it
--- last read 2^62 of `ticket`, and of `serving`.
+-- history that it has seen; what it read of `serving` in a try that isn't over; of each of its refused tries, what it read
+-- of `serving` and found at `ticket`; and whether it last read 2^62 of `ticket`, and of `serving`.
 pub record SeatData (State Request Answer : Type 0) : Type 0 where
   pub lock : TableId
   pub first : State
   pub number : ℕ
   pub seen : List (Entry Request Answer)
+  pub read : Option ℕ
   pub tried : List (ℕ × ℕ)
   pub ticket_full : Bool
   pub serving_full : Bool
@@ -87,6 +88,7 @@ seat_data first seat = record {
   first = first;
   number = number_of seat.me.0;
   seen = seat.me.0.seen;
+  read = seat.me.0.read;
   tried = seat.me.0.tried;
   ticket_full = seat.me.0.ticket_full;
   serving_full = seat.me.0.serving_full;

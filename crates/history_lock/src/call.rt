@@ -1,6 +1,6 @@
 //! Calls on a lock.
 
-ghost use Rattle.std.specs.Prelude.{◌≡◌, ◌≤◌, [], OnOk, OnErr, IfOk, IfErr};
+ghost use Rattle.std.specs.Prelude.{◌≡◌, ◌≤◌, [], None, OnOk, OnErr, IfOk, IfErr};
 ghost use Rattle.history_lock.specs.History.{IsLegal};
 ghost use Rattle.history_lock.specs.Calls.{AddsOwn, FoundFull, IsNumbered, IsRefused};
 ghost use Rattle.history_lock.specs.Calls.{OnlyCalled, OnlyTried, SeesAnswers};
@@ -131,6 +131,7 @@ impl<M: Machine> HistoryLock<M> {
         ensures own { OnOk result (AddsOwn seat.old request.now out.new.items seat.new) }
         ensures rest { OnOk result (OnlyTried seat.old seat.new) }
         ensures refused { IfErr result (λ fault. IsRefused seat.old fault seat.new) }
+        ensures unread { (seat.old.read ≡ None) × (seat.new.read ≡ None) }
         ensures kept { OnErr result (out.new ≡ out.old) }
         ensures places { out.new.places ≡ out.old.places }
     {

@@ -95,6 +95,7 @@ impl<M: Machine> HistoryLock<M> {
         let HistoryLock {
             table,
             seats: _,
+            room: _,
             sleepers: _,
         } = self;
         let place = gather(&table.shared, seats);

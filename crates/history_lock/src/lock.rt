@@ -10,6 +10,8 @@ use std::sync::atomic::AtomicU64;
 pub struct HistoryLock<M: Machine> {
     pub(crate) table: LockTable<M>,
     pub(crate) seats: u32,
+    // That of the machine that it was made with.
+    pub(crate) room: usize,
     // How many callers sleep, or are about to.
     pub(crate) sleepers: AtomicU64,
 }
@@ -21,8 +23,8 @@ impl<M: Machine> Model for HistoryLock<M> {
 
     ghost view = { λ lock. lock_data lock.table.shared.table_id lock.table.shared.key };
 
-    ghost invariant = { λ lock.
-        IsLock lock.table.shared.table_id lock.table.shared.key lock.seats };
+    ghost invariant = { λ lock. IsLock M.room lock.table.shared.table_id
+        lock.table.shared.key lock.seats lock.room };
 }
 
 impl<M: Machine> HistoryLock<M> {
@@ -33,5 +35,12 @@ impl<M: Machine> HistoryLock<M> {
         ensures { result ≡ self.now.seats }
     {
         self.seats
+    }
+
+    /// The most answers that a step gives, of the machine that it was made with and of every later one.
+    pub fn room(&self) -> usize
+        ensures { result ≡ M.room self.now.first }
+    {
+        self.room
     }
 }

@@ -75,6 +75,7 @@ impl<M: Machine + Drop> HistoryLock<M> {
             machine: Told::of(&machine),
             seats,
         };
+        let room = machine.room();
         let (table, mut maker) = lay(alloc, machine, &start)?;
         for number in 0..seats {
             all.push_reserved(give(&table.shared, &mut maker, &start, number));
@@ -84,6 +85,7 @@ impl<M: Machine + Drop> HistoryLock<M> {
             HistoryLock {
                 table,
                 seats,
+                room,
                 sleepers,
             },
             all,
