@@ -1,66 +1,22 @@
-//! Machines that the tests work, the laws at one of them, and a lock in one thread.
+//! A lock round a counter, in one thread and in two, and the laws at it.
 
-ghost use Rattle.std.specs.Prelude.{◌≡◌, ◌+◌, ◌%◌, ◌^◌, ◌≤◌, [], ◌∷◌, IfOk, replicate};
-
-mod threads;
+ghost use Rattle.std.specs.Prelude.{◌≡◌, ◌+◌, ◌%◌, ◌^◌, [], ◌∷◌, IfOk};
 
 use crate::{
-    CallFault, Closed, HistoryLock, Machine, OutBox, Seat, fronts_are_legal, requests_fix_answers,
+    Closed, HistoryLock, Machine, OutBox, Seat, fronts_are_legal, requests_fix_answers,
     runs_compose, steps_stay_legal,
 };
 use std::alloc::{AllocError, Global};
 use std::hint::spin_loop;
 use std::sync::Wait;
 use std::test::Fail;
-
-/// It answers as often as is asked, at most three times, with a number that goes on through all requests.
-#[derive(Drop)]
-struct Repeater {
-    asked: u64,
-}
-
-impl Machine for Repeater {
-    type Request = u64;
-
-    type Answer = u64;
-
-    ghost step = { λ repeater times. record {
-      state = record { asked = (repeater.asked + 1) % 2 ^ 64 };
-      answers = replicate times repeater.asked;
-    } };
-
-    ghost Fits = { λ repeater times. times ≤ 3 };
-
-    ghost room = { λ repeater. 3 };
-
-    fn room(&self) -> usize {
-        3
-    }
-
-    fn fits(&self, times: &u64) -> bool {
-        *times <= 3
-    }
-
-    fn step(&mut self, times: &u64, out: &mut OutBox<u64>) {
-        for _ in 0..*times {
-            out.put(self.asked);
-        }
-        self.asked = self.asked.wrapping_add(1);
-    }
-}
+use std::thread::{Threads, join};
 
 /// It counts its requests from 0 on, and answers with the count before. Each takes it so long.
 #[derive(Drop)]
 struct Counter {
     count: u64,
     pause: u32,
-}
-
-/// Takes a while.
-fn spin(times: u32) {
-    for _ in 0..times {
-        spin_loop();
-    }
 }
 
 impl Machine for Counter {
@@ -86,49 +42,20 @@ impl Machine for Counter {
     }
 
     fn step(&mut self, _request: &(), out: &mut OutBox<u64>) {
-        spin(self.pause);
+        for _ in 0..self.pause {
+            spin_loop();
+        }
         out.put(self.count);
         self.count = self.count.wrapping_add(1);
     }
 }
 
-/// Works a list of requests, and answers how many answers they gave. It knows the machine by the trait alone.
-fn answers_to<M: Machine>(
-    machine: &mut M,
-    requests: &[M::Request],
-    out: &mut OutBox<M::Answer>,
-) -> usize
-where
-    M::Answer: Drop,
-    requires { M.room machine.old ≤ out.old.places }
-{
-    let mut count = 0usize;
-    for request in requests {
-        if machine.fits(request) {
-            out.clear();
-            machine.step(request, out);
-            count = count.saturating_add(out.items().len());
-        }
-    }
-    count
-}
-
-#[test]
-fn a_step_gives_none_one_or_more_answers(rt: HostRuntime) -> Result<(), Fail> {
-    let mut repeater = Repeater { asked: 5 };
-    let mut out = OutBox::new(rt.alloc(), repeater.room())?;
-    let count = answers_to(&mut repeater, &[3, 0, 4, 1, 2], &mut out);
-    assert_eq!(rt; count, 6);
-    assert_eq!(rt; out.items(), [8, 8].as_slice());
-    Ok(())
-}
-
 #[test]
 fn the_laws_are_of_any_machine() {
-    fronts_are_legal::<Repeater>();
-    steps_stay_legal::<Repeater>();
-    runs_compose::<Repeater>();
-    requests_fix_answers::<Repeater>();
+    fronts_are_legal::<Counter>();
+    steps_stay_legal::<Counter>();
+    runs_compose::<Counter>();
+    requests_fix_answers::<Counter>();
 }
 
 /// A lock round a counter, with two seats.
@@ -167,39 +94,10 @@ fn closed(
     Ok(lock.close(seats))
 }
 
-/// Makes calls one after another. False where one has no answer, or a number that isn't above the last.
-fn calls<R: Wait>(
-    rt: &R,
-    alloc: Global,
-    lock: &HistoryLock<Counter>,
-    mut seat: Seat<Counter>,
-    count: u64,
-) -> (Seat<Counter>, bool)
-    requires { seat.lock ≡ lock.now.id }
-    ensures { (result.0.lock ≡ seat.lock) × (result.0.number ≡ seat.number) }
-{
-    let Ok(mut out) = OutBox::new(alloc, 1) else {
-        return (seat, false);
-    };
-    let mut rises = true;
-    let mut least = 0;
-    for _ in 0..count {
-        out.clear();
-        match lock.call(rt, &mut seat, &(), &mut out) {
-            Ok(number) => {
-                rises = rises && number >= least && out.items() == [number].as_slice();
-                least = number.saturating_add(1);
-            }
-            Err(CallFault::Full) => rises = false,
-        }
-    }
-    (seat, rises)
-}
-
 #[test]
 fn two_seats_call_and_try(rt: HostRuntime) -> Result<(), Fail> {
     let (lock, mut first, mut second) = counted(rt.alloc(), 0)?;
-    let mut out = OutBox::new(rt.alloc(), 1)?;
+    let mut out = OutBox::new(rt.alloc(), lock.room())?;
     assert_eq!(rt; lock.seats(), 2);
     assert_eq!(rt; lock.call(&rt, &mut first, &(), &mut out), Ok(0));
     assert_eq!(rt; out.items(), [0].as_slice());
@@ -215,7 +113,89 @@ fn two_seats_call_and_try(rt: HostRuntime) -> Result<(), Fail> {
         entries,
         past: _,
     } = closed(rt.alloc(), lock, first, second)?;
-    assert_eq!(rt; entries, 3);
-    assert_eq!(rt; machine.count, 3);
+    assert_eq!(rt; (entries, machine.count), (3, 3));
+    Ok(())
+}
+
+/// Asks so often, by a call or by a try, and answers how often it was answered with a number above the last.
+fn asks<R: Wait>(
+    rt: &R,
+    alloc: Global,
+    lock: &HistoryLock<Counter>,
+    mut seat: Seat<Counter>,
+    count: u64,
+    waits: bool,
+) -> (Seat<Counter>, u64)
+    requires { seat.lock ≡ lock.now.id }
+    ensures { (result.0.lock ≡ seat.lock) × (result.0.number ≡ seat.number) }
+{
+    let Ok(mut out) = OutBox::new(alloc, 1) else {
+        return (seat, 0);
+    };
+    let mut answered = 0u64;
+    let mut least = 0;
+    for _ in 0..count {
+        out.clear();
+        let number = if waits {
+            lock.call(rt, &mut seat, &(), &mut out).ok()
+        } else {
+            lock.try_call(&mut seat, &(), &mut out).ok()
+        };
+        if let Some(number) = number {
+            if number >= least && out.items() == [number].as_slice() {
+                answered = answered.saturating_add(1);
+            }
+            least = number.saturating_add(1);
+        }
+    }
+    (seat, answered)
+}
+
+/// Two threads ask as often each. Answers how many entries there are, what was counted, and how often they were answered.
+fn by_two<R: Threads + Wait + Sync>(
+    rt: &R,
+    alloc: Global,
+    count: u64,
+    pause: u32,
+    waits: bool,
+) -> Result<(u64, u64, u64), AllocError> {
+    let (lock, first, second) = counted(alloc, pause)?;
+    let shared = &lock;
+    let ((first, one), (second, two)) = join(
+        rt,
+        || -> (Seat<Counter>, u64)
+            requires { first.lock ≡ shared.now.id }
+            ensures { (result.0.lock ≡ first.lock) × (result.0.number ≡ first.number) }
+        { asks(rt, alloc, shared, first, count, waits) },
+        || -> (Seat<Counter>, u64)
+            requires { second.lock ≡ shared.now.id }
+            ensures { (result.0.lock ≡ second.lock) × (result.0.number ≡ second.number) }
+        { asks(rt, alloc, shared, second, count, waits) },
+    );
+    let Closed {
+        machine,
+        entries,
+        past: _,
+    } = closed(alloc, lock, first, second)?;
+    Ok((entries, machine.count, one.saturating_add(two)))
+}
+
+#[test]
+fn two_threads_call_a_thousand_times_each(rt: HostRuntime) -> Result<(), Fail> {
+    assert_eq!(rt; by_two(&rt, rt.alloc(), 1000, 0, true)?, (2000, 2000, 2000));
+    Ok(())
+}
+
+#[test]
+fn whoever_sleeps_is_woken(rt: HostRuntime) -> Result<(), Fail> {
+    assert_eq!(rt; by_two(&rt, rt.alloc(), 50, 30_000, true)?, (100, 100, 100));
+    Ok(())
+}
+
+#[test]
+fn two_threads_try_and_give_up(rt: HostRuntime) -> Result<(), Fail> {
+    let (entries, count, answered) = by_two(&rt, rt.alloc(), 500, 0, false)?;
+    assert!(rt; entries > 0);
+    assert_eq!(rt; (count, answered), (entries, entries));
     Ok(())
 }
