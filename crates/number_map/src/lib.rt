@@ -6,8 +6,6 @@
 mod example;
 mod laws;
 mod number_map;
-#[cfg(test)]
-mod tests;
 
 pub use laws::{puts_change_one_number, values_are_put_as_they_stand};
 pub use number_map::NumberMap;

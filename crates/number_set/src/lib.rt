@@ -5,8 +5,6 @@
 #[cfg(test)]
 mod example;
 mod number_set;
-#[cfg(test)]
-mod tests;
 mod words;
 
 pub use number_set::{MAX_NUMBERS, NumberSet};
