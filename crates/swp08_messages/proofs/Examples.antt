@@ -1,8 +1,8 @@
 -- The definitions at worked DATA.
 use Rattle.std.proofs.Common.{◌≡◌, true, false, inl, inr, [], ◌∷◌, Some, None, refl, arith}
-use Rattle.swp08_messages.specs.declared.message.Message.TheVariants.{Interrogate, Connect, Tally, Connected, ProtectAsk, ProtectConnected, DumpAsk, SourceNameAsk, DestNamesAsk, Store, Go, GoDone, Entry}
-use Rattle.swp08_messages.specs.declared.go_status.GoStatus.TheVariants.{Protected}
-use Rattle.swp08_messages.specs.declared.validity.Validity.TheVariants.{Last}
+use Rattle.swp08_messages.specs.declared.message.Message.TheVariants.{Interrogate, Connect, Tally, Connected, ProtectAsk, ProtectTally, ProtectConnect, ProtectConnected, ProtectDisconnect, ProtectDisconnected, DumpAsk, SourceNamesAsk, SourceNameAsk, DestNamesAsk, DestNameAsk, Store, Stored, Go, GoDone, EntryAsk, Entry}
+use Rattle.swp08_messages.specs.declared.go_status.GoStatus.TheVariants.{Protected, NoTie}
+use Rattle.swp08_messages.specs.declared.validity.Validity.TheVariants.{Last, NoEntry}
 use Rattle.swp08_messages.specs.declared.point.Point.{Point}
 use Rattle.swp08_messages.specs.declared.fault.ReadFault.TheVariants.{WrongLength}
 use Rattle.swp08_messages.specs.Text.{text}
@@ -86,6 +86,53 @@ tells_salvo_7_protected = refl
 
 tells_the_last_entry_of_salvo_7 : text (Entry (record { matrix = 0; level = 0; dest = 6 }) (Some 3) 7 2 Last) ≡ 0x7D ∷ 0 ∷ 0 ∷ 6 ∷ 3 ∷ 7 ∷ 2 ∷ 1 ∷ []
 tells_the_last_entry_of_salvo_7 = refl
+
+-- the numbers at their limits
+abbrev last : Point
+last = record { matrix = 15; level = 15; dest = 1023 }
+
+connects_the_last : text (Connect last (Some 1022)) ≡ 2 ∷ 255 ∷ 0x77 ∷ 127 ∷ 126 ∷ []
+connects_the_last = refl
+
+protects_the_last : text (ProtectConnect last 1023) ≡ 12 ∷ 255 ∷ 0x77 ∷ 127 ∷ 127 ∷ []
+protects_the_last = refl
+
+stores_the_last : text (Store last (Some 1022) 127) ≡ 0x78 ∷ 255 ∷ 0x77 ∷ 127 ∷ 126 ∷ 127 ∷ []
+stores_the_last = refl
+
+asks_for_the_last_name : text (DestNameAsk 3 0 65535) ≡ 103 ∷ 0x30 ∷ 0 ∷ 255 ∷ 255 ∷ []
+asks_for_the_last_name = refl
+
+asks_for_the_last_entry : text (EntryAsk 127 255) ≡ 0x7C ∷ 127 ∷ 255 ∷ []
+asks_for_the_last_entry = refl
+
+asks_for_sources : text (SourceNamesAsk 1 2 0) ≡ 100 ∷ 0x12 ∷ 0 ∷ []
+asks_for_sources = refl
+
+-- a device that is told though none protects the destination
+tells_5_not_protected_by_300 : text (ProtectTally five false 300) ≡ 11 ∷ 0 ∷ 0 ∷ 2 ∷ 5 ∷ 44 ∷ []
+tells_5_not_protected_by_300 = refl
+
+lifts_1000_for_300 : text (ProtectDisconnect (record { matrix = 14; level = 9; dest = 1000 }) 300) ≡ 14 ∷ 0xE9 ∷ 0x72 ∷ 104 ∷ 44 ∷ []
+lifts_1000_for_300 = refl
+
+tells_the_last_lifted : text (ProtectDisconnected last true 128) ≡ 15 ∷ 255 ∷ 1 ∷ 0x71 ∷ 127 ∷ 0 ∷ []
+tells_the_last_lifted = refl
+
+tells_4_stored_parked : text (Stored (record { matrix = 0; level = 0; dest = 4 }) None 0) ≡ 0x7A ∷ 0 ∷ 7 ∷ 4 ∷ 127 ∷ 0 ∷ []
+tells_4_stored_parked = refl
+
+clears_salvo_127 : text (Go true 127) ≡ 0x79 ∷ 1 ∷ 127 ∷ []
+clears_salvo_127 = refl
+
+tells_no_tie : text (GoDone NoTie 127) ≡ 0x7B ∷ 4 ∷ 127 ∷ []
+tells_no_tie = refl
+
+tells_no_entry : text (Entry (record { matrix = 0; level = 0; dest = 0 }) (Some 0) 7 255 NoEntry) ≡ 0x7D ∷ 0 ∷ 0 ∷ 0 ∷ 0 ∷ 7 ∷ 255 ∷ 2 ∷ []
+tells_no_entry = refl
+
+dumps_the_last : dump_text 15 15 1022 (Some 0 ∷ Some 1022 ∷ []) ≡ 23 ∷ 255 ∷ 2 ∷ 3 ∷ 254 ∷ 0 ∷ 0 ∷ 3 ∷ 254 ∷ []
+dumps_the_last = refl
 
 refuses_nothing : IsRefused [] (WrongLength 0 1)
 refuses_nothing = (refl, refl)
