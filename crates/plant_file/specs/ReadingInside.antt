@@ -79,6 +79,10 @@ entry_answer read section number entry =
 abbrev pub keys_at : SectionKeys → Section → SectionKeys
 keys_at keys section = record keys { section = section }
 
+-- the keys of a section that has at least and at most so many entries
+abbrev pub counted : ℕ → ℕ → SectionKeys → SectionKeys
+counted least most keys = record keys { form = Entries least most }
+
 -- names in an array, with default names behind them
 abbrev pub names_in : List ℕ → ℕ → Option Data → List (List ℕ)
 names_in letter count found = names_of letter count (texts_in found)

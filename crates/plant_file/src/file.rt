@@ -13,8 +13,6 @@ use crate::level::LevelEntry;
 use crate::read::read_text;
 use crate::rules::data_fault;
 use crate::text::Text;
-#[cfg(test)]
-use std::alloc::AllocError;
 use std::alloc::Global;
 use std::marker::Model;
 
@@ -143,53 +141,5 @@ impl PlantFile {
         ensures { result.now ≡ self.now.panels }
     {
         self.panels.as_slice()
-    }
-}
-
-#[cfg(test)]
-impl PlantFile {
-    ghost use Rattle.std.specs.Prelude.{◌+◌, ◌<◌, ◌^◌, vec_len};
-    ghost use Rattle.plant_file.specs.LinksInside.{AreNumbered};
-
-    // A plant file of these sections, with none of the others.
-    pub(crate) fn wired(
-        alloc: Global,
-        levels: Vec<LevelEntry>,
-        remotes: Vec<RemoteEntry>,
-        pools: Vec<PoolEntry>,
-        devices: Vec<DeviceEntry>,
-        buses: Vec<BusEntry>,
-        air: Vec<RootEntry>,
-    ) -> Result<PlantFile, AllocError>
-        requires remotes { vec_len remotes < 2 ^ 32 }
-        requires pools { vec_len pools < 2 ^ 32 }
-        requires devices { vec_len devices < 2 ^ 32 }
-        requires buses { vec_len buses < 2 ^ 32 }
-        requires air { vec_len air < 2 ^ 32 }
-        ensures { IfOk result AreNumbered }
-    {
-        let server = Server {
-            listen: Text::of(alloc, "")?,
-            display: Text::of(alloc, "")?,
-            idle_ms: 0,
-            idle_limit: 0,
-            turns: 0,
-            sessions: 0,
-            refresh_every: 0,
-            brightness: 0,
-        };
-        Ok(PlantFile {
-            title: Text::of(alloc, "")?,
-            server,
-            levels,
-            remotes,
-            pools,
-            devices,
-            buses,
-            air,
-            preview: Vec::new(alloc),
-            displays: Vec::new(alloc),
-            panels: Vec::new(alloc),
-        })
     }
 }

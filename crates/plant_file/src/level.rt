@@ -3,8 +3,6 @@
 ghost use Rattle.std.specs.Prelude.{◌≡◌};
 
 use crate::name::Name;
-#[cfg(test)]
-use std::alloc::Global;
 use std::marker::Model;
 
 /// A level of a matrix: how many sources and destinations it has, and what each is called.
@@ -74,26 +72,5 @@ impl LevelEntry {
         ensures { result.now ≡ self.now.destination_names }
     {
         self.destination_names.as_slice()
-    }
-}
-
-#[cfg(test)]
-impl LevelEntry {
-    // A level whose sources and destinations have no names.
-    pub(crate) fn nameless(
-        alloc: Global,
-        matrix: u8,
-        level: u8,
-        sources: u32,
-        destinations: u32,
-    ) -> LevelEntry {
-        LevelEntry {
-            matrix,
-            level,
-            sources,
-            destinations,
-            source_names: Vec::new(alloc),
-            destination_names: Vec::new(alloc),
-        }
     }
 }

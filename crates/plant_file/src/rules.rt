@@ -6,11 +6,7 @@ mod known;
 mod links;
 mod rule;
 mod sums;
-#[cfg(test)]
-mod tests;
 mod twice;
 mod unknown;
 
 pub(crate) use data::data_fault;
-#[cfg(test)]
-pub(crate) use links::link_fault;

@@ -4,10 +4,10 @@ ghost use Rattle.std.specs.Prelude.{◌≡◌, ◌<◌, ◌^◌, length};
 ghost use Rattle.toml.specs.Data.{Members};
 ghost use Rattle.toml.specs.View.{table_view};
 ghost use Rattle.plant_file.specs.declared.fault.Section.{Section};
-ghost use Rattle.plant_file.specs.Rows.{SectionKeys, Entries};
+ghost use Rattle.plant_file.specs.Rows.{SectionKeys};
 ghost use Rattle.plant_file.specs.FirstFault.{Answers};
 ghost use Rattle.plant_file.specs.ReadingInside.{read_as, tables, entry_answer};
-ghost use Rattle.plant_file.specs.ReadingInside.{entries_answer, section_answer};
+ghost use Rattle.plant_file.specs.ReadingInside.{counted, entries_answer, section_answer};
 
 use crate::fault::{PlantFault, Section};
 use crate::read::entry::Entry;
@@ -62,11 +62,11 @@ pub(crate) fn read_section<T: ReadEntry>(
     least: u64,
     most: u64,
 ) -> Result<Vec<T>, PlantFault>
-    requires form { (T.keys section).form ≡ Entries least most }
     requires least { least < 2 ^ 32 }
     requires most { most < 2 ^ 32 }
     ensures { Answers (read_as (λ entries. entries.items) result)
-        (section_answer (T.said section) (T.keys section) (table_view document.now)) }
+        (section_answer (T.said section) (counted least most (T.keys section))
+        (table_view document.now)) }
 {
     let items = form::entries(document, section, least, most)?;
     read_entries(alloc, section, items)
