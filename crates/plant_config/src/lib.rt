@@ -19,10 +19,7 @@ pub use laws::{
     buses_differ, dests_are_numbered, limits_are_those_of_the_profile, origins_are_local,
     pools_lead_across, sources_are_numbered, the_bench_is_a_plant, the_bench_is_in_its_file,
 };
-pub use limits::{
-    LEVELS_OF_A_MATRIX, MATRICES, MAX_DESTINATIONS, MAX_DEVICE, MAX_LEVEL_DESTINATIONS,
-    MAX_LEVEL_SOURCES, MAX_LEVELS, MAX_PANELS, MAX_SOURCES, MIN_PORT,
-};
+pub use limits::{LEVELS_OF_A_MATRIX, MATRICES, MAX_DESTINATIONS, MAX_SOURCES};
 pub use numbers::{BusId, DestId, DeviceId, DisplayId, Number, PanelNo, PoolId, SourceId, TieNo};
 pub use plant::Plant;
 pub use plant_file::{Field, Name, Place, PlantFault, Section, Server, Text};
