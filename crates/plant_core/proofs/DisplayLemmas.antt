@@ -106,11 +106,6 @@ pub all_shown-are : (displays : List ℕ) (state : State) (before : Shown) → a
 all_shown-are [] state before = refl
 all_shown-are (display ∷ displays) state before = all_shown-are displays state (with_shown before display (value_of state display))
 
-pub length-shown_all : (displays : List ℕ) (values : ℕ → Value) (before : Shown) → length (shown_all values displays before) ≡ length before
-length-shown_all [] values before = refl
-length-shown_all (display ∷ displays) values before =
-    length-shown_all displays values (with_shown before display (values display)) ∙ length-set before display _
-
 -- that all have left is told by a test
 pub left-is : (all_left : Bool) (boards : List Board) → (IsTrue all_left ↔ All (λ board. IsTrue board.left) boards) → all_left ≡ list_all (λ (board : Board). board.left) boards
 left-is all_left boards says =

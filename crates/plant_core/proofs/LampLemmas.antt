@@ -101,7 +101,7 @@ taken-state state (display ∷ list) = ap (λ (shown : Shown). record state { sh
 pub taken-rest : (state : State) (screen : ℕ) → IsValid state → differing (taken_first state screen).state screen ≡ drop lamp_limit (differing state screen)
 taken-rest state screen valid =
     ap (λ (new : State). differing new screen) (taken-state state (take lamp_limit (differing state screen)))
-    ∙ rest-differs (displays_of state.plant screen) (value_of state) lamp_limit state.shown (length state.plant.displays) (displays-once state.plant screen) valid.shown
+    ∙ rest-differs (displays_of state.plant screen) (value_of state) lamp_limit state.shown (length state.plant.displays) (displays-once state.plant screen) valid.shown.count
     (recursion_from_All (λ display. display < length state.plant.displays) (displays_of state.plant screen) (displays-below state.plant screen))
 
 -- so many polls leave all but the first so many times 64
@@ -167,7 +167,7 @@ pub differ-once : (state : State) (screen : ℕ) → IsDistinct nat_eq (differin
 differ-once state screen = Once-filtered (displays.differs state) (displays_of state.plant screen) (displays-once state.plant screen)
 
 -- nothing passes a test exactly where each fails it
-none-pass : (test : ℕ → Bool) (list : List ℕ) → All (λ x. test x ≡ false) list → filter test list ≡ []
+pub none-pass : (test : ℕ → Bool) (list : List ℕ) → All (λ x. test x ≡ false) list → filter test list ≡ []
 none-pass test [] all = refl
 none-pass test (first ∷ list) all =
     ap (λ b. cond b (first ∷ filter test list) (filter test list)) (All-head (λ x. test x ≡ false) first list all) ∙ none-pass test list (All-tail (λ x. test x ≡ false) first list all)
@@ -215,7 +215,7 @@ taken-lit state screen valid =
     let list : List ℕ = take lamp_limit (filter test all) in
     let below = All-take (λ display. display < length state.plant.displays) lamp_limit (filter test all) (All-filter test (λ display. display < length state.plant.displays) all (displays-below state.plant screen)) in
     let told =
-    all-told list (value_of state) state.shown (length state.plant.displays) valid.shown (recursion_from_All (λ display. display < length state.plant.displays) list below) in
+    all-told list (value_of state) state.shown (length state.plant.displays) valid.shown.count (recursion_from_All (λ display. display < length state.plant.displays) list below) in
     lit-each state screen list
     (All-take (Contains all) lamp_limit (filter test all) (All-filter test (Contains all) all (All-contains_itself all)))
     (All-take (λ display. test display ≡ true) lamp_limit (filter test all) (filter_passes test all))

@@ -3,6 +3,7 @@ pub mod Shows
 pub mod ScreenLemmas
 pub mod DisplayLemmas
 pub mod Validity
+pub mod ShownValidity
 pub mod GroupValidity
 pub mod Changes
 pub mod Outcomes
@@ -24,3 +25,4 @@ pub mod ServedLemmas
 pub mod ValueLemmas
 pub mod LampLemmas
 pub mod RefreshLemmas
+pub mod FinishedLemmas

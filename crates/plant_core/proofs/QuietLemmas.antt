@@ -7,7 +7,7 @@ use Rattle.swp08_messages.specs.declared.point.Point.{Point}
 use Rattle.swp08_messages.specs.declared.message.Message.{Message}
 use Rattle.swp08_messages.specs.declared.message.Message.TheVariants.{Interrogate, Connect, ProtectConnect, ProtectDisconnect, ProtectTally, ProtectConnected, ProtectDisconnected, Store, Stored, Go}
 use Rattle.plant_config.specs.declared.records.Change.{Change}
-use Rattle.crosspoint_state.specs.Crosspoints.{Crosspoints, source_of, is_idle, NamesOnce}
+use Rattle.crosspoint_state.specs.Crosspoints.{source_of, is_idle, NamesOnce}
 use Rattle.crosspoint_state.specs.Applied.{applied}
 use Rattle.protects.specs.Owners.{Owners, allows, may_lift, taken, lifted}
 use Rattle.salvo_groups.specs.Groups.{Group, group_of, may_store, with_store}
@@ -21,44 +21,46 @@ use Rattle.plant_core.specs.Connects.{says, says_nothing, change_of, connected}
 use Rattle.plant_core.specs.Protecting.{owner_told, has_same_owner, with_owners, protected, unprotected}
 use Rattle.plant_core.specs.Salvos.{stored_in, moved, taken_whole, cleared}
 use Rattle.plant_core.specs.Step.{step, dest_of}
+use Rattle.plant_core.specs.Laws.{CarryAsBefore}
+use Rattle.plant_core.specs.NoticeLaws.{OwnedAsBefore}
 use Rattle.plant_core.proofs.Outcomes.{by_made, by_taken}
 use Rattle.plant_core.proofs.Changes.{source_same, source_of-one, source-idle, is_moved}
 use Rattle.plant_core.proofs.Noticed.{is_among}
 
-connect-quiet : (state : State) (panel : ℕ) (at : Point) (source : Option ℕ) (change : Option Change) → (connected state panel at source change).state.crosspoints ≡ state.crosspoints →
+connect-quiet : (state : State) (panel : ℕ) (at : Point) (source : Option ℕ) (change : Option Change) → CarryAsBefore state (connected state panel at source change).state →
     (connected state panel at source change).state.boards ≡ state.boards
 connect-quiet state panel at source None same = refl
 connect-quiet state panel at source (Some change) same =
-    by_made (λ (stepped : Stepped State Answer). stepped.state.crosspoints ≡ state.crosspoints → stepped.state.boards ≡ state.boards) state panel at source change
-    (λ may. by_idle (is_idle state.crosspoints change) refl) (λ same. refl) same
+    by_made (λ (stepped : Stepped State Answer). CarryAsBefore state stepped.state → stepped.state.boards ≡ state.boards) state panel at source change
+    (λ may same. by_idle (is_idle state.crosspoints change) refl (same change.dest)) (λ same. refl) same
   where
-    by_idle : (b : Bool) → is_idle state.crosspoints change ≡ b → applied state.plant state.crosspoints (change ∷ []) ≡ state.crosspoints → cond b state.boards (marked_for_others state.boards panel change.dest Source) ≡ state.boards
+    by_idle : (b : Bool) → is_idle state.crosspoints change ≡ b → source_of (applied state.plant state.crosspoints (change ∷ [])) change.dest ≡ source_of state.crosspoints change.dest → cond b state.boards (marked_for_others state.boards panel change.dest Source) ≡ state.boards
     by_idle true idle same = refl
     by_idle false busy same =
-        absurd (both_ways (is_idle state.crosspoints change) busy (source-idle state.crosspoints change (sym (ap (λ (x : Crosspoints). source_of x change.dest) same) ∙ source_of-one state.plant state.crosspoints change)))
+        absurd (both_ways (is_idle state.crosspoints change) busy (source-idle state.crosspoints change (sym same ∙ source_of-one state.plant state.crosspoints change)))
 
-owners-quiet : (state : State) (panel dest : ℕ) (owners : Owners) → owners ≡ state.owners → (with_owners state panel dest owners).boards ≡ state.boards
+owners-quiet : (state : State) (panel dest : ℕ) (owners : Owners) → finite.get owners dest ≡ finite.get state.owners dest → (with_owners state panel dest owners).boards ≡ state.boards
 owners-quiet state panel dest owners same =
     let alike : has_same_owner state.owners owners dest ≡ true =
-    ap (λ (o : Owners). option_eq nat_eq (finite.get state.owners dest) (finite.get o dest)) same ∙ source_same (finite.get state.owners dest) in
+    ap (option_eq nat_eq (finite.get state.owners dest)) same ∙ source_same (finite.get state.owners dest) in
     ap (λ b. cond b state.boards (marked_for_others state.boards panel dest Protect)) alike
 
-protect-quiet : (state : State) (panel : ℕ) (at : Point) (named : Option ℕ) → (protected state panel at named).state.owners ≡ state.owners → (protected state panel at named).state.boards ≡ state.boards
+protect-quiet : (state : State) (panel : ℕ) (at : Point) (named : Option ℕ) → OwnedAsBefore state (protected state panel at named).state → (protected state panel at named).state.boards ≡ state.boards
 protect-quiet state panel at None same = refl
 protect-quiet state panel at (Some d) same = go (allows state.owners (device_of state.plant panel) d) same
   where
-    go : (b : Bool) → (cond b (says (with_owners state panel d (taken state.owners (device_of state.plant panel) d)) (owner_told ProtectConnected at (Some (device_of state.plant panel)))) (says state (owner_told ProtectTally at (finite.get state.owners d)))).state.owners ≡ state.owners →
+    go : (b : Bool) → OwnedAsBefore state (cond b (says (with_owners state panel d (taken state.owners (device_of state.plant panel) d)) (owner_told ProtectConnected at (Some (device_of state.plant panel)))) (says state (owner_told ProtectTally at (finite.get state.owners d)))).state →
         (cond b (says (with_owners state panel d (taken state.owners (device_of state.plant panel) d)) (owner_told ProtectConnected at (Some (device_of state.plant panel)))) (says state (owner_told ProtectTally at (finite.get state.owners d)))).state.boards ≡ state.boards
-    go true same = owners-quiet state panel d (taken state.owners (device_of state.plant panel) d) same
+    go true same = owners-quiet state panel d (taken state.owners (device_of state.plant panel) d) (same d)
     go false same = refl
 
-lift-quiet : (state : State) (panel : ℕ) (at : Point) (named : Option ℕ) → (unprotected state panel at named).state.owners ≡ state.owners → (unprotected state panel at named).state.boards ≡ state.boards
+lift-quiet : (state : State) (panel : ℕ) (at : Point) (named : Option ℕ) → OwnedAsBefore state (unprotected state panel at named).state → (unprotected state panel at named).state.boards ≡ state.boards
 lift-quiet state panel at None same = refl
 lift-quiet state panel at (Some d) same = go (may_lift state.owners (device_of state.plant panel) (is_master state.plant panel) d) same
   where
-    go : (b : Bool) → (cond b (says (with_owners state panel d (lifted state.owners (device_of state.plant panel) (is_master state.plant panel) d)) (owner_told ProtectDisconnected at None)) (says state (owner_told ProtectTally at (finite.get state.owners d)))).state.owners ≡ state.owners →
+    go : (b : Bool) → OwnedAsBefore state (cond b (says (with_owners state panel d (lifted state.owners (device_of state.plant panel) (is_master state.plant panel) d)) (owner_told ProtectDisconnected at None)) (says state (owner_told ProtectTally at (finite.get state.owners d)))).state →
         (cond b (says (with_owners state panel d (lifted state.owners (device_of state.plant panel) (is_master state.plant panel) d)) (owner_told ProtectDisconnected at None)) (says state (owner_told ProtectTally at (finite.get state.owners d)))).state.boards ≡ state.boards
-    go true same = owners-quiet state panel d (lifted state.owners (device_of state.plant panel) (is_master state.plant panel) d) same
+    go true same = owners-quiet state panel d (lifted state.owners (device_of state.plant panel) (is_master state.plant panel) d) (same d)
     go false same = refl
 
 pub store-quiet : (state : State) (at : Point) (source : Option ℕ) (salvo : ℕ) (change : Option Change) → (stored_in state at source salvo change).state.boards ≡ state.boards
@@ -78,17 +80,17 @@ none_among : (dests : List ℕ) → ((d : ℕ) → is_among dests d ≡ true →
 none_among [] none = refl
 none_among (dest ∷ dests) none = absurd (none dest (ap (λ b. b || is_among dests dest) (eq-eqb dest dest refl)))
 
-whole-quiet : (state : State) (panel salvo : ℕ) (group : Group) → group_of state.groups salvo ≡ group → IsValid state → (taken_whole state panel salvo group).state.crosspoints ≡ state.crosspoints →
+whole-quiet : (state : State) (panel salvo : ℕ) (group : Group) → group_of state.groups salvo ≡ group → IsValid state → CarryAsBefore state (taken_whole state panel salvo group).state →
     (taken_whole state panel salvo group).state.boards ≡ state.boards
 whole-quiet state panel salvo group h valid same =
-    by_taken (λ (stepped : Stepped State Answer). stepped.state.crosspoints ≡ state.crosspoints → stepped.state.boards ≡ state.boards) state panel salvo group (λ may. still) (λ status same. refl) same
+    by_taken (λ (stepped : Stepped State Answer). CarryAsBefore state stepped.state → stepped.state.boards ≡ state.boards) state panel salvo group (λ may. still) (λ status same. refl) same
   where
-    still : applied state.plant state.crosspoints group ≡ state.crosspoints → all_marked state.boards (moved state.crosspoints group) ≡ state.boards
+    still : ((d : ℕ) → source_of (applied state.plant state.crosspoints group) d ≡ source_of state.crosspoints d) → all_marked state.boards (moved state.crosspoints group) ≡ state.boards
     still same =
         let once = subst (λ (g : Group). NamesOnce g) h (valid.groups.each salvo).distinct in
-        ap (all_marked state.boards) (none_among (moved state.crosspoints group) (λ d among. is_moved state.plant state.crosspoints group d once among (ap (λ (x : Crosspoints). source_of x d) same)))
+        ap (all_marked state.boards) (none_among (moved state.crosspoints group) (λ d among. is_moved state.plant state.crosspoints group d once among (same d)))
 
-pub told-quiet : (state : State) (panel item : ℕ) (message : Message) → IsValid state → (step state (Told panel item message)).state.crosspoints ≡ state.crosspoints → (step state (Told panel item message)).state.owners ≡ state.owners →
+pub told-quiet : (state : State) (panel item : ℕ) (message : Message) → IsValid state → CarryAsBefore state (step state (Told panel item message)).state → OwnedAsBefore state (step state (Told panel item message)).state →
     (step state (Told panel item message)).state.boards ≡ state.boards
 told-quiet state panel item (Interrogate at) valid sources owners = refl
 told-quiet state panel item (Connect at source) valid sources owners = connect-quiet state panel at source (change_of state.plant at source) sources

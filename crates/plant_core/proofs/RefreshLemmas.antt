@@ -17,7 +17,7 @@ use Rattle.plant_core.specs.DisplaysInside.{shown_all}
 use Rattle.plant_core.specs.Step.{step}
 use Rattle.plant_core.specs.DisplayLaws.{lamps_for}
 use Rattle.plant_core.proofs.Validity.{IsValid-shown}
-use Rattle.plant_core.proofs.Shows.{length-with_forgotten}
+use Rattle.plant_core.proofs.ShownValidity.{AreShown-forgotten}
 use Rattle.plant_core.proofs.ScreenLemmas.{displays-some}
 use Rattle.plant_core.proofs.LampLemmas.{taken-state, taken-rest}
 
@@ -69,7 +69,7 @@ refresh-told state screen has =
 pub IsValid-refreshed : (state : State) (screen : ℕ) (refresh : Bool) → IsValid state → IsValid (refreshed state screen refresh)
 IsValid-refreshed state screen true valid =
     let all : List ℕ = displays_of state.plant screen in
-    IsValid-shown state (with_forgotten state.shown all) valid (length-with_forgotten all state.shown)
+    IsValid-shown state (with_forgotten state.shown all) valid (AreShown-forgotten all state.plant state.shown valid.shown)
 IsValid-refreshed state screen false valid = valid
 
 pub refresh-left : (state : State) (screen : ℕ) → IsValid state → differing (step state (DisplayPoll screen true)).state screen ≡ drop lamp_limit (displays_of state.plant screen)

@@ -1,8 +1,7 @@
 -- What a display poll changes: what displays were last shown, and nothing else.
-use Rattle.std.proofs.Common.{◌≡◌, ℕ, ◌≤◌, Bool, true, false, cond, List, [], ◌∷◌, length, take, All, refl, ◌∙◌, arith}
-use Rattle.std.proofs.lemmas.List.{length-set, length-map, length-take}
+use Rattle.std.proofs.Common.{◌≡◌, ℕ, ◌≤◌, Bool, true, false, cond, List, [], ◌∷◌, length, take, All, refl, arith}
+use Rattle.std.proofs.lemmas.List.{length-map, length-take}
 use Rattle.std.proofs.lemmas.List.Elements.{All-nil, All-push, All-map}
-use Rattle.change_boards.specs.Screens.{displays_of}
 use Rattle.change_boards.specs.Shown as shown
 use Rattle.plant_core.specs.declared.answer.Answer.TheVariants.{Lamp, Finished}
 use Rattle.plant_core.specs.State.{State}
@@ -29,28 +28,6 @@ shown_behind state screen refresh = shown_with (refreshed state screen refresh) 
 pub display_polled-is : (state : State) (screen : ℕ) (refresh : Bool) → (display_polled state screen refresh).state ≡ record state { shown = shown_behind state screen refresh }
 display_polled-is state screen true = taken-is (refreshed state screen true) (first_of state screen true)
 display_polled-is state screen false = taken-is (refreshed state screen false) (first_of state screen false)
-
--- so many values were shown as before
-pub length-all_shown : (displays : List ℕ) (state : State) (before : shown.Shown) → length (all_shown state displays before) ≡ length before
-length-all_shown [] state before = refl
-length-all_shown (display ∷ displays) state before =
-    length-all_shown displays state (shown.with_shown before display (value_of state display)) ∙ length-set before display _
-
-pub length-with_forgotten : (displays : List ℕ) (before : shown.Shown) → length (shown.with_forgotten before displays) ≡ length before
-length-with_forgotten [] before = refl
-length-with_forgotten (display ∷ displays) before = length-with_forgotten displays _ ∙ length-set before display _
-
-length-shown_with : (state : State) (displays : List ℕ) → length (shown_with state displays) ≡ length state.shown
-length-shown_with state [] = refl
-length-shown_with state (display ∷ displays) = length-all_shown (display ∷ displays) state state.shown
-
-length-refreshed : (state : State) (screen : ℕ) (refresh : Bool) → length (refreshed state screen refresh).shown ≡ length state.shown
-length-refreshed state screen true = length-with_forgotten (displays_of state.plant screen) state.shown
-length-refreshed state screen false = refl
-
-pub length-shown_behind : (state : State) (screen : ℕ) (refresh : Bool) → length (shown_behind state screen refresh) ≡ length state.shown
-length-shown_behind state screen refresh =
-    length-shown_with (refreshed state screen refresh) (first_of state screen refresh) ∙ length-refreshed state screen refresh
 
 -- no more displays are taken than there may be lamps
 taken-few : (state : State) (displays : List ℕ) → length displays ≤ lamp_limit → length (taken state displays).answers ≤ lamp_limit

@@ -28,7 +28,8 @@ use Rattle.plant_core.specs.Step.{step, dest_of}
 use Rattle.plant_core.proofs.Validity.{IsValid-applied, IsValid-owners, IsValid-others, IsValid-marked, IsValid-take, IsValid-leave, IsValid-shown, AreOwners-taken, AreOwners-lifted, device-within, change_of-IsChangeOf, found-below}
 use Rattle.plant_core.proofs.GroupValidity.{IsValid-store, IsValid-clear}
 use Rattle.plant_core.proofs.Changes.{applied-idle, once-one, moved-within}
-use Rattle.plant_core.proofs.Shows.{shown_behind, display_polled-is, length-shown_behind}
+use Rattle.plant_core.proofs.Shows.{shown_behind, display_polled-is}
+use Rattle.plant_core.proofs.ShownValidity.{shown_behind-are}
 use Rattle.plant_core.proofs.Outcomes.{by_made, by_taken, made-enough}
 
 -- a panel's connect leaves a valid state
@@ -144,7 +145,7 @@ IsValid-step state (Poll panel item turn) valid = IsValid-take state panel valid
 IsValid-step state (Leave panel) valid = IsValid-leave state panel valid
 IsValid-step state (DisplayPoll screen refresh) valid =
     subst IsValid (sym (display_polled-is state screen refresh))
-    (IsValid-shown state (shown_behind state screen refresh) valid (length-shown_behind state screen refresh))
+    (IsValid-shown state (shown_behind state screen refresh) valid (shown_behind-are state screen refresh valid))
 
 -- a change that isn't idle is made, and the others hear of it; an idle one leaves all as it was
 pub changed-busy : (state : State) (asker : ℕ) (change : Change) → is_idle state.crosspoints change ≡ false →

@@ -29,11 +29,12 @@ use Rattle.salvo_groups.specs.Groups.{Group, AreGroups, group_of, has_entry, may
 use Rattle.salvo_groups.proofs.AllGroups.{AreGroups-start}
 use Rattle.change_boards.specs.Board.{Board}
 use Rattle.change_boards.specs.Notices.{with_take, with_leave}
-use Rattle.change_boards.specs.Shown.{Shown}
+use Rattle.change_boards.specs.declared.value.Value.{Value}
+use Rattle.change_boards.specs.Shown.{Shown, last, never_shown}
 use Rattle.change_boards.specs.Laws.{AreBoards}
 use Rattle.change_boards.specs.declared.sort.Sort.{Sort}
 use Rattle.change_boards.proofs.StayBoards.{AreBoards-start, AreBoards-take, AreBoards-leave}
-use Rattle.plant_core.specs.State.{State, IsCrosspoint, AreCrosspoints, AreOwners, IsChangeOf, IsValid, start, device_of}
+use Rattle.plant_core.specs.State.{State, IsCrosspoint, AreCrosspoints, AreOwners, IsChangeOf, AreShown, IsValid, start, device_of}
 use Rattle.plant_core.specs.Noticed.{marked_for_others, all_marked}
 use Rattle.plant_core.specs.Connects.{wanted, change_of}
 use Rattle.plant_core.proofs.Noticed.{AreBoards-others, AreBoards-marked}
@@ -47,9 +48,21 @@ IsValid-start plant is = record {
   groups = AreGroups-start;
   changes = λ number. none_stored number;
   boards = AreBoards-start (length plant.panels) (destinations_of plant);
-  shown = length-replicate (length plant.displays) None;
+  shown = record {
+    count = length-replicate (length plant.displays) None;
+    each = λ number display value found h. absurd (none_shown number value h);
+  };
 }
   where
+    none_shown : (number : ℕ) (value : Value) → last (never_shown (length plant.displays)) number ≡ Some value → ⊥
+    none_shown number value h =
+        let none : last (never_shown (length plant.displays)) number ≡ None =
+        elim (cases_lt number (length plant.displays)) [
+          | inl within ↦ get_or-replicate (length plant.displays) number None None within
+          | inr past ↦ get_or_past (never_shown (length plant.displays)) number None (omega (arith, past, length-replicate {A = Option Value} (length plant.displays) None))
+        ] in
+        cc
+
     none_stored : (number : ℕ) → All (IsChangeOf plant) (group_of salvos.start number)
     none_stored number =
         let empty : group_of salvos.start number ≡ [] =
@@ -173,8 +186,8 @@ IsValid-groups state groups valid are changes = record {
   shown = valid.shown;
 }
 
-pub IsValid-shown : (state : State) (values : Shown) → IsValid state → length values ≡ length state.shown → IsValid (record state { shown = values })
-IsValid-shown state values valid same = record {
+pub IsValid-shown : (state : State) (values : Shown) → IsValid state → AreShown state.plant values → IsValid (record state { shown = values })
+IsValid-shown state values valid are = record {
   is_plant = valid.is_plant;
   is_crosspoint = valid.is_crosspoint;
   ties = valid.ties;
@@ -182,7 +195,7 @@ IsValid-shown state values valid same = record {
   groups = valid.groups;
   changes = valid.changes;
   boards = valid.boards;
-  shown = same ∙ valid.shown;
+  shown = are;
 }
 
 -- marks, polls and leaves keep a state valid

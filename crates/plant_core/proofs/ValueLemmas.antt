@@ -17,7 +17,8 @@ use Rattle.plant_core.specs.State.{State}
 use Rattle.plant_core.specs.Displays.{dark, value_with, value_at}
 use Rattle.plant_core.specs.DisplaysInside.{value_in}
 use Rattle.plant_core.specs.Step.{step}
-use Rattle.plant_core.specs.DisplayLaws.{CarryAsBefore, HaveTheirValues, MovesNothing}
+use Rattle.plant_core.specs.Laws.{CarryAsBefore}
+use Rattle.plant_core.specs.DisplayLaws.{HaveTheirValues, MovesNothing}
 use Rattle.plant_core.proofs.Shows.{display_polled-is}
 use Rattle.plant_core.proofs.StepLeaves.{message-leaves, plant-step}
 

@@ -1,25 +1,20 @@
 -- What is true of displays in every valid state, said by what destinations carry, and by lamps.
-use Rattle.std.specs.Prelude.{◌≡◌, ◌≢◌, ◌↔◌, ℕ, ◌+◌, ◌*◌, ◌/◌, nat_eq, Bool, true, false, List, [], length, map, filter, take, drop, replicate, All, Option}
+use Rattle.std.specs.Prelude.{◌≡◌, ◌≢◌, ◌↔◌, ℕ, ◌<◌, ◌+◌, ◌*◌, ◌/◌, nat_eq, Bool, true, false, List, [], ◌∷◌, length, map, filter, take, drop, replicate, All, Option}
 use Rattle.std.specs.List.{IsDistinct, Contains}
 use Rattle.swp08_messages.specs.declared.point.Point.{Point}
 use Rattle.swp08_messages.specs.declared.message.Message.TheVariants.{Connect, Go}
-use Rattle.crosspoint_state.specs.Crosspoints.{source_of}
 use Rattle.change_boards.specs.declared.value.Value.{Value}
+use Rattle.change_boards.specs.Notices.{has_left}
 use Rattle.change_boards.specs.Screens.{displays_of, has_screen}
 use Rattle.change_boards.specs.Shown.{last}
 use Rattle.plant_core.specs.declared.request.Request.{Request}
 use Rattle.plant_core.specs.declared.request.Request.TheVariants.{Told, DisplayPoll}
 use Rattle.plant_core.specs.declared.answer.Answer.{Answer}
-use Rattle.plant_core.specs.declared.answer.Answer.TheVariants.{Lamp}
+use Rattle.plant_core.specs.declared.answer.Answer.TheVariants.{Lamp, Finished}
 use Rattle.plant_core.specs.State.{State, IsValid}
 use Rattle.plant_core.specs.Displays.{lamp_limit, value_of, differs, differing, refreshed}
 use Rattle.plant_core.specs.Step.{step}
-use Rattle.plant_core.specs.Laws.{after}
-
--- Each destination carries the source that it carried.
-abbrev pub CarryAsBefore : State → State → Type 0
-CarryAsBefore old new =
-    (dest : ℕ) → source_of new.crosspoints dest ≡ source_of old.crosspoints dest
+use Rattle.plant_core.specs.Laws.{CarryAsBefore, after}
 
 -- Each display has the value that it had.
 abbrev pub HaveTheirValues : State → State → Type 0
@@ -41,6 +36,13 @@ IsNoLamp answer = Unit {0}
 abbrev pub NoneDiffers : State → ℕ → Type 0
 NoneDiffers state screen =
     All (λ display. differs state display ≡ false) (displays_of state.plant screen)
+
+-- All is finished: no display of any screen differs, and every panel has left.
+pub record AllIsFinished (state : State) : Type 0 where
+  pub shown : (display : ℕ) → display < length state.plant.displays
+      → differs state display ≡ false
+  pub left : (panel : ℕ) → panel < length state.plant.panels
+      → has_left state.boards panel ≡ true
 
 -- A display of a screen differed, was told its value, and doesn't differ any more.
 pub record IsLit (old new : State) (screen display : ℕ) (value : Value) : Type 0 where
@@ -98,6 +100,19 @@ abbrev pub LampsAreOfThoseThatDiffer : Type 0
 LampsAreOfThoseThatDiffer = (state : State) (screen : ℕ) (refresh : Bool) → IsValid state
     → (let polled = step state (DisplayPoll screen refresh)
     in All (IsOfLit (refreshed state screen refresh) polled.state screen) polled.answers)
+
+-- where all is finished behind its refresh, a poll is answered so, and nothing else
+abbrev pub FinishedIsTold : Type 0
+FinishedIsTold = (state : State) (screen : ℕ) (refresh : Bool) → IsValid state
+    → AllIsFinished (refreshed state screen refresh)
+    → (step state (DisplayPoll screen refresh)).answers ≡ Finished ∷ []
+
+-- where any of its answers says so, all is, and there is no other answer
+abbrev pub FinishedIsTrue : Type 0
+FinishedIsTrue = (state : State) (screen : ℕ) (refresh : Bool) → IsValid state
+    → (let answers : List Answer = (step state (DisplayPoll screen refresh)).answers
+    in Contains answers Finished
+    → AllIsFinished (refreshed state screen refresh) × (answers ≡ Finished ∷ []))
 
 -- the poll behind so many others of the same screen tells, in order, the displays that differed before all of them, but for
 -- the first 64 for each of these others

@@ -13,7 +13,7 @@ use Rattle.plant_core.specs.declared.request.Request.TheVariants.{Told, Poll}
 use Rattle.history_lock.specs.Step.{Stepped}
 use Rattle.plant_core.specs.declared.answer.Answer.{Answer}
 use Rattle.plant_core.specs.declared.answer.Answer.TheVariants.{Say, Dumped}
-use Rattle.crosspoint_state.specs.Crosspoints.{NamesOnce}
+use Rattle.crosspoint_state.specs.Crosspoints.{source_of, NamesOnce}
 use Rattle.crosspoint_state.specs.Applied.{applied, are_enough}
 use Rattle.plant_core.specs.State.{State, IsValid, IsChangeOf, Fits, start, device_of, owner_at}
 use Rattle.plant_core.specs.Connects.{change_of}
@@ -52,6 +52,11 @@ abbrev pub OthersCarryAsBefore : State → Point → State → Type 0
 OthersCarryAsBefore old at new = (dest : ℕ)
     → dest_at old.plant at.matrix at.level at.dest ≢ Some dest
     → get new.crosspoints dest ≡ get old.crosspoints dest
+
+-- Each destination carries the source that it carried, by whichever tie.
+abbrev pub CarryAsBefore : State → State → Type 0
+CarryAsBefore old new =
+    (dest : ℕ) → source_of new.crosspoints dest ≡ source_of old.crosspoints dest
 
 -- An interrogate of every other place is answered as before.
 abbrev pub OthersAnswerAsBefore : State → Point → State → Type 0

@@ -18,7 +18,7 @@ use Rattle.plant_core.specs.declared.answer.Answer.{Answer}
 use Rattle.crosspoint_state.specs.Crosspoints.{source_of}
 use Rattle.plant_core.specs.State.{State, IsValid, owner_at}
 use Rattle.plant_core.specs.Step.{step, notice_of, told_at, told_owner}
-use Rattle.plant_core.specs.Laws.{after}
+use Rattle.plant_core.specs.Laws.{CarryAsBefore, after}
 
 -- Each panel but the asker that hasn't left has this notice of a destination.
 abbrev pub OthersHear : List Board → List Board → ℕ → ℕ → Sort → Type 0
@@ -52,6 +52,10 @@ SourceChanged old new dest = source_of new.crosspoints dest ≢ source_of old.cr
 
 abbrev pub OwnerChanged : State → State → ℕ → Type 0
 OwnerChanged old new dest = get new.owners dest ≢ get old.owners dest
+
+-- Each destination has the owner that it had.
+abbrev pub OwnedAsBefore : State → State → Type 0
+OwnedAsBefore old new = (dest : ℕ) → get new.owners dest ≡ get old.owners dest
 
 -- Each panel that hasn't left has notice of each destination whose source changed.
 abbrev pub AllHear : State → State → Type 0
@@ -165,11 +169,11 @@ abbrev pub GoesAreHeard : Type 0
 GoesAreHeard = (state : State) (panel item salvo : ℕ) (clear : Bool) → IsValid state
     → AreHeardByAll state (step state (Told panel item (Go clear salvo))).state
 
--- what a panel tells gives no notice where it changes neither a source nor an owner
+-- what a panel tells gives no notice where it changes neither a source nor an owner, whatever becomes of the ties
 abbrev pub OthersAreQuiet : Type 0
 OthersAreQuiet = (state : State) (panel item : ℕ) (message : Message)
     → (let new : State = (step state (Told panel item message)).state
-    in IsValid state → new.crosspoints ≡ state.crosspoints → new.owners ≡ state.owners
+    in IsValid state → CarryAsBefore state new → OwnedAsBefore state new
     → new.boards ≡ state.boards)
 
 -- a poll of a panel that has a notice tells it of one destination

@@ -1,5 +1,5 @@
 -- The state of a plant, as plain data, and what is true of it.
-use Rattle.std.specs.Prelude.{◌≡◌, ℕ, ◌<◌, ◌≤◌, length, slice_get, Bool, true, false, List, All, Option, Some, IfSome}
+use Rattle.std.specs.Prelude.{◌≡◌, ℕ, ◌<◌, ◌≤◌, length, slice_get, Bool, true, false, List, All, Option, Some, None, IfSome}
 use Rattle.std.specs.Option.{option_map_or, option_and_then}
 use Rattle.std.specs.FinMap.{empty, get}
 use Rattle.swp08_messages.specs.declared.point.Point.{Point}
@@ -12,6 +12,7 @@ use Rattle.plant_config.specs.IsPlant.{IsPlant}
 use Rattle.plant_config.specs.Sites.{dest_at, source_at, source_number_of}
 use Rattle.plant_config.specs.declared.records.Change.{Change}
 use Rattle.plant_config.specs.declared.records.Panel.{Panel}
+use Rattle.plant_config.specs.declared.records.Display.{Display}
 use Rattle.crosspoint_state.specs.Crosspoints.{Crosspoints, source_of}
 use Rattle.crosspoint_state.specs.Ties.{HaveValidTies}
 use Rattle.crosspoint_state.specs.declared.spot.Spot.{Spot}
@@ -21,6 +22,7 @@ use Rattle.salvo_groups.specs.Groups.{Group, group_of, AreGroups}
 use Rattle.change_boards.specs.Board.{Board}
 use Rattle.change_boards.specs.Notices as notices
 use Rattle.change_boards.specs.Laws.{AreBoards}
+use Rattle.change_boards.specs.declared.value.Value.{Value}
 use Rattle.change_boards.specs.Screens.{has_screen}
 use Rattle.change_boards.specs.Shown as displays
 use Rattle.plant_core.specs.declared.request.Request.{Request}
@@ -98,10 +100,23 @@ pub record IsChangeOf (plant : PlantData) (change : Change) : Type 0 where
   pub dest : change.dest < destinations_of plant
   pub source : IfSome change.source (IsCrosspoint plant change.dest)
 
+-- A destination can have a value where the value's source is of the destination's level. A value without a source is neither
+-- on air nor on preview.
+pub record CanHave (plant : PlantData) (dest : ℕ) (value : Value) : Type 0 where
+  pub source : IfSome value.source (IsCrosspoint plant dest)
+  pub parked : value.source ≡ None → (value.air ≡ false) × (value.preview ≡ false)
+
+-- Each display of the plant was last shown a value that the destination that it watches can have, or none.
+pub record AreShown (plant : PlantData) (shown : displays.Shown) : Type 0 where
+  pub count : length shown ≡ length plant.displays
+  pub each : (number : ℕ) (display : Display) (value : Value)
+      → slice_get plant.displays number ≡ Some display
+      → displays.last shown number ≡ Some value → CanHave plant display.watch value
+
 -- A state is valid where its plant is, each destination carries a source of its own level, and the ties are valid, so that no
 -- tie carries two sources. Only destinations of the plant are protected. There are 128 groups, each of changes of the plant.
 -- Each panel of the plant has a board, with notices of the plant's destinations, none where the panel has left. Of each
--- display it is kept what it was last shown.
+-- display it is kept what it was last shown, which is a value that it can have.
 pub record IsValid (state : State) : Type 0 where
   pub is_plant : IsPlant state.plant
   pub is_crosspoint : AreCrosspoints state.plant state.crosspoints
@@ -110,7 +125,7 @@ pub record IsValid (state : State) : Type 0 where
   pub groups : AreGroups state.groups
   pub changes : (number : ℕ) → All (IsChangeOf state.plant) (group_of state.groups number)
   pub boards : AreBoards state.boards (length state.plant.panels) (destinations_of state.plant)
-  pub shown : length state.shown ≡ length state.plant.displays
+  pub shown : AreShown state.plant state.shown
 
 -- A message is for the plant where it asks something of it, and is in its ranges.
 abbrev pub IsForPlant : Message → Type 0

@@ -3,6 +3,7 @@
 ghost use Rattle.plant_core.specs.DisplayLaws.{SourcesMakeValues, OthersMoveNothing};
 ghost use Rattle.plant_core.specs.DisplayLaws.{OthersLeaveValues};
 ghost use Rattle.plant_core.specs.DisplayLaws.{PollsAreQuiet, LampsAreOfThoseThatDiffer};
+ghost use Rattle.plant_core.specs.DisplayLaws.{FinishedIsTold, FinishedIsTrue};
 ghost use Rattle.plant_core.specs.DisplayLaws.{TurnsTellInOrder, TurnsLeaveTheRest};
 ghost use Rattle.plant_core.specs.DisplayLaws.{EnoughTurnsTellAll, EachDiffersOnce};
 ghost use Rattle.plant_core.specs.DisplayLaws.{RefreshesTellAll, RefreshesLeaveTheRest};
@@ -22,6 +23,13 @@ pub fn only_changes_move_lamps()
 pub fn polls_are_quiet_where_nothing_differs()
     ensures quiet { PollsAreQuiet }
     ensures lamps { LampsAreOfThoseThatDiffer }
+{}
+
+/// A display poll is answered that all is finished, and by this alone, exactly where, after its refresh, no display of any
+/// screen differs and every panel has left.
+pub fn polls_tell_when_all_is_finished()
+    ensures told { FinishedIsTold }
+    ensures only { FinishedIsTrue }
 {}
 
 /// With no other event between, polls of a screen tell the displays that differ in their order, each once, 64 a poll. As many

@@ -29,7 +29,7 @@ mod tests;
 pub use answer::Answer;
 pub use display_laws::{
     a_refresh_tells_all, only_changes_move_lamps, polls_are_quiet_where_nothing_differs,
-    polls_tell_each_once,
+    polls_tell_each_once, polls_tell_when_all_is_finished,
 };
 pub use laws::{
     answers_are_few, connects_are_made, connects_stand, dumps_tell_what_stands,

@@ -2,7 +2,8 @@ use Rattle.std.proofs.Common.{◌≡◌, ◌<◌, ℕ, length, All, sym, ap, sub
 use Rattle.change_boards.specs.Screens.{displays_of, displays_at}
 use Rattle.plant_core.specs.declared.tables.Tables.{Tables}
 use Rattle.plant_core.specs.StateInside.{state_of}
-use Rattle.plant_core.proofs.Shows.{length-with_forgotten}
+use Rattle.plant_core.specs.State.{AreShown}
+use Rattle.plant_core.proofs.ShownValidity.{AreShown-forgotten}
 use Rattle.plant_core.proofs.Validity.{IsValid-shown}
 use Rattle.plant_core.proofs.ScreenLemmas.{displays-below}
 use Rattle.plant_core.proofs.state.PlantState.refresh.Goals as goal
@@ -11,14 +12,14 @@ pub forget-requires : goal.forget-requires
 forget-requires c =
     let are : c.displays.result.now ≡ displays_of c.self.inside.plant c.args.screen =
     c.displays.ensures ∙ ap (λ (tables : Tables). displays_at tables.screens c.args.screen) c.deref.ensures ∙ c.self.invariant.beside.screened c.args.screen in
-    subst (λ (n : ℕ). All (λ display. display < n) c.displays.result.now) (sym c.self.invariant.valid.shown)
+    subst (λ (n : ℕ). All (λ display. display < n) c.displays.result.now) (sym c.self.invariant.valid.shown.count)
     (subst (All (λ display. display < length c.self.inside.plant.displays)) (sym are) (displays-below c.self.inside.plant c.args.screen))
 
 pub invariant_of-self : goal.invariant_of-self
 invariant_of-self c = record {
   valid =
       IsValid-shown (state_of c.self.inside.plant c.self.inside.crosspoints c.self.inside.protects c.self.inside.groups c.self.inside.notices c.self.inside.shown) c.forget.new.self c.self.invariant.valid
-      (ap length c.forget.ensures ∙ length-with_forgotten c.displays.result.now c.self.inside.shown);
+      (subst (AreShown c.self.inside.plant) (sym c.forget.ensures) (AreShown-forgotten c.displays.result.now c.self.inside.plant c.self.inside.shown c.self.invariant.valid.shown));
   room = c.self.invariant.room;
   beside = c.self.invariant.beside;
 }

@@ -4,13 +4,14 @@ use Rattle.change_boards.specs.Screens.{displays_of, displays_at}
 use Rattle.change_boards.specs.Shown.{Shown}
 use Rattle.change_boards.specs.declared.value.Value.{Value}
 use Rattle.plant_core.specs.declared.tables.Tables.{Tables}
-use Rattle.plant_core.specs.State.{State}
+use Rattle.plant_core.specs.State.{State, AreShown}
 use Rattle.plant_core.specs.StateInside.{state_of}
 use Rattle.plant_core.specs.Displays.{lamp_limit, differing}
 use Rattle.plant_core.specs.DisplaysInside.{value_in, first_differing, shown_all, lamps_of, AreBelow, lit_first}
 use Rattle.plant_core.proofs.Validity.{IsValid-shown}
 use Rattle.plant_core.proofs.ScreenLemmas.{displays-below, displays-once}
-use Rattle.plant_core.proofs.DisplayLemmas.{carried, all_shown-are, length-shown_all}
+use Rattle.plant_core.proofs.DisplayLemmas.{carried, all_shown-are}
+use Rattle.plant_core.proofs.ShownValidity.{AreShown-shown_all}
 use Rattle.plant_core.proofs.state.PlantState.show_first.Goals as goal
 
 pub show_first-requires-clause-carried : goal.show_first-requires-clause-carried
@@ -34,7 +35,8 @@ invariant_of-self c =
     record {
       valid =
           IsValid-shown (state_of c.self.inside.plant c.self.inside.crosspoints c.self.inside.protects c.self.inside.groups c.self.inside.notices c.self.inside.shown) c.show_first.new.shown c.self.invariant.valid
-          (ap length c.show_first.ensures.shown ∙ length-shown_all (first_differing values c.self.inside.shown c.displays.result.now) values c.self.inside.shown);
+          (subst (AreShown c.self.inside.plant) (sym c.show_first.ensures.shown)
+          (AreShown-shown_all (first_differing values c.self.inside.shown c.displays.result.now) c.self.inside.plant c.self.inside.crosspoints.entries c.self.inside.shown c.self.invariant.valid.is_crosspoint c.self.invariant.valid.shown));
       room = c.self.invariant.room;
       beside = c.self.invariant.beside;
     }
