@@ -1,14 +1,14 @@
--- A frame spells one body, a good body is that of some DATA, and how long a frame is.
-use Rattle.std.proofs.Common.{◌≡◌, ℕ, zero, suc, ◌+◌, ◌-◌, ◌%◌, ◌≤◌, ◌<◌, ◌==◌, nat_eq, true, false, cond, ⊎_elim, List, [], ◌∷◌, ◌++◌, length, take, drop, sum, count_by, replicate, get_or, refl, sym, ap, ◌∙◌, subst, zero-add, arith}
-use Rattle.std.proofs.lemmas.Bool.{cond-false, cases_lt, and_parts, and_from, leb-true, le-leb, eqb-true, eq-eqb}
+-- A frame spells one body, the body of DATA is good, and how long a frame is.
+use Rattle.std.proofs.Common.{◌≡◌, ℕ, ◌+◌, ◌-◌, ◌%◌, ◌≤◌, ◌<◌, ◌==◌, nat_eq, true, false, cond, ⊎_elim, List, [], ◌∷◌, ◌++◌, length, take, drop, sum, count_by, replicate, get_or, refl, sym, ap, ◌∙◌, zero-add, arith}
+use Rattle.std.proofs.lemmas.Bool.{cond-false, cases_lt, and_from, le-leb, eq-eqb}
 use Rattle.std.proofs.lemmas.Grind.{common_steps}
-use Rattle.std.proofs.lemmas.List.{length_push, length-append, take-append-drop, length-take-le, take_all, take_at, take_more, take-append-le, get_or_at, get_or_append_left, same_from_push}
+use Rattle.std.proofs.lemmas.List.{length_push, length-append, take-append-drop, take_at, take_more, take-append-le, get_or_at, get_or_append_left, same_from_push}
 use Rattle.std.proofs.lemmas.List.Concat.{flat_map-append}
 use Rattle.std.proofs.lemmas.List.Sums.{sum_by_push, sum_by-cons, sum_by-append, get_or-le-sum_by, count_by-le-length}
 use Rattle.dle_framing.specs.Frame.{IsData, doubled, check_byte, counted, body, enclosed, frame}
 use Rattle.dle_framing.specs.Items.{Run, longest_run, is_good}
 use Rattle.dle_framing.specs.Numbers.{dle, stx, etx, most_data, least_body, most_body, most_frame}
-use Rattle.dle_framing.proofs.Runs.{at_byte, doubled-byte, doubled-longest_run, body-enclosed}
+use Rattle.dle_framing.proofs.Runs.{at_byte, doubled-byte, body-enclosed}
 
 -- one body has a text
 pub one_body : (a b : List ℕ) → enclosed a ≡ enclosed b → a ≡ b
@@ -52,59 +52,6 @@ good-body bytes is_data =
     (eq-eqb (get_or (body bytes) (length (body bytes) - 2) 0) (length (body bytes) - 2) (count-body bytes)))
     (eq-eqb (sum (body bytes) % 256) 0 (sum-body bytes))
 
--- a list by its two last bytes
-last_two : (bytes : List ℕ) (k : ℕ) → length bytes ≡ k + 2 → bytes ≡ take k bytes ++ get_or bytes k 0 ∷ [] ++ get_or bytes (k + 1) 0 ∷ []
-last_two bytes k h =
-    sym (take_all (k + 1 + 1) bytes (omega arith))
-    ∙ take_more bytes (k + 1) 0 (omega arith)
-    ∙ ap (λ (front : List ℕ). front ++ get_or bytes (k + 1) 0 ∷ []) (take_more bytes k 0 (omega arith))
-
--- what a good body is
-record IsGood (bytes : List ℕ) : Type 0 where
-  long : least_body ≤ length bytes
-  short : length bytes ≤ most_body
-  count : get_or bytes (length bytes - 2) 0 ≡ length bytes - 2
-  check : sum bytes % 256 ≡ 0
-
-good_parts : (bytes : List ℕ) → is_good bytes ≡ true → IsGood bytes
-good_parts bytes good =
-    let checked = and_parts _ _ good in
-    let counted_right = and_parts _ _ checked.0 in
-    let sized = and_parts _ _ counted_right.0 in
-    record {
-      long = leb-true least_body (length bytes) sized.0;
-      short = leb-true (length bytes) most_body sized.1;
-      count = eqb-true (get_or bytes (length bytes - 2) 0) (length bytes - 2) counted_right.1;
-      check = eqb-true (sum bytes % 256) 0 checked.1;
-    }
-
--- the two last bytes of a good body are the length of its DATA and their check byte
-body_from_parts : (bytes front : List ℕ) (n c : ℕ) → bytes ≡ front ++ n ∷ [] ++ c ∷ [] → n ≡ length front → c < 256 → sum bytes % 256 ≡ 0 → bytes ≡ body front
-body_from_parts bytes front n c split count small check =
-    let counts : front ++ n ∷ [] ≡ counted front = ap (λ (k : ℕ). front ++ k ∷ []) count in
-    let total : sum bytes ≡ sum (counted front) + c = ap sum split ∙ sum-push (front ++ n ∷ []) c ∙ ap (λ (text : List ℕ). sum text + c) counts in
-    let checks : c ≡ check_byte (counted front) = omega arith in
-    split ∙ ap (λ (text : List ℕ). text ++ c ∷ []) counts ∙ ap (λ (k : ℕ). counted front ++ k ∷ []) checks
-
--- a good body is that of its DATA
-pub body-data : (bytes : List ℕ) → is_good bytes ≡ true → ((i : ℕ) → get_or bytes i 0 < 256) → (bytes ≡ body (take (length bytes - 2) bytes)) × IsData (take (length bytes - 2) bytes)
-body-data bytes good small =
-    let parts = good_parts bytes good in
-    let k : ℕ = length bytes - 2 in
-    let len : length (take k bytes) ≡ k = length-take-le k bytes (omega (arith, parts.long)) in (
-      body_from_parts bytes (take k bytes) (get_or bytes k 0) (get_or bytes (k + 1) 0) (last_two bytes k (omega (arith, parts.long))) (parts.count ∙ sym len) (small (k + 1)) parts.check,
-      (omega (arith, parts.long, len), omega (arith, parts.short, len)),
-    )
-
--- what is behind the start of a text that encloses a body
-pub enclosed-run : (text inner body : List ℕ) → text ≡ dle ∷ stx ∷ inner → text ≡ enclosed body → longest_run inner ≡ record { spelled = body; behind = dle ∷ etx ∷ [] }
-enclosed-run text inner body starts encloses = ap (λ (text : List ℕ). longest_run (drop 2 text)) (sym starts ∙ encloses) ∙ body-enclosed body
-
--- a text whose longest run ends at its end encloses what the run spells
-pub run-enclosed : (text inner : List ℕ) → text ≡ dle ∷ stx ∷ inner → (longest_run inner).behind ≡ dle ∷ etx ∷ [] → text ≡ enclosed (longest_run inner).spelled
-run-enclosed text inner starts ends =
-    starts ∙ ap (λ (text : List ℕ). dle ∷ stx ∷ text) (sym (doubled-longest_run inner) ∙ ap (λ (behind : List ℕ). doubled (longest_run inner).spelled ++ behind) ends)
-
 -- the frame of a body that is its own spelling
 pub frame-single : (bytes spelled : List ℕ) → body bytes ≡ spelled → doubled spelled ≡ spelled → (dle ∷ stx ∷ []) ++ spelled ++ (dle ∷ etx ∷ []) ≡ frame bytes
 frame-single bytes spelled is single = ap (λ (inner : List ℕ). (dle ∷ stx ∷ []) ++ inner ++ (dle ∷ etx ∷ [])) (sym single ∙ ap doubled (sym is))
@@ -113,23 +60,6 @@ frame-single bytes spelled is single = ap (λ (inner : List ℕ). (dle ∷ stx �
 pub five-two : (bytes ending : List ℕ) → length bytes ≡ 5 → length ending ≡ 2
     → bytes ++ ending ≡ get_or bytes 0 0 ∷ get_or bytes 1 0 ∷ get_or bytes 2 0 ∷ get_or bytes 3 0 ∷ get_or bytes 4 0 ∷ get_or ending 0 0 ∷ get_or ending 1 0 ∷ []
 five-two bytes ending five two = grind (arith, common_steps)
-
--- the bytes of a body are among those of the text that spells it
-small-doubled : (bytes tail : List ℕ) → ((i : ℕ) → get_or (doubled bytes ++ tail) i 0 < 256) → (i : ℕ) → get_or bytes i 0 < 256
-small-doubled [] tail = λ small i. omega arith
-small-doubled (a ∷ bytes) tail =
-    at_byte dle (λ a. ((i : ℕ) → get_or (doubled (a ∷ bytes) ++ tail) i 0 < 256) → (i : ℕ) → get_or (a ∷ bytes) i 0 < 256) a
-    (λ small i. elim i as (λ i. get_or (dle ∷ bytes) i 0 < 256) [ zero ↦ small 0 | suc j ↦ small-doubled bytes tail (λ k. small (suc (suc k))) j ])
-    (λ h small i.
-    let P : List ℕ → Type 0 = λ text. (i : ℕ) → get_or (text ++ tail) i 0 < 256 in
-    let small' : (i : ℕ) → get_or (a ∷ doubled bytes ++ tail) i 0 < 256 = subst P (doubled-byte a bytes h) small in
-    elim i as (λ i. get_or (a ∷ bytes) i 0 < 256) [ zero ↦ small' 0 | suc j ↦ small-doubled bytes tail (λ k. small' (suc k)) j ])
-
-pub small-body : (text bytes : List ℕ) → text ≡ enclosed bytes → ((i : ℕ) → get_or text i 0 < 256) → (i : ℕ) → get_or bytes i 0 < 256
-small-body text bytes encloses small =
-    let P : List ℕ → Type 0 = λ text. (i : ℕ) → get_or text i 0 < 256 in
-    let small' = subst P encloses small in
-    small-doubled bytes (dle ∷ etx ∷ []) (λ i. small' (suc (suc i)))
 
 -- how many of these bytes are DLE
 abbrev pub dles : List ℕ → ℕ

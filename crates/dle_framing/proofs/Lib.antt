@@ -7,3 +7,4 @@ pub mod FeedLemmas
 pub mod PlainLemmas
 pub mod FrontLemmas
 pub mod PieceLemmas
+mod Examples

@@ -1,5 +1,5 @@
 -- The one spelling of DATA as a frame of SW-P-08.
-use Rattle.std.specs.Prelude.{◌≡◌, ℕ, ◌-◌, ◌%◌, ◌≤◌, ◌==◌, if◌then◌else◌, List, [], ◌∷◌, ◌++◌, length, sum}
+use Rattle.std.specs.Prelude.{ℕ, ◌-◌, ◌%◌, ◌≤◌, ◌==◌, if◌then◌else◌, List, [], ◌∷◌, ◌++◌, length, sum}
 use Rattle.std.specs.List.{flat_map}
 use Rattle.dle_framing.specs.Numbers.{dle, stx, etx, most_data}
 
@@ -30,12 +30,3 @@ enclosed body = (dle ∷ stx ∷ []) ++ doubled body ++ (dle ∷ etx ∷ [])
 -- the frame of these DATA
 abbrev pub frame : List ℕ → List ℕ
 frame bytes = enclosed (body bytes)
-
--- The bytes are the frame of some DATA, which was appended.
-abbrev pub AppendsData : List ℕ → List ℕ → List ℕ → Type 0
-AppendsData bytes before after =
-    (carried : List ℕ) × IsData carried × (bytes ≡ frame carried) × (after ≡ before ++ carried)
-
--- The bytes are the frame of no DATA.
-abbrev pub IsNoFrame : List ℕ → Type 0
-IsNoFrame bytes = (carried : List ℕ) → IsData carried → bytes ≡ frame carried → ⊥

@@ -12,7 +12,7 @@ use crate::control::{ACK, DLE, ETX, NAK, STX};
 use crate::front::Front;
 use crate::item::Item;
 use crate::place::dle_place;
-use crate::read::behind_start;
+use crate::start::behind_start;
 
 // Where in a stream the last byte was.
 #[derive(Clone, Copy)]

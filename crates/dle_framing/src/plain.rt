@@ -7,7 +7,7 @@ ghost use Rattle.dle_framing.specs.PlainInside.{IsSplit, StartsSo};
 use crate::body::is_good_body;
 use crate::control::{ACK, DLE, ETX, NAK, STX};
 use crate::item::Item;
-use crate::run::first_piece;
+use crate::start::first_piece;
 use std::alloc::{AllocError, Global};
 
 // How a text starts.
