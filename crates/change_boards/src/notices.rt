@@ -97,8 +97,7 @@ impl Notices {
         requires { panel < length self.now }
         ensures { result ≡ has_left self.now panel }
     {
-        let board = &self.boards[panel.get() as usize];
-        board.has_left()
+        self.boards[panel.get() as usize].has_left()
     }
 
     /// Whether all panels have left.

@@ -39,7 +39,8 @@ impl Shown {
         requires { display < length self.now }
         ensures { result ≡ last self.now display }
     {
-        self.values[display.get() as usize]
+        let index = display.get() as usize;
+        self.values[index]
     }
 
     /// Whether a display is to be shown this value: it was last shown another one, or none.

@@ -11,8 +11,7 @@ use std::test::Fail;
 type Changes = &'static [(u32, Sort)];
 
 /// Marks in the order in which they are made, and the takes behind them.
-const ROWS: [(Changes, Changes); 6] = [
-    (&[], &[]),
+const ROWS: [(Changes, Changes); 3] = [
     // For one destination the source notice comes first, whichever was marked first.
     (
         &[(7, Sort::Protect), (7, Sort::Source)],
@@ -22,30 +21,7 @@ const ROWS: [(Changes, Changes); 6] = [
         &[(8, Sort::Source), (7, Sort::Protect)],
         &[(7, Sort::Protect), (8, Sort::Source)],
     ),
-    // A second mark is no second notice.
-    (
-        &[(9, Sort::Source), (9, Sort::Source), (1, Sort::Source)],
-        &[(1, Sort::Source), (9, Sort::Source)],
-    ),
-    // The borders of the words and of what sums them up, from the lowest on and from the highest on.
-    (
-        &[
-            (0, Sort::Source),
-            (63, Sort::Source),
-            (64, Sort::Source),
-            (4_095, Sort::Source),
-            (4_096, Sort::Source),
-            (65_535, Sort::Source),
-        ],
-        &[
-            (0, Sort::Source),
-            (63, Sort::Source),
-            (64, Sort::Source),
-            (4_095, Sort::Source),
-            (4_096, Sort::Source),
-            (65_535, Sort::Source),
-        ],
-    ),
+    // The borders of the words and of what sums them up; a second mark is no second notice.
     (
         &[
             (65_535, Sort::Protect),
@@ -54,6 +30,7 @@ const ROWS: [(Changes, Changes); 6] = [
             (64, Sort::Protect),
             (63, Sort::Protect),
             (0, Sort::Protect),
+            (4_096, Sort::Source),
             (4_096, Sort::Source),
         ],
         &[
@@ -94,72 +71,15 @@ fn takes_all(rt: &impl Abort, notices: &mut Notices, panel: PanelNo, takes: Chan
 }
 
 #[test]
-#[tactic(auto, unfolding(plant_config::specs::Bench::bench))]
 fn notices_come_in_their_order(rt: HostRuntime) -> Result<(), Fail> {
     let plant = Plant::bench(rt.alloc())?;
+    assert!(rt; plant.panels().len() == 2);
     for (marks, takes) in ROWS {
         let mut notices = Notices::new(rt.alloc(), &plant)?;
         mark_all(&rt, &mut notices, PanelNo::of(0), marks);
         takes_all(&rt, &mut notices, PanelNo::of(1), &[]);
         takes_all(&rt, &mut notices, PanelNo::of(0), takes);
     }
-    Ok(())
-}
-
-#[test]
-fn a_mark_between_takes_finds_its_place(rt: HostRuntime) -> Result<(), Fail> {
-    let plant = Plant::bench(rt.alloc())?;
-    let mut notices = Notices::new(rt.alloc(), &plant)?;
-    let panel = PanelNo::of(0);
-    let low = DestId::of(3);
-    mark_all(
-        &rt,
-        &mut notices,
-        panel,
-        &[(64, Sort::Source), (128, Sort::Source)],
-    );
-    assert_eq!(rt;
-        notices.take_lowest(panel),
-        Some((DestId::of(64), Sort::Source))
-    );
-    notices.mark(panel, low, Sort::Protect);
-    takes_all(
-        &rt,
-        &mut notices,
-        panel,
-        &[(3, Sort::Protect), (128, Sort::Source)],
-    );
-    Ok(())
-}
-
-#[test]
-#[tactic(auto, unfolding(plant_config::specs::Bench::bench))]
-fn whoever_left_hears_nothing(rt: HostRuntime) -> Result<(), Fail> {
-    let plant = Plant::bench(rt.alloc())?;
-    let mut notices = Notices::new(rt.alloc(), &plant)?;
-    let (leaver, stayer) = (PanelNo::of(0), PanelNo::of(1));
-    let dest = DestId::of(4_096);
-    mark_all(
-        &rt,
-        &mut notices,
-        leaver,
-        &[(4_096, Sort::Source), (5, Sort::Protect)],
-    );
-    notices.mark(stayer, dest, Sort::Source);
-    assert!(rt; !notices.has_left(leaver));
-
-    notices.drop_panel(leaver);
-    assert!(rt; notices.has_left(leaver));
-    assert!(rt; !notices.has_left(stayer));
-    assert!(rt; !notices.all_left());
-    notices.mark(leaver, dest, Sort::Protect);
-    takes_all(&rt, &mut notices, leaver, &[]);
-    assert!(rt; notices.has(stayer, dest, Sort::Source));
-    assert!(rt; !notices.has(stayer, dest, Sort::Protect));
-
-    notices.drop_panel(stayer);
-    takes_all(&rt, &mut notices, stayer, &[]);
-    assert!(rt; notices.all_left());
     Ok(())
 }
 
@@ -228,14 +148,6 @@ fn displays_come_in_the_order_of_their_indexes(rt: HostRuntime) -> Result<(), Fa
     Ok(())
 }
 
-#[test]
-fn a_plant_without_displays_has_no_screen(rt: HostRuntime) -> Result<(), Fail> {
-    let plant = Plant::bench(rt.alloc())?;
-    let screens = Screens::new(rt.alloc(), &plant)?;
-    assert!(rt; screens.displays(0).is_empty());
-    Ok(())
-}
-
 fn value(source: Option<u32>, air: bool, preview: bool) -> Value {
     Value {
         source: source.map(SourceId::of),
@@ -265,21 +177,5 @@ fn each_part_of_a_value_differs(rt: HostRuntime) -> Result<(), Fail> {
             differs
         );
     }
-    Ok(())
-}
-
-#[test]
-fn what_is_forgotten_is_shown_again(rt: HostRuntime) -> Result<(), Fail> {
-    let plant = Plant::from_toml(rt.alloc(), WALL)?;
-    assert!(rt; plant.displays().len() == 6);
-    let (kept, forgotten) = (DisplayId::of(3), DisplayId::of(4));
-    let mut shown = Shown::new(rt.alloc(), &plant)?;
-    shown.show(kept, value(None, false, true));
-    shown.show(forgotten, value(None, false, true));
-    shown.forget(&[]);
-    assert!(rt; !shown.differs(forgotten, value(None, false, true)));
-    shown.forget(&[DisplayId::of(0), forgotten, forgotten]);
-    assert!(rt; shown.differs(forgotten, value(None, false, true)));
-    assert_eq!(rt; shown.last(kept), Some(value(None, false, true)));
     Ok(())
 }
