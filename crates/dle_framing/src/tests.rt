@@ -28,13 +28,13 @@ fn a_stream_is_read_in_pieces(rt: HostRuntime) -> Result<(), Fail> {
 fn a_body_has_at_most_257_bytes(rt: HostRuntime) -> Result<(), Fail> {
     let alloc = rt.alloc();
     let carried = vec![in alloc; 0x41; 255]?;
-    // The length of 256 bytes has no room in its byte.
-    for (count, end, item) in [
-        (255, b"\xFF\x42\x10\x03", Item::Good(carried.as_slice())),
-        (256, b"\x00\x00\x10\x03", Item::Bad),
+    // A start and 255 bytes, and a start and 256, whose length has no room in its byte.
+    for (len, end, item) in [
+        (257, b"\xFF\x42\x10\x03", Item::Good(carried.as_slice())),
+        (258, b"\x00\x00\x10\x03", Item::Bad),
     ] {
         let mut text = b"\x10\x02".to_vec(alloc)?;
-        text.resize(2 + count, 0x41)?;
+        text.resize(len, 0x41)?;
         text.extend_from_slice(end)?;
         let given = feed_all(alloc, &mut Framer::new(), &[text.as_slice()])?;
         are(&rt, &given, &[item]);
