@@ -13,10 +13,10 @@ use Rattle.atomic_table.proofs.Lists.{set_here}
 use Rattle.history_lock.specs.declared.view.Start.{Start}
 use Rattle.history_lock.specs.declared.view.Desk.{Desk}
 use Rattle.history_lock.specs.declared.view.View.{View}
-use Rattle.history_lock.specs.declared.view.Stage.TheVariants.{Idle, Holds}
+use Rattle.history_lock.specs.declared.view.Stage.TheVariants.{Idle, Waits, Holds}
 use Rattle.history_lock.specs.Step.{Stepped}
 use Rattle.history_lock.specs.Rule.{Knows, Kept, LockTable, ticket_of}
-use Rattle.history_lock.specs.Plays.{Hand, waiting, ticket_taken, ticket_tried}
+use Rattle.history_lock.specs.Plays.{Hand, waiting, queued, ticket_taken, ticket_tried}
 use Rattle.history_lock.proofs.Places.{inside, still, each_set}
 use Rattle.history_lock.proofs.Stays.{stays, unmoved}
 
@@ -38,13 +38,13 @@ module _ {State Request Answer : Type 0} (step : State → Request → Stepped S
   abbrev V : Type 0
   V = View State Request Answer
 
-  -- one ticket more is out, and an idle seat with a number has it
-  pub queues : (s : T) (kept : Kept step Fits room start s) (id t : ℕ) (v : V) → get_elem? s.views id ≡ some v → v.stage ≡ Idle → 0 < length v.numbers
-      → kept.ticket ≡ t → t < 2 ^ 62
-      → Kept step Fits room start record { words = set s.words 1 (t + 1); homes = s.homes; views = set s.views id (waiting v t) }
-  queues s kept id t v here idle numbered is below =
+  -- one ticket more is out, and an idle seat with a number has it, with no mark of `ticket` but the one that it had
+  pub queues : (s : T) (kept : Kept step Fits room start s) (id t : ℕ) (v : V) (full : Bool) → get_elem? s.views id ≡ some v → v.stage ≡ Idle → 0 < length v.numbers
+      → kept.ticket ≡ t → t < 2 ^ 62 → (full ≡ true → v.ticket_full ≡ true)
+      → Kept step Fits room start record { words = set s.words 1 (t + 1); homes = s.homes; views = set s.views id (record v { stage = Waits t; ticket_full = full }) }
+  queues s kept id t v full here idle numbered is below mark =
       let first : State = start.machine.value in
-      let w : V = waiting v t in
+      let w : V = record v { stage = Waits t; ticket_full = full } in
       let no_ticket : (k : ℕ) → ticket_of v.stage ≡ Some k → ⊥ = λ k h. absurd (cc (ap ticket_of idle, h)) in
       let knows = kept.each_view id v here in record {
         history = kept.history;
@@ -74,7 +74,7 @@ module _ {State Request Answer : Type 0} (step : State → Request → Stepped S
           ticket_is = (omega (arith, kept.in_order), omega arith, put_here kept.owner t id t refl, numbered);
           holds = λ k h. absurd cc;
           read_is = knows.read_is;
-          ticket_full_is = λ h. absurd (omega (arith, knows.ticket_full_is h));
+          ticket_full_is = λ h. absurd (omega (arith, knows.ticket_full_is (mark h)));
           serving_full_is = knows.serving_full_is;
         } (λ j u other at. let known = kept.each_view j u at in record {
           first_is = known.first_is;
@@ -97,9 +97,9 @@ module _ {State Request Answer : Type 0} (step : State → Request → Stepped S
         cases : (b : Bool) → (slice_index s.words 1 == t) ≡ b
             → (w : V) × (a : table.Act (Desk State Request)) × table.Valid s.homes m.1 a
             × Kept step Fits room start (table.stepped s 1 (either b (t + 1) (slice_index s.words 1)) id m.1 w a)
-            × (let m' : Hand State Request Answer = (w, table.carried_after m.1 a) in MatchBool b (m' ≡ (waiting m.0 t, m.1)) (m' ≡ m))
+            × (let m' : Hand State Request Answer = (w, table.carried_after m.1 a) in MatchBool b (m' ≡ (queued m.0 t, m.1)) (m' ≡ m))
         cases true is = let here_is : slice_index s.words 1 ≡ t = (Decides-eqb _ t).0 is in
-            (waiting m.0 t, table.keeps, tt, queues s kept id t m.0 here idle numbered (sym (ap (λ ws. slice_index ws 1) kept.words_are) ∙ here_is) below, refl)
+            (queued m.0 t, table.keeps, tt, queues s kept id t m.0 false here idle numbered (sym (ap (λ ws. slice_index ws 1) kept.words_are) ∙ here_is) below (λ h. absurd cc), refl)
         cases false is = (m.0, table.keeps, tt, unmoved step Fits room start s kept id 1 m.0 here, refl)
 
     pub tries_ticket : m.0.read ≡ Some t → table.Allows (Kept step Fits room start) slots id m 1 (λ n. either (n == t) (t + 1) n) (ticket_tried (table.step slots 1 t (t + 1) none) m)
@@ -111,7 +111,7 @@ module _ {State Request Answer : Type 0} (step : State → Request → Stepped S
             × (let m' : Hand State Request Answer = (w, table.carried_after m.1 a) in
             MatchBool b (m' ≡ (waiting m.0 t, m.1)) ((t < slice_index s.words 1) × (m' ≡ (record m.0 { read = None; tried = m.0.tried ++ (t, slice_index s.words 1) ∷ [] }, m.1))))
         cases true is = let here_is : slice_index s.words 1 ≡ t = (Decides-eqb _ t).0 is in
-            (waiting m.0 t, table.keeps, tt, queues s kept id t m.0 here idle numbered (sym (ap (λ ws. slice_index ws 1) kept.words_are) ∙ here_is) below, refl)
+            (waiting m.0 t, table.keeps, tt, queues s kept id t m.0 m.0.ticket_full here idle numbered (sym (ap (λ ws. slice_index ws 1) kept.words_are) ∙ here_is) below (λ h. h), refl)
         cases false is =
             let n : ℕ = slice_index s.words 1 in
             let knows = kept.each_view id m.0 here in

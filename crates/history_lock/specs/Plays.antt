@@ -26,6 +26,10 @@ module _ {State Request Answer : Type 0} where
   abbrev pub waiting : View State Request Answer → ℕ → View State Request Answer
   waiting v t = record v { stage = Waits t }
 
+  -- the same, and it didn't last read 2^62 of `ticket`, since it took one below
+  abbrev pub queued : View State Request Answer → ℕ → View State Request Answer
+  queued v t = record v { stage = Waits t; ticket_full = false }
+
   -- a load of `ticket`
   abbrev pub ticket_read : Step (Desk State Request) → Hand State Request Answer → ℕ
       → Hand State Request Answer → Type 0
@@ -36,7 +40,7 @@ module _ {State Request Answer : Type 0} where
   abbrev pub ticket_taken : Step (Desk State Request) → Hand State Request Answer → ℕ
       → Hand State Request Answer → Type 0
   ticket_taken at m found m' =
-      MatchBool (found == at.first) (m' ≡ (waiting m.0 at.first, m.1)) (m' ≡ m)
+      MatchBool (found == at.first) (m' ≡ (queued m.0 at.first, m.1)) (m' ≡ m)
 
   -- a load of `serving`, in a try
   abbrev pub serving_read : Step (Desk State Request) → Hand State Request Answer → ℕ

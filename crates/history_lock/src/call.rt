@@ -24,7 +24,7 @@ use std::sync::atomic::AtomicU64;
 fn call_at<M: Machine, R: Wait>(
     rt: &R,
     top: &Top<M>,
-    sleepers: &AtomicU64,
+    awaited: &AtomicU64,
     place: &mut Place<M>,
     start: &Told<Start<M>>,
     request: &M::Request,
@@ -43,18 +43,18 @@ fn call_at<M: Machine, R: Wait>(
     ensures kept { OnErr result (out.new ≡ out.old) }
     ensures places { out.new.places ≡ out.old.places }
 {
-    let Some(ticket) = queue(rt, top, place) else {
+    let Some(ticket) = queue(rt, top, awaited, place) else {
         return Err(CallFault::Full);
     };
-    take_turn(rt, top, sleepers, place, start, ticket);
-    answer(top, sleepers, place, start, request, out);
+    take_turn(rt, top, awaited, place, start, ticket);
+    answer(top, awaited, place, start, request, out);
     Ok(ticket)
 }
 
 /// One try, at a seat's place.
 fn try_at<M: Machine>(
     top: &Top<M>,
-    sleepers: &AtomicU64,
+    awaited: &AtomicU64,
     place: &mut Place<M>,
     start: &Told<Start<M>>,
     request: &M::Request,
@@ -76,7 +76,7 @@ fn try_at<M: Machine>(
 {
     let ticket = seize(top, place)?;
     enter(top, place, start, ticket);
-    answer(top, sleepers, place, start, request, out);
+    answer(top, awaited, place, start, request, out);
     Ok(ticket)
 }
 
@@ -106,7 +106,7 @@ impl<M: Machine> HistoryLock<M> {
         call_at(
             rt,
             &self.table.shared,
-            &self.sleepers,
+            &self.awaited,
             &mut seat.place,
             &seat.start,
             request,
@@ -137,7 +137,7 @@ impl<M: Machine> HistoryLock<M> {
     {
         try_at(
             &self.table.shared,
-            &self.sleepers,
+            &self.awaited,
             &mut seat.place,
             &seat.start,
             request,

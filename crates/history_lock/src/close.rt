@@ -96,7 +96,7 @@ impl<M: Machine> HistoryLock<M> {
             table,
             seats: _,
             room: _,
-            sleepers: _,
+            awaited: _,
         } = self;
         let place = gather(&table.shared, seats);
         let past = Past {

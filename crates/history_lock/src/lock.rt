@@ -12,8 +12,8 @@ pub struct HistoryLock<M: Machine> {
     pub(crate) seats: u32,
     // That of the machine that it was made with.
     pub(crate) room: usize,
-    // How many callers sleep, or are about to.
-    pub(crate) sleepers: AtomicU64,
+    // One more than the highest number of a turn whose end a caller sleeps for, or is about to, or slept for.
+    pub(crate) awaited: AtomicU64,
 }
 
 impl<M: Machine> Model for HistoryLock<M> {

@@ -80,13 +80,13 @@ impl<M: Machine + Drop> HistoryLock<M> {
         for number in 0..seats {
             all.push_reserved(give(&table.shared, &mut maker, &start, number));
         }
-        let sleepers = AtomicU64::new(0);
+        let awaited = AtomicU64::new(0);
         Ok((
             HistoryLock {
                 table,
                 seats,
                 room,
-                sleepers,
+                awaited,
             },
             all,
         ))

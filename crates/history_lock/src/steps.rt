@@ -75,7 +75,7 @@ pub fn end_turn<M: Machine>(
     place: &mut Place<M>,
     start: &Told<Start<M>>,
     request: &M::Request,
-)
+) -> u64
     requires at { IsAt top.now.table_id place.old }
     requires worked { IsWorked M.step M.Fits M.room place.old.me start.now.value.machine.value
         request.now }
@@ -84,7 +84,7 @@ pub fn end_turn<M: Machine>(
         place.old.me place.new.me }
 {
     let (_start, _request) = (start, request);
-    top.fetch_add::<EndTurn<M>>(place, 0, 1);
+    top.fetch_add::<EndTurn<M>>(place, 0, 1)
 }
 
 pub fn look<M: Machine>(top: &Top<M>, place: &mut Place<M>)

@@ -19,8 +19,8 @@ use crate::waiting::{wait, wake};
 use std::sync::Wait;
 use std::sync::atomic::AtomicU64;
 
-/// Takes a ticket, `None` where there are no more.
-pub fn queue<M: Machine, R: Wait>(rt: &R, top: &Top<M>, place: &mut Place<M>) -> Option<u64>
+/// Takes the next ticket in order, `None` where there are no more.
+fn line_up<M: Machine, R: Wait>(rt: &R, top: &Top<M>, place: &mut Place<M>) -> Option<u64>
     requires at { IsAt top.now.table_id place.old }
     requires idle { (place.old.me.0.stage ≡ Idle) × (0 < length place.old.me.0.numbers) }
     ensures same { IsSame place.old place.new }
@@ -40,14 +40,45 @@ pub fn queue<M: Machine, R: Wait>(rt: &R, top: &Top<M>, place: &mut Place<M>) ->
     unreachable!()
 }
 
+/// Takes a ticket whose turn it is. Where none was to be had for a while, it takes the next in order, so that nobody waits
+/// for ever beside a busy neighbour. `None` where there are no more.
+pub fn queue<M: Machine, R: Wait>(
+    rt: &R,
+    top: &Top<M>,
+    awaited: &AtomicU64,
+    place: &mut Place<M>,
+) -> Option<u64>
+    requires at { IsAt top.now.table_id place.old }
+    requires idle { (place.old.me.0.stage ≡ Idle) × (0 < length place.old.me.0.numbers) }
+    ensures same { IsSame place.old place.new }
+    ensures some { IfSome result (λ ticket. (ticket < 2 ^ 62)
+        × IsQueued place.old.me ticket place.new.me) }
+    ensures none { IfNone result (IsFull place.old.me place.new.me) }
+{
+    for _ in 0..TRIES {
+        let serving = top.peek(0);
+        if serving >= LIMIT {
+            break;
+        }
+        if take_ticket(top, place, serving) == serving {
+            return Some(serving);
+        }
+        wait(rt, top, awaited, serving);
+    }
+    line_up(rt, top, place)
+}
+
 /// The most entries of a history.
 pub const LIMIT: u64 = 1 << 62;
+
+// How often a caller looks for its turn before it takes a ticket in order.
+const TRIES: u32 = 64;
 
 /// Waits until the seat's turn comes.
 pub fn take_turn<M: Machine, R: Wait>(
     rt: &R,
     top: &Top<M>,
-    sleepers: &AtomicU64,
+    awaited: &AtomicU64,
     place: &mut Place<M>,
     start: &Told<Start<M>>,
     ticket: u64,
@@ -59,14 +90,12 @@ pub fn take_turn<M: Machine, R: Wait>(
     ensures enters { Enters M.step M.Fits M.room place.old.me start.now.value.machine.value ticket
         place.new.me }
 {
-    let mut looks = 0u32;
     for _ in rt.forever() {
         let serving = await_turn(top, place, ticket);
         if serving == ticket {
             return;
         }
-        wait(rt, top, sleepers, serving, looks);
-        looks = looks.saturating_add(1);
+        wait(rt, top, awaited, serving);
     }
     unreachable!()
 }
@@ -135,7 +164,7 @@ pub fn work<M: Machine>(
 /// Works the request, ends the turn, and wakes those that wait for theirs.
 pub fn answer<M: Machine>(
     top: &Top<M>,
-    sleepers: &AtomicU64,
+    awaited: &AtomicU64,
     place: &mut Place<M>,
     start: &Told<Start<M>>,
     request: &M::Request,
@@ -154,6 +183,6 @@ pub fn answer<M: Machine>(
     ensures places { out.new.places ≡ out.old.places }
 {
     work(top, place, start, request, out);
-    end_turn(top, place, start, request);
-    wake(top, sleepers);
+    let ended = end_turn(top, place, start, request);
+    wake(top, awaited, ended);
 }

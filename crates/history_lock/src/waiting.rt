@@ -7,41 +7,31 @@ use crate::rule::Top;
 use std::hint::spin_loop;
 use std::sync::Wait;
 use std::sync::atomic::{AtomicU64, Ordering};
-use std::thread;
 
-// How often a caller looks again at once, and how often before it sleeps.
-const SPINS: u32 = 64;
+// How often a caller looks again before it sleeps: for a few microseconds at most.
+const LOOKS: u32 = 64;
 
-const LOOKS: u32 = 128;
-
-/// Waits a little, or until `serving` isn't what was read. A turn is mostly short, so a caller looks again at once at
-/// first, then lets other threads go ahead, and sleeps at last.
-pub fn wait<M: Machine, R: Wait>(
-    rt: &R,
-    top: &Top<M>,
-    sleepers: &AtomicU64,
-    serving: u64,
-    looks: u32,
-)
+/// Waits until `serving` isn't what was read; it may also return sooner. A turn is mostly short, so a caller looks again at
+/// once at first, and then says for the end of which turn it sleeps, and sleeps.
+pub fn wait<M: Machine, R: Wait>(rt: &R, top: &Top<M>, awaited: &AtomicU64, serving: u64)
     requires { top.now.table_id.words ≡ 2 }
 {
-    if looks < SPINS {
+    for _ in 0..LOOKS {
         spin_loop();
-    } else if looks < LOOKS {
-        thread::yield_now();
-    } else {
-        sleepers.fetch_add(1, Ordering::SeqCst);
-        top.park(rt, 0, (serving & 0xffff_ffff) as u32);
-        sleepers.fetch_sub(1, Ordering::SeqCst);
+        if top.peek(0) != serving {
+            return;
+        }
     }
+    awaited.fetch_max(serving.saturating_add(1), Ordering::SeqCst);
+    top.park(rt, 0, (serving & 0xffff_ffff) as u32);
 }
 
-/// Wakes those that sleep. All of them, since one alone could be the wrong one. Whoever isn't counted among the sleepers
-/// yet finds that `serving` rose, and doesn't sleep.
-pub fn wake<M: Machine>(top: &Top<M>, sleepers: &AtomicU64)
+/// Wakes whoever sleeps for the end of this turn. All of them, since one alone could be the wrong one. Whoever hasn't said
+/// yet that it will sleep finds that `serving` rose, and doesn't.
+pub fn wake<M: Machine>(top: &Top<M>, awaited: &AtomicU64, ended: u64)
     requires { top.now.table_id.words ≡ 2 }
 {
-    if sleepers.load(Ordering::SeqCst) != 0 {
+    if awaited.load(Ordering::SeqCst) > ended {
         top.wake_all(0);
     }
 }
