@@ -12,7 +12,7 @@ use Rattle.plant_config.specs.declared.records.Device.{Device}
 use Rattle.plant_config.specs.declared.records.Bus.{Bus}
 use Rattle.plant_config.specs.declared.records.Display.{Display}
 use Rattle.plant_config.specs.declared.records.Panel.{Panel}
-use Rattle.plant_config.specs.Limits.{matrix_limit, level_limit, all_levels_limit, all_sources_limit, all_destinations_limit, panel_limit, last_device, first_port}
+use Rattle.plant_config.specs.Limits.{matrix_limit, level_limit, all_levels_limit, all_sources_limit, all_destinations_limit, pool_limit, tie_limit, device_limit, bus_limit, root_limit, display_limit, last_screen, last_index, panel_limit, last_device, first_port, longest_title}
 use Rattle.plant_config.specs.Plant.{PlantData, Numbering, dest_numbers, source_numbers, destinations_of, sources_of, AreNumberedFrom}
 use Rattle.plant_config.specs.Sites.{level_of}
 use Rattle.plant_config.specs.NamesOfLevel.{source_names, dest_names}
@@ -81,7 +81,7 @@ pub record IsPool (pool : Pool) : Type 0 where
   pub from : IsAtLevel pool.from pool.level
   pub to : IsAtLevel pool.to pool.level
   pub other : pool.from ≢ pool.to
-  pub ties : IsFrom 1 1024 pool.ties
+  pub ties : IsFrom 1 tie_limit pool.ties
 
 -- the buses of a device
 abbrev pub buses_of : PlantData → Device → List Bus
@@ -121,8 +121,8 @@ pub record IsBus (plant : PlantData) (bus : Bus) : Type 0 where
 
 -- A display watches a destination of level 0.
 pub record IsDisplay (plant : PlantData) (display : Display) : Type 0 where
-  pub screen : IsFrom 0 65534 display.screen
-  pub index : IsFrom 0 65534 display.index
+  pub screen : IsFrom 0 last_screen display.screen
+  pub index : IsFrom 0 last_index display.index
   pub watch : IsMainDest plant display.watch
 
 -- Of a level, no two sources have the same name, and no two destinations.
@@ -148,18 +148,18 @@ screen_place display = display.screen ∷ display.index ∷ []
 
 -- Pools, mixers and displays are within their limits, and name what the plant has.
 pub record AreLinked (plant : PlantData) : Type 0 where
-  pub pools : AreEntries IsPool 0 256 plant.pools
+  pub pools : AreEntries IsPool 0 pool_limit plant.pools
   pub pools_differ : IsDistinct bytes_eq (map route plant.pools)
   pub each_device : AllPlaced (IsDevice plant) plant.devices
-  pub devices : length plant.devices ≤ 64
+  pub devices : length plant.devices ≤ device_limit
   pub outputs_differ : IsDistinct nat_eq (map (λ device. device.output) plant.devices)
-  pub buses : AreEntries (IsBus plant) 0 1024 plant.buses
+  pub buses : AreEntries (IsBus plant) 0 bus_limit plant.buses
   pub buses_differ : IsDistinct nat_eq (map (λ bus. bus.dest) plant.buses)
-  pub air : AreEntries (IsMainDest plant) 0 65536 plant.air
+  pub air : AreEntries (IsMainDest plant) 0 root_limit plant.air
   pub air_differs : IsDistinct nat_eq plant.air
-  pub preview : AreEntries (IsMainDest plant) 0 65536 plant.preview
+  pub preview : AreEntries (IsMainDest plant) 0 root_limit plant.preview
   pub preview_differs : IsDistinct nat_eq plant.preview
-  pub displays : AreEntries (IsDisplay plant) 0 4096 plant.displays
+  pub displays : AreEntries (IsDisplay plant) 0 display_limit plant.displays
   pub displays_differ : IsDistinct bytes_eq (map screen_place plant.displays)
 
 -- A plant is within its limits, its levels are in order, each once, and their destinations and sources are numbered
@@ -177,7 +177,7 @@ pub record IsPlant (plant : PlantData) : Type 0 where
   pub some_panel : 1 ≤ length plant.panels
   pub panels : length plant.panels ≤ panel_limit
   pub ports_differ : IsDistinct nat_eq (map (λ panel. panel.port) plant.panels)
-  pub title : IsWords 1 40 plant.title
+  pub title : IsWords 1 longest_title plant.title
   pub server : IsServer plant.server
   pub named : AreNamed plant
   pub linked : AreLinked plant

@@ -6,7 +6,7 @@ use Rattle.std.specs.List.{enumerate_from, position}
 use Rattle.std.specs.Ordering.{nat_cmp, ordering_then}
 use Rattle.std.specs.declared.cmp.Ordering.{Ordering}
 use Rattle.std.specs.BTreeMap.{BTreeMap, get}
-use Rattle.plant_file.specs.Limits.{level_source_limit, all_sources_limit, all_destinations_limit}
+use Rattle.plant_file.specs.Limits.{pool_limit, level_source_limit, all_sources_limit, all_destinations_limit}
 use Rattle.plant_file.specs.FileData.{LevelData, FileData}
 use Rattle.plant_file.specs.Links.{main_level}
 use Rattle.plant_file.specs.declared.entries.RemoteEntry.{RemoteEntry}
@@ -156,7 +156,7 @@ pub record Knows (file : FileData) (levels : List Level)
   pub numbered : levels ≡ levels_of file
   pub low : AreLow levels
   pub remotes : Maps by_place (remote_among file.remotes)
-  pub few : length file.pools ≤ 256
+  pub few : length file.pools ≤ pool_limit
   pub pools : Maps by_way (pool_among file.pools)
 
 -- A level's sources are numbered from 0 on, within 16 bits.

@@ -1,15 +1,11 @@
 -- The plant of a document, computed: the bench, what is given for absent keys, and printed lines.
 use Rattle.std.proofs.Common.{◌≡◌, pos, negsuc, [], ◌∷◌, true, false, Ok, Err, refl, codes}
-use Rattle.std.specs.Prelude.{◌-◌}
 use Rattle.std.specs.Str.{chars, is_utf8}
 use Rattle.toml.specs.Data.{boolean, array, table, no_items, Members, no_members}
 use Rattle.toml.proofs.OnLiterals.{toml_on_literals}
 use Rattle.plant_file.specs.declared.fault.Section.TheVariants as sections
 use Rattle.plant_file.specs.declared.fault.Field.TheVariants as fields
 use Rattle.plant_file.specs.declared.fault.PlantFault.TheVariants.{NotToml, WrongType, OutOfRange}
-use Rattle.plant_file.specs.Limits.{matrix_limit, level_limit, level_source_limit, level_destination_limit, all_levels_limit, panel_limit}
-use Rattle.plant_file.specs.Rows.{Number, Entries, a_matrix, a_level, a_source, a_destination}
-use Rattle.plant_file.specs.Format.{level_keys, panel_keys}
 use Rattle.plant_file.specs.KeyFaults.{place}
 use Rattle.plant_file.specs.FileData.{Server, FileData}
 use Rattle.plant_file.specs.Reading.{names_of, source_letter, destination_letter}
@@ -94,22 +90,3 @@ no_utf8 = refl
 no_document : file_of_text (codes "title") ≡ Err NotToml
 unfolding file_on_literals is_utf8 chars toml_on_literals file_of_text
 no_document = refl
-
--- The ranges of the table are the limits of a plant.
-matrices_are : a_matrix ≡ Number 0 (matrix_limit - 1)
-matrices_are = refl
-
-levels_are : a_level ≡ Number 0 (level_limit - 1)
-levels_are = refl
-
-sources_are : a_source ≡ Number 0 (level_source_limit - 1)
-sources_are = refl
-
-destinations_are : a_destination ≡ Number 0 (level_destination_limit - 1)
-destinations_are = refl
-
-levels_of_a_file_are : level_keys.form ≡ Entries 1 all_levels_limit
-levels_of_a_file_are = refl
-
-panels_of_a_file_are : panel_keys.form ≡ Entries 1 panel_limit
-panels_of_a_file_are = refl

@@ -1,6 +1,6 @@
 -- The ranges of a plant file's data.
-use Rattle.std.specs.Prelude.{◌≡◌, ℕ, ◌<◌, ◌≤◌, ◌^◌, List, All, length, MatchOption}
-use Rattle.plant_file.specs.Limits.{matrix_limit, level_limit, level_source_limit, level_destination_limit, all_levels_limit, panel_limit, last_device, first_port}
+use Rattle.std.specs.Prelude.{◌≡◌, ℕ, ◌<◌, ◌≤◌, List, All, length, MatchOption}
+use Rattle.plant_file.specs.Limits.{matrix_limit, level_limit, level_source_limit, level_destination_limit, all_levels_limit, remote_limit, pool_limit, tie_limit, device_limit, bus_limit, root_limit, display_limit, last_screen, last_index, panel_limit, last_device, first_port, last_port, longest_title, longest_address, longest_idle, most_idles, most_turns, most_sessions, most_rounds, greatest_brightness}
 use Rattle.plant_file.specs.Rows.{first_printable, last_printable, shortest_name, longest_name}
 use Rattle.plant_file.specs.FileData.{LevelData, Server, RemoteEntry, PoolEntry, DeviceEntry, SwitchEntry, BusEntry, RootEntry, DisplayEntry, PanelEntry, FileData}
 
@@ -25,14 +25,14 @@ abbrev pub AreNames : ℕ → List (List ℕ) → Type 0
 AreNames count names = (length names ≡ count) × All IsName names
 
 pub record IsServer (server : Server) : Type 0 where
-  pub listen : IsWords 1 64 server.listen
-  pub display : IsWords 1 64 server.display
-  pub idle_ms : IsFrom 1 60000 server.idle_ms
-  pub idle_limit : IsFrom 1 1000000 server.idle_limit
-  pub turns : IsFrom 1 (2 ^ 40) server.turns
-  pub sessions : IsFrom 1 1000000 server.sessions
-  pub refresh_every : IsFrom 0 65535 server.refresh_every
-  pub brightness : IsFrom 0 3 server.brightness
+  pub listen : IsWords 1 longest_address server.listen
+  pub display : IsWords 1 longest_address server.display
+  pub idle_ms : IsFrom 1 longest_idle server.idle_ms
+  pub idle_limit : IsFrom 1 most_idles server.idle_limit
+  pub turns : IsFrom 1 most_turns server.turns
+  pub sessions : IsFrom 1 most_sessions server.sessions
+  pub refresh_every : IsFrom 0 most_rounds server.refresh_every
+  pub brightness : IsFrom 0 greatest_brightness server.brightness
 
 pub record IsLevelData (level : LevelData) : Type 0 where
   pub at : IsAtLevel level.matrix level.level
@@ -50,7 +50,7 @@ pub record IsRemoteEntry (remote : RemoteEntry) : Type 0 where
 pub record IsPoolEntry (pool : PoolEntry) : Type 0 where
   pub from : IsAtLevel pool.from pool.level
   pub to : IsAtLevel pool.to pool.level
-  pub ties : IsFrom 1 1024 pool.ties
+  pub ties : IsFrom 1 tie_limit pool.ties
 
 pub record IsDeviceEntry (device : DeviceEntry) : Type 0 where
   pub name : IsName device.name
@@ -73,14 +73,14 @@ pub record IsRootEntry (root : RootEntry) : Type 0 where
   pub destination : root.destination < level_destination_limit
 
 pub record IsDisplayEntry (display : DisplayEntry) : Type 0 where
-  pub screen : IsFrom 0 65534 display.screen
-  pub index : IsFrom 0 65534 display.index
+  pub screen : IsFrom 0 last_screen display.screen
+  pub index : IsFrom 0 last_index display.index
   pub matrix : display.matrix < matrix_limit
   pub destination : display.destination < level_destination_limit
 
 pub record IsPanelEntry (panel : PanelEntry) : Type 0 where
   pub device : panel.device ≤ last_device
-  pub port : IsFrom first_port 65535 panel.port
+  pub port : IsFrom first_port last_port panel.port
 
 -- A section has from `least` to `most` entries, each within its ranges.
 abbrev pub AreEntries : {X : Type 0} → (X → Type 0) → ℕ → ℕ → List X → Type 0
@@ -88,14 +88,14 @@ AreEntries IsEntry least most entries = IsFrom least most (length entries) × Al
 
 -- The data are within their ranges.
 pub record AreInRange (file : FileData) : Type 0 where
-  pub title : IsWords 1 40 file.title
+  pub title : IsWords 1 longest_title file.title
   pub server : IsServer file.server
   pub levels : AreEntries IsLevelData 1 all_levels_limit file.levels
-  pub remotes : AreEntries IsRemoteEntry 0 16384 file.remotes
-  pub pools : AreEntries IsPoolEntry 0 256 file.pools
-  pub devices : AreEntries IsDeviceEntry 0 64 file.devices
-  pub buses : AreEntries IsBusEntry 0 1024 file.buses
-  pub air : AreEntries IsRootEntry 0 65536 file.air
-  pub preview : AreEntries IsRootEntry 0 65536 file.preview
-  pub displays : AreEntries IsDisplayEntry 0 4096 file.displays
+  pub remotes : AreEntries IsRemoteEntry 0 remote_limit file.remotes
+  pub pools : AreEntries IsPoolEntry 0 pool_limit file.pools
+  pub devices : AreEntries IsDeviceEntry 0 device_limit file.devices
+  pub buses : AreEntries IsBusEntry 0 bus_limit file.buses
+  pub air : AreEntries IsRootEntry 0 root_limit file.air
+  pub preview : AreEntries IsRootEntry 0 root_limit file.preview
+  pub displays : AreEntries IsDisplayEntry 0 display_limit file.displays
   pub panels : AreEntries IsPanelEntry 1 panel_limit file.panels

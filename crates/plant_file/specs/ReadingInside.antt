@@ -1,5 +1,5 @@
 -- What the readers of a value answer, those of a key, and those of an entry.
-use Rattle.std.specs.Prelude.{ℕ, List, [], ◌∷◌, ◌++◌, drop, option_map, length, flat_map, map, filter_map, Bool, ◌&&◌, nat_le, if◌then◌else◌, Option, Some, is_some, Result, Ok, Err}
+use Rattle.std.specs.Prelude.{ℕ, ◌-◌, List, [], ◌∷◌, ◌++◌, drop, option_map, length, flat_map, map, filter_map, Bool, ◌&&◌, nat_le, if◌then◌else◌, Option, Some, is_some, Result, Ok, Err}
 use Rattle.std.specs.Option.{option_or, option_map_or}
 use Rattle.std.specs.Str.{is_utf8}
 use Rattle.toml.specs.Parse.{parse_document}
@@ -13,6 +13,7 @@ use Rattle.plant_file.specs.declared.fault.Place.{Place}
 use Rattle.plant_file.specs.declared.fault.PlantFault.{PlantFault}
 use Rattle.plant_file.specs.declared.fault.PlantFault.TheVariants.{NotToml, WrongType}
 use Rattle.plant_file.specs.Spelling.{section_name}
+use Rattle.plant_file.specs.Limits.{level_limit}
 use Rattle.plant_file.specs.Rows.{Kind, Number, Required, Entries, Key, key, a_matrix, a_destination, SectionKeys, first_printable, last_printable, shortest_name, longest_name}
 use Rattle.plant_file.specs.Document.{values, texts_in, found_at, given, entries_in, entries_of}
 use Rattle.plant_file.specs.Format.{bus_keys}
@@ -61,7 +62,7 @@ switch_keys = drop 3 bus_keys.keys
 abbrev pub present_switch_keys : List Key
 present_switch_keys =
     key fields.SwitchMatrix a_matrix Required
-    ∷ key fields.SwitchLevel (Number 1 15) Required
+    ∷ key fields.SwitchLevel (Number 1 (level_limit - 1)) Required
     ∷ key fields.SwitchDestination a_destination Required
     ∷ []
 

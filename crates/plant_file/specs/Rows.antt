@@ -1,6 +1,7 @@
 -- What the table of a plant file's keys is made of: rows of a key, its kind and its default, and sections of rows.
-use Rattle.std.specs.Prelude.{ℕ, pos, List}
+use Rattle.std.specs.Prelude.{ℕ, ◌-◌, pos, List}
 use Rattle.toml.specs.Data.{Data, string, integer, array, no_items}
+use Rattle.plant_file.specs.Limits.{matrix_limit, level_limit, level_source_limit, level_destination_limit, longest_address}
 use Rattle.plant_file.specs.declared.fault.Section.{Section}
 use Rattle.plant_file.specs.declared.fault.Field.{Field}
 
@@ -59,22 +60,22 @@ longest_name = 12
 
 -- kinds that several keys have
 abbrev pub a_matrix : Kind
-a_matrix = Number 0 15
+a_matrix = Number 0 (matrix_limit - 1)
 
 abbrev pub a_level : Kind
-a_level = Number 0 15
+a_level = Number 0 (level_limit - 1)
 
 abbrev pub a_source : Kind
-a_source = Number 0 1022
+a_source = Number 0 (level_source_limit - 1)
 
 abbrev pub a_destination : Kind
-a_destination = Number 0 1023
+a_destination = Number 0 (level_destination_limit - 1)
 
 abbrev pub a_name : Kind
 a_name = Words shortest_name longest_name
 
 abbrev pub an_address : Kind
-an_address = Words 1 64
+an_address = Words 1 longest_address
 
 -- what stands in the place of an absent key: a number, a text, no names at all
 abbrev pub number : ℕ → Default
