@@ -1,6 +1,6 @@
 //! A whole turn, over a machine and an outlet in memory.
 
-ghost use Rattle.std.specs.Prelude.{◌≡◌, [], ◌∷◌, ◌++◌, false, None};
+ghost use Rattle.std.specs.Prelude.{◌≡◌, ◌≤◌, [], ◌∷◌, ◌++◌, false, None, length};
 ghost use Rattle.std.proofs.Common.{ap, sym, ◌∙◌, append_assoc};
 ghost use Rattle.std.proofs.lemmas.List.{append-nil};
 ghost use Rattle.swp08_messages.specs.declared.message.Message.TheVariants.{Tally};
@@ -14,6 +14,7 @@ use history_lock::{Machine, OutBox};
 use plant_config::{PanelNo, Plant};
 use plant_core::{Answer, Request};
 use plant_names::Names;
+use std::alloc::{AllocError, Global};
 use std::test::Fail;
 use swp08_messages::{Message, Point};
 
@@ -92,46 +93,40 @@ impl Outlet for Given {
     }
 }
 
-// A frame with a wrong check byte, and an interrogate.
+// A frame with a wrong check byte, an interrogate, an ACK and a NAK.
 const PIECE: &[u8] =
-    b"\x10\x02\x01\x00\x00\x05\x04\xF5\x10\x03\x10\x02\x01\x00\x00\x05\x04\xF6\x10\x03";
+    b"\x10\x02\x01\x00\x00\x05\x04\xF5\x10\x03\x10\x02\x01\x00\x00\x05\x04\xF6\x10\x03\x10\x06\x10\x15";
 
-// NAK, ACK and the tally.
-const SENT: &[u8] = b"\x10\x15\x10\x06\x10\x02\x03\x00\x07\x05\x7F\x05\x6D\x10\x03";
+// NAK, ACK and the tally, and the tally alone again.
+const SENT: &[u8] =
+    b"\x10\x15\x10\x06\x10\x02\x03\x00\x07\x05\x7F\x05\x6D\x10\x03\x10\x02\x03\x00\x07\x05\x7F\x05\x6D\x10\x03";
+
+// What an outlet is given in the first turn of a session of the plant, worked at once or call by call.
+fn worked(alloc: Global, plant: &Plant, names: &Names, at_once: bool) -> Result<Given, AllocError>
+    requires panels { 1 ≤ length plant.now.panels }
+    requires names { names.now ≡ plant.now }
+{
+    let mut session = Session::start(alloc, plant, names, PanelNo::of(0))?;
+    let mut out = Given {
+        bytes: Vec::new(alloc),
+        lost: false,
+    };
+    if at_once {
+        session.work_turn(&mut Parked, PIECE, &mut out);
+    } else {
+        run_turn(&mut session, &mut Parked, PIECE, &mut out);
+    }
+    Ok(out)
+}
 
 #[test]
 fn an_outlet_is_given_what_a_turn_sends(rt: HostRuntime) -> Result<(), Fail> {
     let alloc = rt.alloc();
     let plant = Plant::bench(alloc)?;
     let names = Names::new(alloc, &plant)?;
-    let mut session = Session::start(alloc, &plant, &names, PanelNo::of(0))?;
-    let mut out = Given {
-        bytes: Vec::new(alloc),
-        lost: false,
-    };
-    run_turn(&mut session, &mut Parked, PIECE, &mut out);
-    assert_eq!(rt; (out.bytes.as_slice(), out.lost), (SENT, false));
-    Ok(())
-}
-
-// The same, and behind it an ACK and a NAK: the frame alone is sent again, and not the ACK before it.
-const PIECE_AGAIN: &[u8] =
-    b"\x10\x02\x01\x00\x00\x05\x04\xF5\x10\x03\x10\x02\x01\x00\x00\x05\x04\xF6\x10\x03\x10\x06\x10\x15";
-
-const SENT_AGAIN: &[u8] =
-    b"\x10\x15\x10\x06\x10\x02\x03\x00\x07\x05\x7F\x05\x6D\x10\x03\x10\x02\x03\x00\x07\x05\x7F\x05\x6D\x10\x03";
-
-#[test]
-fn a_turn_worked_at_once_sends_the_same(rt: HostRuntime) -> Result<(), Fail> {
-    let alloc = rt.alloc();
-    let plant = Plant::bench(alloc)?;
-    let names = Names::new(alloc, &plant)?;
-    let mut session = Session::start(alloc, &plant, &names, PanelNo::of(0))?;
-    let mut out = Given {
-        bytes: Vec::new(alloc),
-        lost: false,
-    };
-    session.work_turn(&mut Parked, PIECE_AGAIN, &mut out);
-    assert_eq!(rt; (out.bytes.as_slice(), out.lost), (SENT_AGAIN, false));
+    for at_once in [false, true] {
+        let given = worked(alloc, &plant, &names, at_once)?;
+        assert_eq!(rt; (given.bytes.as_slice(), given.lost), (SENT, false));
+    }
     Ok(())
 }

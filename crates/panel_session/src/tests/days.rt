@@ -1,7 +1,20 @@
-//! What one panel is sent for each frame.
+//! What panels send, and what they are sent.
 
-use super::{ANSWER_5, CONNECT_5, INTERROGATE_5, Line, PARKED_5, play};
-use std::test::Fail;
+// A line: the panel, what it sends, and what it is sent.
+pub(super) type Line = (u32, &'static str, &'static str);
+
+const INTERROGATE_5: &str = "10 02 01 00 00 05 04 F6 10 03";
+
+const PARKED_5: &str = "10 02 03 00 07 05 7F 05 6D 10 03";
+
+const ANSWER_5: &str = "10 06 10 02 03 00 07 05 7F 05 6D 10 03";
+
+const CONNECT_5: &str = "10 02 02 00 00 05 03 05 F1 10 03";
+
+const CONNECTED_5: &str = "10 02 04 00 00 05 03 05 EF 10 03";
+
+// Each begins with new sessions on a new board.
+pub(super) const DAYS: &[&[Line]] = &[FRAMES, REPEATS, NOTICES];
 
 // One panel, one frame a line.
 const FRAMES: &[Line] = &[
@@ -67,8 +80,45 @@ const FRAMES: &[Line] = &[
     (0, "", ""),
 ];
 
-#[test]
-fn frames_are_answered(rt: HostRuntime) -> Result<(), Fail> {
-    assert_eq!(rt; play(rt.alloc(), FRAMES)?, None);
-    Ok(())
-}
+// A NAK is answered five times by the last message frame, and the count begins anew with each frame.
+const REPEATS: &[Line] = &[
+    (0, "10 15", ""),
+    (0, INTERROGATE_5, ANSWER_5),
+    (0, "10 15", PARKED_5),
+    (
+        0,
+        "10 15 10 06 10 15",
+        "10 02 03 00 07 05 7F 05 6D 10 03 10 02 03 00 07 05 7F 05 6D 10 03",
+    ),
+    (0, "10 15", PARKED_5),
+    (0, "10 15", PARKED_5),
+    (0, "10 15", ""),
+    (0, INTERROGATE_5, ANSWER_5),
+    (0, "10 15", PARKED_5),
+    (
+        0,
+        "10 02 01 00 00 05 04 F5 10 03 10 15",
+        "10 15 10 02 03 00 07 05 7F 05 6D 10 03",
+    ),
+];
+
+// A change is told to the other panel, once, and may be repeated.
+const NOTICES: &[Line] = &[
+    (0, CONNECT_5, "10 06 10 02 04 00 00 05 03 05 EF 10 03"),
+    (1, "", CONNECTED_5),
+    (1, "", ""),
+    (0, "", ""),
+    (1, "10 15", CONNECTED_5),
+    // Two notices behind the answer of the same turn.
+    (
+        0,
+        "10 02 02 00 00 06 03 05 F0 10 03 10 02 02 00 00 07 03 05 EF 10 03",
+        "10 06 10 02 04 00 00 06 03 05 EE 10 03 10 06 10 02 04 00 00 07 03 05 ED 10 03",
+    ),
+    (
+        1,
+        "10 02 01 00 00 05 04 F6 10 03",
+        "10 06 10 02 03 00 00 05 03 05 F0 10 03 10 02 04 00 00 06 03 05 EE 10 03 10 02 04 00 00 07 03 05 ED 10 03",
+    ),
+    (1, "10 15", "10 02 04 00 00 07 03 05 ED 10 03"),
+];
