@@ -6,6 +6,27 @@ use Rattle.ctl_io.specs.declared.files.Found.TheVariants as found
 use Rattle.ctl_io.specs.declared.files.Made.{Made}
 use Rattle.ctl_io.specs.declared.files.Made.TheVariants as made
 
+-- The objects of one kind that were handed out: how many are still out, and, where it is shown, what those that were given
+-- back showed, in order.
+pub record Custody (Shown : Type 0) : Type 0 where
+  pub out : ℕ
+  pub back : Option (List Shown)
+
+-- so many are out, and what is given back isn't shown
+abbrev pub only_out : {Shown : Type 0} → ℕ → Custody Shown
+only_out count = record { out = count; back = None }
+
+-- one more was handed out
+abbrev pub lent : {Shown : Type 0} → Custody Shown → Custody Shown
+lent custody = record { out = custody.out + 1; back = custody.back }
+
+-- one that showed this was given back
+abbrev pub returned : {Shown : Type 0} → Shown → Custody Shown → Custody Shown
+returned shown custody = record {
+  out = custody.out - 1;
+  back = option_map (λ back. back ++ shown ∷ []) custody.back;
+}
+
 -- what a source shows when it is given back: the name of its file, what it has left, and its count of faults
 pub record SourceEnd : Type 0 where
   pub name : Option (List ℕ)
@@ -18,59 +39,30 @@ pub record SinkEnd : Type 0 where
   pub written : Option (List ℕ)
   pub faults : ℕ
 
--- The objects that files handed out: how many are still out, and, where the files show it, what those that were given
--- back showed, in order.
-pub record Custody : Type 0 where
-  pub sources_out : ℕ
-  pub sinks_out : ℕ
-  pub sources_back : Option (List SourceEnd)
-  pub sinks_back : Option (List SinkEnd)
-
--- so many sources and sinks are out, and what is given back isn't shown
-abbrev pub only_out : ℕ → ℕ → Custody
-only_out sources sinks = record {
-  sources_out = sources;
-  sinks_out = sinks;
-  sources_back = None;
-  sinks_back = None;
-}
-
--- nothing was handed out, and what is given back won't be shown
-abbrev pub nothing_out : Custody
-nothing_out = only_out 0 0
+-- the sources and the sinks of files
+pub record FilesCustody : Type 0 where
+  pub sources : Custody SourceEnd
+  pub sinks : Custody SinkEnd
 
 -- the custody after a source was asked for
-abbrev pub source_lent : {S : Type 0} → Found S → Custody → Custody
-source_lent (found.Here source) custody = record custody { sources_out = custody.sources_out + 1 }
-source_lent found.Missing custody = custody
-source_lent found.Failed custody = custody
+abbrev pub source_lent : {S : Type 0} → Found S → FilesCustody → FilesCustody
+source_lent (found.Here source) custody = record custody { sources = lent custody.sources }
+source_lent other custody = custody
 
 -- the custody after a sink was asked for
-abbrev pub sink_lent : {K : Type 0} → Made K → Custody → Custody
-sink_lent (made.Here sink) custody = record custody { sinks_out = custody.sinks_out + 1 }
+abbrev pub sink_lent : {K : Type 0} → Made K → FilesCustody → FilesCustody
+sink_lent (made.Here sink) custody = record custody { sinks = lent custody.sinks }
 sink_lent made.Failed custody = custody
 
--- the custody after a source was given back
-abbrev pub source_returned : SourceEnd → Custody → Custody
-source_returned ended custody = record custody {
-  sources_out = custody.sources_out - 1;
-  sources_back = option_map (λ back. back ++ ended ∷ []) custody.sources_back;
-}
-
--- the custody after a sink was given back
-abbrev pub sink_returned : SinkEnd → Custody → Custody
-sink_returned ended custody = record custody {
-  sinks_out = custody.sinks_out - 1;
-  sinks_back = option_map (λ back. back ++ ended ∷ []) custody.sinks_back;
-}
-
 -- a source, or a sink, that shows so much was given back
-abbrev pub TakesSource : Option (List ℕ) → Option (List ℕ) → ℕ → Custody → Custody
-    → Type 0
-TakesSource name left faults before now =
-    now ≡ source_returned (record { name = name; left = left; faults = faults }) before
+abbrev pub TakesSource : Option (List ℕ) → Option (List ℕ) → ℕ → FilesCustody
+    → FilesCustody → Type 0
+TakesSource name left faults before now = now ≡ record before {
+  sources = returned (record { name = name; left = left; faults = faults }) before.sources;
+}
 
-abbrev pub TakesSink : Option (List ℕ) → Option (List ℕ) → ℕ → Custody → Custody
+abbrev pub TakesSink : Option (List ℕ) → Option (List ℕ) → ℕ → FilesCustody → FilesCustody
     → Type 0
-TakesSink name written faults before now =
-    now ≡ sink_returned (record { name = name; written = written; faults = faults }) before
+TakesSink name written faults before now = now ≡ record before {
+  sinks = returned (record { name = name; written = written; faults = faults }) before.sinks;
+}

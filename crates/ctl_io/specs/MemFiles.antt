@@ -3,7 +3,7 @@ use Rattle.std.specs.Prelude.{ℕ, ◌+◌, ◌-◌, ◌==◌, Bool, List, [], �
 use Rattle.std.specs.List.{list_any, slice_get, AllByRecursion}
 use Rattle.std.specs.Str.{bytes_eq}
 use Rattle.ctl_io.specs.Calls.{Calls, next_fails, called, took_back, uncalled}
-use Rattle.ctl_io.specs.Custody.{Custody, SourceEnd, SinkEnd}
+use Rattle.ctl_io.specs.Custody.{FilesCustody, SourceEnd, SinkEnd}
 use Rattle.ctl_io.specs.Files.{source_failed, sink_failed}
 use Rattle.ctl_io.specs.Held.{Held, Unshown, NoFile, Holds}
 use Rattle.ctl_io.specs.Memory.{IsNewSource, IsNewSink}
@@ -90,12 +90,13 @@ sink_end entry =
       faults = entry.sink.calls.faults;
     }
 
-abbrev pub custody_of : FilesState → Custody
+abbrev pub custody_of : FilesState → FilesCustody
 custody_of files = record {
-  sources_out = files.sources_out;
-  sinks_out = files.sinks_out;
-  sources_back = Some (map source_end files.sources_back);
-  sinks_back = Some (map sink_end files.sinks_back);
+  sources = record {
+    out = files.sources_out;
+    back = Some (map source_end files.sources_back);
+  };
+  sinks = record { out = files.sinks_out; back = Some (map sink_end files.sinks_back) };
 }
 
 -- what is answered where a source is named: the first that waits, while objects may still be handed out

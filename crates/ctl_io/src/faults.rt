@@ -43,13 +43,3 @@ impl FaultCount {
         self.count = self.count.saturating_add(1);
     }
 }
-
-#[cfg(test)]
-impl FaultCount {
-    // A count that stands there, for a test of its end.
-    pub(crate) fn standing_at(count: u64) -> FaultCount
-        ensures { result ≡ count }
-    {
-        FaultCount { count }
-    }
-}

@@ -5,7 +5,8 @@ ghost use Rattle.ctl_io.specs.Faults.{counted, is_faulty};
 ghost use Rattle.ctl_io.specs.Sink.{IsEmpty};
 ghost use Rattle.ctl_io.specs.Held.{Held, HasLeft, MayBeMissing, Stays, OthersStay};
 ghost use Rattle.ctl_io.specs.Held.{AllStayBut, AfterFound, IsNamed};
-ghost use Rattle.ctl_io.specs.Custody.{Custody, TakesSource, TakesSink, source_lent, sink_lent};
+ghost use Rattle.ctl_io.specs.Custody.{FilesCustody, TakesSource, TakesSink};
+ghost use Rattle.ctl_io.specs.Custody.{source_lent, sink_lent};
 ghost use Rattle.ctl_io.specs.Files.{IfFound, IfMade, source_failed, sink_failed};
 
 use crate::{Sink, Source};
@@ -34,7 +35,7 @@ pub trait Files {
     ghost held: { Self → List ℕ → ℕ → Held };
 
     /// What they handed out and took back.
-    ghost custody: { Self → Custody };
+    ghost custody: { Self → FilesCustody };
 
     /// How often a call failed, or an object with faults was given back. Only the files' own calls raise it.
     ghost faults: { Self → ℕ };
@@ -62,7 +63,7 @@ pub trait Files {
 
     /// Takes back a source that these files handed out.
     fn close_source(&mut self, source: Self::S)
-        requires { 0 < (custody self.old).sources_out }
+        requires { 0 < (custody self.old).sources.out }
         ensures returned { TakesSource (Self.S.name source) (Self.S.left source)
             (Self.S.faults source) (custody self.old) (custody self.new) }
         ensures same { (name : List ℕ) → Stays (held self.old name) (held self.new name) }
@@ -71,7 +72,7 @@ pub trait Files {
 
     /// Takes back a sink that these files handed out.
     fn close_sink(&mut self, sink: Self::K)
-        requires { 0 < (custody self.old).sinks_out }
+        requires { 0 < (custody self.old).sinks.out }
         ensures returned { TakesSink (Self.K.name sink) (Self.K.written sink)
             (Self.K.faults sink) (custody self.old) (custody self.new) }
         ensures others { AllStayBut (Self.K.name sink) (held self.old) (held self.new) }

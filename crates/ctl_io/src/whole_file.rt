@@ -3,8 +3,8 @@
 ghost use Rattle.std.specs.Prelude.{◌≡◌, ◌≤◌, length, IfOk};
 ghost use Rattle.ctl_io.specs.Faults.{counted};
 ghost use Rattle.ctl_io.specs.Held.{IsHeld, IsLonger, MayBeHere, MayBeMissing, OthersStay};
-ghost use Rattle.ctl_io.specs.WholeFile.{file_failed, SaysMissing, SaysTooLong};
-ghost use Rattle.ctl_io.specs.WholeFile.{SaysNoMemory, AfterFile, IsGivenBack};
+ghost use Rattle.ctl_io.specs.WholeFile.{SaysMissing, SaysTooLong, SaysNoMemory, reading_of};
+ghost use Rattle.ctl_io.specs.WholeFile.{reading_failed, AfterReading, IsGivenBack};
 
 use crate::{Files, Found, WholeFault, read_whole};
 use std::alloc::Global;
@@ -33,10 +33,13 @@ pub fn read_file<F: Files>(
     ensures missing { SaysMissing result → MayBeMissing (F.held files.old name.now 0) }
     ensures too_long { SaysTooLong result → IsLonger limit (F.held files.old name.now 0) }
     ensures no_memory { SaysNoMemory result → MayBeHere (F.held files.old name.now 0) }
-    ensures next { AfterFile result (F.held files.old name.now) (F.held files.new name.now) }
+    ensures next { AfterReading (reading_of result)
+        (F.held files.old name.now) (F.held files.new name.now) }
     ensures others { OthersStay name.now (F.held files.old) (F.held files.new) }
-    ensures given_back { IsGivenBack name.now (F.custody files.old) (F.custody files.new) }
-    ensures count { F.faults files.new ≡ counted (file_failed result) (F.faults files.old) }
+    ensures given_back { IsGivenBack (reading_of result) name.now
+        (F.custody files.old) (F.custody files.new) }
+    ensures count { F.faults files.new
+        ≡ counted (reading_failed (reading_of result)) (F.faults files.old) }
 {
     let mut source = match files.source(name) {
         Found::Here(source) => source,

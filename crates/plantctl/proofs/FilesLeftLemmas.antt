@@ -1,133 +1,141 @@
 -- What a run leaves of the files.
-use Rattle.std.proofs.Common.{◌≡◌, ◌≢◌, ◌⊎◌, inl, inr, ℕ, Bool, true, false, List, [], ◌∷◌, refl, sym, ◌∙◌, ap, subst, arith}
-use Rattle.std.specs.Prelude.{MatchBool, Contains}
-use Rattle.ctl_io.specs.Custody.{Custody}
+use Rattle.std.proofs.Common.{◌≡◌, ◌≢◌, ◌⊎◌, inl, inr, ℕ, ◌+◌, ◌-◌, Bool, true, false, List, [], ◌∷◌, ◌++◌, refl, sym, ◌∙◌, ap, subst, append_assoc, append-nil, arith}
+use Rattle.std.specs.Prelude.{Contains, if◌then◌else◌}
+use Rattle.std.proofs.lemmas.List.Elements.{Contains-append_left, Contains-append_right, Contains-push, Contains-push_cases}
+use Rattle.ctl_io.specs.Custody.{Custody, FilesCustody, SourceEnd}
 use Rattle.ctl_io.specs.Faults.{one_more, counted}
 use Rattle.ctl_io.specs.Held.{Held, Stays}
-use Rattle.plantctl.specs.World.{World, Shelf, shelf}
+use Rattle.ctl_io.specs.WholeFile.{Reading, Well, Missing, Failed, CameBack, GivenBack}
+use Rattle.plantctl.specs.World.{World, Snapshot, snapshot}
 use Rattle.plantctl.specs.End.{End, Done, NoMemory, Usage, FileMissing, FileFault, PlantRefused, PlantTooLong, LineRefused, ScriptTooLong, Audited, TraceTooLong, status_of, is_file_fault}
-use Rattle.plantctl.specs.Words.{Command, Check, Replay, Audit, Ask, plant_word}
-use Rattle.plantctl.specs.OpensPlant.{is_bench}
+use Rattle.plantctl.specs.Words.{Command, plant_word, other_files, Ask}
+use Rattle.plantctl.specs.OpensPlant.{is_bench, opened_for, files_of}
 use Rattle.plantctl.specs.Asked.{AskFile, NamesFile}
-use Rattle.plantctl.specs.Run.{LeavesAlone, ReadsOnly, ReadsInOrder, LeavesFiles, RunEnds}
+use Rattle.plantctl.specs.Run.{ReadsFile, ReadsWell, LeavesFiles, RunEnds}
 use Rattle.plantctl.proofs.CauseLemmas.{Cause, is_written}
-use Rattle.plantctl.proofs.TraceFilesLemmas.{contains_first, contains_later}
+use Rattle.plantctl.proofs.FilesLemmas.{LeftSo, left_so}
 
--- What is handed out and taken back of sources and sinks comes to the same.
-record IsEven (before now : Custody) : Type 0 where
-  sources_out : now.sources_out ≡ before.sources_out
-  sinks_out : now.sinks_out ≡ before.sinks_out
-  sinks_back : now.sinks_back ≡ before.sinks_back
+-- What is handed out and taken back of sources comes to the same, and sinks stay.
+record IsEven (before now : FilesCustody) : Type 0 where
+  sources : now.sources.out ≡ before.sources.out
+  sinks : now.sinks ≡ before.sinks
 
-even_alone : (before now : Shelf) → LeavesAlone before now → IsEven before.custody now.custody
-even_alone before now files = record {
-  sources_out = ap (λ (c : Custody). c.sources_out) files.custody;
-  sinks_out = ap (λ (c : Custody). c.sinks_out) files.custody;
-  sinks_back = ap (λ (c : Custody). c.sinks_back) files.custody;
-}
+even_over : (before between now : FilesCustody) → IsEven before between → IsEven between now → IsEven before now
+even_over before between now first second = record { sources = second.sources ∙ first.sources; sinks = second.sinks ∙ first.sinks }
 
-even_read : (name : List ℕ) (before now : Shelf) → ReadsOnly name before now → IsEven before.custody now.custody
-even_read name before now files = record { sources_out = files.given_back.sources_out; sinks_out = files.given_back.sinks_out; sinks_back = files.given_back.sinks_back }
+even_same : (before now : Snapshot) → now ≡ before → IsEven before.custody now.custody
+even_same before now same = record { sources = ap (λ (s : Snapshot). s.custody.sources.out) same; sinks = ap (λ (s : Snapshot). s.custody.sinks) same }
 
-even_by : (bench_word : Bool) (word : List ℕ) (before now : Shelf) → MatchBool bench_word (LeavesAlone before now) (ReadsOnly word before now) → IsEven before.custody now.custody
-even_by true word before now files = even_alone before now files
-even_by false word before now files = even_read word before now files
+came_even : (name : List ℕ) (faulty : Bool) (before now : Custody SourceEnd) → CameBack name faulty before now → now.out ≡ before.out
+came_even name faulty before now back =
+    let out : now.out ≡ before.out + 1 - 1 = ap (λ (c : Custody SourceEnd). c.out) back.custody in
+    omega (arith, out)
 
-even_over : (before between now : Custody) → IsEven before between → IsEven between now → IsEven before now
-even_over before between now first then = record {
-  sources_out = then.sources_out ∙ first.sources_out;
-  sinks_out = then.sinks_out ∙ first.sinks_out;
-  sinks_back = then.sinks_back ∙ first.sinks_back;
-}
+given_even : (reading : Reading) (name : List ℕ) (before now : Custody SourceEnd) → GivenBack reading name before now → now.out ≡ before.out
+given_even Well name before now back = came_even name false before now back
+given_even Missing name before now back = ap (λ (c : Custody SourceEnd). c.out) back
+given_even Failed name before now (inl none) = ap (λ (c : Custody SourceEnd). c.out) none
+given_even Failed name before now (inr back) = came_even name true before now back
 
-even_in_order : (names : List (List ℕ)) (before now : Shelf) → ReadsInOrder names before now → IsEven before.custody now.custody
-even_in_order [] before now files = record {
-  sources_out = ap (λ (s : Shelf). s.custody.sources_out) files;
-  sinks_out = ap (λ (s : Shelf). s.custody.sinks_out) files;
-  sinks_back = ap (λ (s : Shelf). s.custody.sinks_back) files;
-}
-even_in_order (name ∷ later) before now files =
-    even_over before.custody files.0.custody now.custody (even_read name before files.0 files.1) (even_in_order later files.0 now files.2)
+even_read : (reading : Reading) (name : List ℕ) (before now : Snapshot) → ReadsFile reading name before now → IsEven before.custody now.custody
+even_read reading name before now read =
+    record { sources = given_even reading name before.custody.sources now.custody.sources read.given_back.sources; sinks = read.given_back.sinks }
 
-even_of : (command : Command) (before now : Shelf) (end : End) → LeavesFiles command before now end → IsEven before.custody now.custody
-even_of (Check word) before now end files = even_by (is_bench word) word before now files
-even_of (Replay word name) before now end files =
-    even_over before.custody files.between.custody now.custody (even_by (is_bench word) word before files.between files.plant) (even_read name files.between now files.script)
-even_of (Audit word traces) before now end files =
-    even_over before.custody files.between.custody now.custody (even_by (is_bench word) word before files.between files.plant) (even_in_order traces files.between now files.read)
+even_well : (opened : List (List ℕ)) (before now : Snapshot) → ReadsWell opened before now → IsEven before.custody now.custody
+even_well [] before now well = even_same before now well
+even_well (name ∷ later) before now well = even_over before.custody well.0.custody now.custody (even_read Well name before well.0 well.1) (even_well later well.0 now well.2)
+
+even_left : (opened : List (List ℕ)) (before now : Snapshot) → LeftSo opened before now → IsEven before.custody now.custody
+even_left opened before now (inl well) = even_well opened before now well
+even_left opened before now (inr (reading, name, ends)) =
+    even_over before.custody ends.between.custody now.custody (even_well ends.earlier before ends.between ends.well) (even_read reading name ends.between now ends.read)
 
 even : (words : List (List ℕ)) (before now : World) (end : End) → Cause words before now end → IsEven before.custody now.custody
-even words before now end (inl at) = even_alone (shelf before) (shelf now) at.files
-even words before now end (inr by) = even_of by.command (shelf before) (shelf now) end by.files
+even words before now end (inl at) = even_same (snapshot before) (snapshot now) at.files
+even words before now end (inr by) =
+    let opened = opened_for (plant_word by.command) ++ by.files.opened in
+    even_left opened (snapshot before) (snapshot now) (left_so end opened (snapshot before) (snapshot now) by.files.left)
 
-pub given_back : (words : List (List ℕ)) (before now : World) (status : ℕ) → RunEnds words before now status → now.custody.sources_out ≡ before.custody.sources_out
-given_back words before now status run = (even words before now run.end run.cause).sources_out
+pub given_back : (words : List (List ℕ)) (before now : World) (status : ℕ) → RunEnds words before now status → now.custody.sources.out ≡ before.custody.sources.out
+given_back words before now status run = (even words before now run.end run.cause).sources
 
-pub no_sink : (words : List (List ℕ)) (before now : World) (status : ℕ) → RunEnds words before now status
-    → (now.custody.sinks_out ≡ before.custody.sinks_out) × (now.custody.sinks_back ≡ before.custody.sinks_back)
-no_sink words before now status run = let e = even words before now run.end run.cause in (e.sinks_out, e.sinks_back)
+pub no_sink : (words : List (List ℕ)) (before now : World) (status : ℕ) → RunEnds words before now status → now.custody.sinks ≡ before.custody.sinks
+no_sink words before now status run = (even words before now run.end run.cause).sinks
 
 -- what is held
 
 stays_over : (before between now : ℕ → Held) → Stays before between → Stays between now → Stays before now
-stays_over before between now first then opening = then opening ∙ first opening
+stays_over before between now first second opening = second opening ∙ first opening
 
-plant_stays : (bench_word : Bool) (word name : List ℕ) (before now : Shelf) → (bench_word ≡ false → name ≢ word) → MatchBool bench_word (LeavesAlone before now) (ReadsOnly word before now)
+stays_same : (name : List ℕ) (before now : Snapshot) → now ≡ before → Stays (before.held name) (now.held name)
+stays_same name before now same opening = ap (λ (s : Snapshot). s.held name opening) same
+
+-- what a list has at its head, and behind it
+contains_first : (first : List ℕ) (later : List (List ℕ)) (name : List ℕ) → name ≡ first → Contains (first ∷ later) name
+contains_first first later name same =
+    subst (Contains (first ∷ later)) (sym same) (Contains-append_left (first ∷ []) later first (Contains-push [] first))
+
+contains_later : (first : List ℕ) (later : List (List ℕ)) (name : List ℕ) → Contains later name → Contains (first ∷ later) name
+contains_later first later name one = Contains-append_right (first ∷ []) later name one
+
+-- what is held of a name stays that is none of those that were opened
+well_stays : (opened : List (List ℕ)) (name : List ℕ) (before now : Snapshot) → (Contains opened name → ⊥) → ReadsWell opened before now → Stays (before.held name) (now.held name)
+well_stays [] name before now other well = stays_same name before now well
+well_stays (first ∷ later) name before now other well =
+    stays_over (before.held name) (well.0.held name) (now.held name) (well.1.others name (λ same. other (contains_first first later name same)))
+    (well_stays later name well.0 now (λ one. other (contains_later first later name one)) well.2)
+
+left_stays : (opened : List (List ℕ)) (name : List ℕ) (before now : Snapshot) → (Contains opened name → ⊥) → LeftSo opened before now → Stays (before.held name) (now.held name)
+left_stays opened name before now other (inl well) = well_stays opened name before now other well
+left_stays opened name before now other (inr (reading, last, ends)) =
+    let among : Contains (ends.earlier ++ last ∷ []) name → ⊥ = λ one. other (subst (λ (ns : List (List ℕ)). Contains ns name) (sym ends.last) one) in
+    stays_over (before.held name) (ends.between.held name) (now.held name)
+    (well_stays ends.earlier name before ends.between (λ one. among (Contains-append_left ends.earlier (last ∷ []) name one)) ends.well)
+    (ends.read.others name (λ same. among (Contains-append_right ends.earlier (last ∷ []) name (contains_first last [] name same))))
+
+command_stays : (command : Command) (name : List ℕ) (before now : Snapshot) (end : End) (files : LeavesFiles command before now end) → (Contains (opened_for (plant_word command) ++ files.opened) name → ⊥)
     → Stays (before.held name) (now.held name)
-plant_stays true word name before now differs files = files.names name
-plant_stays false word name before now differs files = files.others name (differs refl)
+command_stays command name before now end files other =
+    let opened = opened_for (plant_word command) ++ files.opened in
+    left_stays opened name before now other (left_so end opened before now files.left)
 
--- a name that isn't the plant file's of a command isn't the command's word
-no_word : (words : List (List ℕ)) (name : List ℕ) (command : Command) → Ask words command → (AskFile words name → ⊥) → is_bench (plant_word command) ≡ false → name ≢ plant_word command
-no_word words name command ask other is same =
-    other (record { command = command; ask = ask; name_is = same; is_file = ap is_bench same ∙ is })
-
--- a name that is none of those that were read
-in_order_stay : (names : List (List ℕ)) (name : List ℕ) (before now : Shelf) → (Contains names name → ⊥) → ReadsInOrder names before now → Stays (before.held name) (now.held name)
-in_order_stay [] name before now other files opening = ap (λ (s : Shelf). s.held name opening) files
-in_order_stay (first ∷ later) name before now other files opening =
-    stays_over (before.held name) (files.0.held name) (now.held name)
-    (files.1.others name (λ same. other (contains_first first later name same)))
-    (in_order_stay later name files.0 now (λ one. other (contains_later first later name one)) files.2) opening
-
-others_by : (words : List (List ℕ)) (before now : World) (end : End) (name : List ℕ) (command : Command) → Ask words command → LeavesFiles command (shelf before) (shelf now) end → (NamesFile words name → ⊥)
-    → Stays (before.held name) (now.held name)
-others_by words before now end name (Check word) ask files other =
-    plant_stays (is_bench word) word name (shelf before) (shelf now) (no_word words name (Check word) ask (λ a. other (inl a))) files
-others_by words before now end name (Replay word script) ask files other =
-    stays_over (before.held name) (files.between.held name) (now.held name)
-    (plant_stays (is_bench word) word name (shelf before) files.between (no_word words name (Replay word script) ask (λ a. other (inl a))) files.plant)
-    (files.script.others name (λ same. other (inr (inl (word, subst (λ (n : List ℕ). Ask words (Replay word n)) (sym same) ask)))))
-others_by words before now end name (Audit word traces) ask files other =
-    stays_over (before.held name) (files.between.held name) (now.held name)
-    (plant_stays (is_bench word) word name (shelf before) files.between (no_word words name (Audit word traces) ask (λ a. other (inl a))) files.plant)
-    (in_order_stay traces name files.between (shelf now) (λ one. other (inr (inr (record { word = word; traces = traces; ask = ask; one = one })))) files.read)
+-- what was opened was asked for
+was_asked : (command : Command) (name : List ℕ) (before now : Snapshot) (end : End) (files : LeavesFiles command before now end) → Contains (opened_for (plant_word command) ++ files.opened) name
+    → Contains (files_of command) name
+was_asked command name before now end files one =
+    let plant = opened_for (plant_word command) in
+    let all : (plant ++ files.opened) ++ files.unopened ≡ plant ++ other_files command =
+    append_assoc plant files.opened files.unopened ∙ ap (λ (ns : List (List ℕ)). plant ++ ns) (sym files.front) in
+    subst (λ (ns : List (List ℕ)). Contains ns name) all (Contains-append_left (plant ++ files.opened) files.unopened name one)
 
 others_of : (words : List (List ℕ)) (before now : World) (end : End) (name : List ℕ) → Cause words before now end → (NamesFile words name → ⊥) → Stays (before.held name) (now.held name)
-others_of words before now end name (inl at) other = at.files.names name
-others_of words before now end name (inr by) other = others_by words before now end name by.command by.ask by.files other
+others_of words before now end name (inl at) other = stays_same name (snapshot before) (snapshot now) at.files
+others_of words before now end name (inr by) other =
+    command_stays by.command name (snapshot before) (snapshot now) end by.files
+    (λ one. other (by.command, by.ask, was_asked by.command name (snapshot before) (snapshot now) end by.files one))
 
 pub others_stay : (words : List (List ℕ)) (before now : World) (status : ℕ) (name : List ℕ) → RunEnds words before now status → (NamesFile words name → ⊥) → Stays (before.held name) (now.held name)
 others_stay words before now status name run other = others_of words before now run.end name run.cause other
 
 -- no script and no trace is opened where the plant is refused
 
-unopened_by : (words : List (List ℕ)) (before now : World) (end : End) (name : List ℕ) (command : Command) → status_of end ≡ 4 → Ask words command → LeavesFiles command (shelf before) (shelf now) end
-    → (AskFile words name → ⊥) → Stays (before.held name) (now.held name)
-unopened_by words before now end name (Check word) four ask files other =
-    plant_stays (is_bench word) word name (shelf before) (shelf now) (no_word words name (Check word) ask other) files
-unopened_by words before now end name (Replay word script) four ask files other =
-    stays_over (before.held name) (files.between.held name) (now.held name)
-    (plant_stays (is_bench word) word name (shelf before) files.between (no_word words name (Replay word script) ask other) files.plant)
-    ((files.unopened four).names name)
-unopened_by words before now end name (Audit word traces) four ask files other =
-    stays_over (before.held name) (files.between.held name) (now.held name)
-    (plant_stays (is_bench word) word name (shelf before) files.between (no_word words name (Audit word traces) ask other) files.plant)
-    ((files.unopened four).names name)
+-- what is opened for a plant's word is the file that it names
+only_word : (bench_word : Bool) (word name : List ℕ) → Contains (if bench_word then [] else word ∷ []) name → (bench_word ≡ false) × (name ≡ word)
+only_word true word name one = absurd (omega (arith, one.1))
+only_word false word name one = (refl, sym (elim (Contains-push_cases [] word name one) [ inl none ↦ absurd (omega (arith, none.1)) | inr same ↦ same ]))
+
+only_plant : (words : List (List ℕ)) (name : List ℕ) (command : Command) → Ask words command → Contains (opened_for (plant_word command)) name → AskFile words name
+only_plant words name command ask one =
+    let found = only_word (is_bench (plant_word command)) (plant_word command) name one in
+    record { command = command; ask = ask; name_is = found.1; is_file = ap is_bench found.1 ∙ found.0 }
 
 unopened_of : (words : List (List ℕ)) (before now : World) (end : End) (name : List ℕ) → status_of end ≡ 4 → Cause words before now end → (AskFile words name → ⊥) → Stays (before.held name) (now.held name)
-unopened_of words before now end name four (inl at) other = at.files.names name
-unopened_of words before now end name four (inr by) other = unopened_by words before now end name by.command four by.ask by.files other
+unopened_of words before now end name four (inl at) other = stays_same name (snapshot before) (snapshot now) at.files
+unopened_of words before now end name four (inr by) other =
+    let plant = opened_for (plant_word by.command) in
+    let none : plant ++ by.files.opened ≡ plant = ap (λ (ns : List (List ℕ)). plant ++ ns) (by.files.refused four) ∙ append-nil plant in
+    command_stays by.command name (snapshot before) (snapshot now) end by.files
+    (λ one. other (only_plant words name by.command by.ask (subst (λ (ns : List (List ℕ)). Contains ns name) none one)))
 
 pub no_script_opened : (words : List (List ℕ)) (before now : World) (name : List ℕ) → RunEnds words before now 4 → (AskFile words name → ⊥) → Stays (before.held name) (now.held name)
 no_script_opened words before now name run other =

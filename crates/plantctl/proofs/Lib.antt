@@ -13,6 +13,7 @@ pub mod ReplayEndsLemmas
 pub mod AuditLemmas
 pub mod CauseLemmas
 pub mod StatusesLemmas
+pub mod FileCauseLemmas
 pub mod FindingLemmas
 pub mod ScriptLemmas
 pub mod AskedLemmas
@@ -21,4 +22,5 @@ pub mod HistoryLemmas
 pub mod ShownLemmas
 pub mod TracesLemmas
 pub mod RunEndsLemmas
+pub mod FilesLemmas
 pub mod FilesLeftLemmas

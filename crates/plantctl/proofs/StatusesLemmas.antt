@@ -2,7 +2,6 @@
 use Rattle.std.proofs.Common.{◌≡◌, ◌⊎◌, inl, inr, ℕ, Bool, true, false, List, Ok, Err, refl, ◌∙◌, ap, subst, arith}
 use Rattle.std.specs.Prelude.{MatchBool}
 use Rattle.ctl_io.specs.Sink.{appended}
-use Rattle.ctl_io.specs.Faults.{one_more, counted}
 use Rattle.ctl_io.specs.Held.{Held, MayBeHere}
 use Rattle.plant_file.specs.declared.fault.PlantFault.{PlantFault}
 use Rattle.plant_file.specs.PlantFile.{fault_text}
@@ -11,13 +10,13 @@ use Rattle.plant_config.specs.Bench.{bench}
 use Rattle.trace_audit.specs.declared.verdict.Verdict.{Verdict}
 use Rattle.trace_audit.specs.declared.verdict.Verdict.TheVariants.{Confirmed, BadLine, Gap, Repeat, Differs}
 use Rattle.plantctl.specs.World.{World}
-use Rattle.plantctl.specs.End.{End, Done, NoMemory, Usage, FileMissing, FileFault, PlantRefused, PlantTooLong, LineRefused, ScriptTooLong, Audited, TraceTooLong, status_of, text_of, is_file_fault, verdict_line}
-use Rattle.plantctl.specs.Lines.{no_memory, usage, file_missing, file_fault, plant_refused, plant_too_long}
+use Rattle.plantctl.specs.End.{End, Done, NoMemory, Usage, FileMissing, FileFault, PlantRefused, PlantTooLong, LineRefused, ScriptTooLong, Audited, TraceTooLong, status_of, text_of, verdict_line}
+use Rattle.plantctl.specs.Lines.{no_memory, usage, plant_refused, plant_too_long}
 use Rattle.plantctl.specs.Words.{Command, Check, Replay, Audit, plant_word, Ask, HasNoForm}
 use Rattle.plantctl.specs.OpensPlant.{is_bench, OpensBench, OpensFile, OpensPlant, Reads}
 use Rattle.plantctl.specs.Asked.{AskFile}
 use Rattle.plantctl.specs.Run.{IsWritten, RunEnds}
-use Rattle.plantctl.specs.Outcomes.{WasChecked, WasReplayed, WereAudited, RanOutOfMemory, WasMissing, HadFileFault, HadPlantFault, WasTooLong}
+use Rattle.plantctl.specs.Outcomes.{WasChecked, WasReplayed, WereAudited, RanOutOfMemory, HadPlantFault, WasTooLong}
 use Rattle.plantctl.proofs.OpensLemmas.{if_held, opened_file}
 use Rattle.plantctl.proofs.CauseLemmas.{Came, at_words, at_plant, in_check, in_replay, in_audit, came, is_written, status_or_7}
 use Rattle.plantctl.proofs.VerdictLemmas.{other_status}
@@ -27,7 +26,7 @@ pub nowhere : (word : List ℕ) (held : Held) (end : End) → (OpensBench (Err e
 nowhere word held end no_bench no_file opens = no_file (opened_file word held end no_bench opens).1
 
 -- the plant file that a command asks for, where its word leads to an end of its own
-file_asked : (words : List (List ℕ)) (command : Command) → Ask words command → is_bench (plant_word command) ≡ false → AskFile words (plant_word command)
+pub file_asked : (words : List (List ℕ)) (command : Command) → Ask words command → is_bench (plant_word command) ≡ false → AskFile words (plant_word command)
 file_asked words command ask is = record { command = command; ask = ask; name_is = refl; is_file = is }
 
 -- an audit's verdict
@@ -179,85 +178,6 @@ usage_always words before now status none run = elim (status_or_7 run.end before
   | inl is ↦ inl (is ∙ ap status_of (no_form_end words before run.end none (came words before now run.end run.cause)))
   | inr failed ↦ inr failed.0
 ]
-
--- status 3
-
-missing_at : (words : List (List ℕ)) (before now : World) (name : List ℕ) → Came words before (FileMissing name) → now.file_faults ≡ before.file_faults
-    → now.written ≡ appended before.written (file_missing name) → WasMissing words before now
-missing_at words before now name (at_words none is) count appends = absurd (cc)
-missing_at words before now name (at_plant command ask opens) count appends =
-    let o = opened_file (plant_word command) (before.held (plant_word command) 0) (FileMissing name) (λ h. h) opens in
-    record {
-      name = plant_word command;
-      held = before.held (plant_word command) 0;
-      wants = inl (file_asked words command ask o.0, refl);
-      missing = o.1.1;
-      no_fault = count;
-      appends = appends ∙ ap (λ (n : List ℕ). appended before.written (file_missing n)) o.1.0;
-    }
-missing_at words before now name (in_check plant asks ends) count appends = absurd ends
-missing_at words before now name (in_replay plant script held asks ends) count appends = record {
-  name = script;
-  held = held;
-  wants = inr (inl (plant, asks));
-  missing = ends.1;
-  no_fault = count;
-  appends = appends ∙ ap (λ (n : List ℕ). appended before.written (file_missing n)) ends.0;
-}
-missing_at words before now name (in_audit plant files asks ends) count appends = record {
-  name = ends.0.name;
-  held = ends.0.held;
-  wants = inr (inr (plant, (files, asks, ends.1)));
-  missing = ends.3;
-  no_fault = count;
-  appends = appends ∙ ap (λ (n : List ℕ). appended before.written (file_missing n)) ends.2;
-}
-
-fault_at : (words : List (List ℕ)) (before now : World) (name : List ℕ) → Came words before (FileFault name) → now.file_faults ≡ one_more before.file_faults
-    → now.written ≡ appended before.written (file_fault name) → HadFileFault words before now
-fault_at words before now name (at_words none is) count appends = absurd (cc)
-fault_at words before now name (at_plant command ask opens) count appends =
-    let o = opened_file (plant_word command) (before.held (plant_word command) 0) (FileFault name) (λ h. h) opens in
-    record {
-      name = plant_word command;
-      held = before.held (plant_word command) 0;
-      wants = inl (file_asked words command ask o.0, refl);
-      fault = count;
-      appends = appends ∙ ap (λ (n : List ℕ). appended before.written (file_fault n)) o.1;
-    }
-fault_at words before now name (in_check plant asks ends) count appends = absurd ends
-fault_at words before now name (in_replay plant script held asks ends) count appends = record {
-  name = script;
-  held = held;
-  wants = inr (inl (plant, asks));
-  fault = count;
-  appends = appends ∙ ap (λ (n : List ℕ). appended before.written (file_fault n)) ends;
-}
-fault_at words before now name (in_audit plant files asks ends) count appends = record {
-  name = ends.0.name;
-  held = ends.0.held;
-  wants = inr (inr (plant, (files, asks, ends.1)));
-  fault = count;
-  appends = appends ∙ ap (λ (n : List ℕ). appended before.written (file_fault n)) ends.2;
-}
-
-file_of : (words : List (List ℕ)) (before now : World) (end : End) → Came words before end → IsWritten end before now 3 → now.file_faults ≡ counted (is_file_fault end) before.file_faults
-    → WasMissing words before now ⊎ HadFileFault words before now
-file_of words before now (FileMissing name) from written count = inl (missing_at words before now name from count written.appends)
-file_of words before now (FileFault name) from written count = inr (fault_at words before now name from count written.appends)
-file_of words before now (Done output) from written count = absurd (let h = written.status_is in omega arith)
-file_of words before now NoMemory from written count = absurd (let h = written.status_is in omega arith)
-file_of words before now Usage from written count = absurd (let h = written.status_is in omega arith)
-file_of words before now (PlantRefused fault) from written count = absurd (let h = written.status_is in omega arith)
-file_of words before now PlantTooLong from written count = absurd (let h = written.status_is in omega arith)
-file_of words before now (LineRefused number) from written count = absurd (let h = written.status_is in omega arith)
-file_of words before now ScriptTooLong from written count = absurd (let h = written.status_is in omega arith)
-file_of words before now (Audited verdict) from written count = absurd (other_status 3 verdict (λ h. omega arith) (λ h. omega arith) (λ h. omega arith) written.status_is)
-file_of words before now TraceTooLong from written count = absurd (let h = written.status_is in omega arith)
-
-pub file_cause : (words : List (List ℕ)) (before now : World) → RunEnds words before now 3 → WasMissing words before now ⊎ HadFileFault words before now
-file_cause words before now run =
-    file_of words before now run.end (came words before now run.end run.cause) (is_written run.end before now 3 (λ h. omega arith) run.output) run.file_faults
 
 -- status 4
 

@@ -1,10 +1,9 @@
 -- The traces of an audit: which openings they are, and what holds of their texts.
 use Rattle.std.proofs.Common.{◌≡◌, ℕ, ◌+◌, Bool, true, false, inl, inr, List, [], ◌∷◌, ◌++◌, length, refl, sym, ◌∙◌, ap, subst, append_assoc, zero-add, add-zero, arith}
-use Rattle.std.specs.Prelude.{bytes_eq, cond, Contains, if◌then◌else◌}
+use Rattle.std.specs.Prelude.{bytes_eq, cond, if◌then◌else◌}
 use Rattle.std.proofs.lemmas.Bool.{cases_Bool}
 use Rattle.std.proofs.lemmas.Grind.{flat_map-append}
 use Rattle.std.proofs.lemmas.List.{append-nil}
-use Rattle.std.proofs.lemmas.List.Elements.{Contains-append_left, Contains-append_right, Contains-push}
 use Rattle.std.proofs.lemmas.List.Sums.{sum_by-append}
 use Rattle.std.proofs.lemmas.Slice.Eq.{bytes_eq-Decides}
 use Rattle.ctl_io.specs.Held.{Held, IfHeld, CountsOn, OthersStay}
@@ -12,14 +11,6 @@ use Rattle.line_text.specs.Lines.{lines}
 use Rattle.plantctl.specs.OpensPlant.{is_bench, next_opening, opened_for}
 use Rattle.plantctl.specs.Audit.{TraceFile, times_opened, trace_file, trace_files, IfAllHeld, bytes_of, all_lines}
 use Rattle.plantctl.proofs.OpensLemmas.{if_held}
-
--- what a list has at its head, and behind it
-pub contains_first : (first : List ℕ) (later : List (List ℕ)) (name : List ℕ) → name ≡ first → Contains (first ∷ later) name
-contains_first first later name same =
-    subst (Contains (first ∷ later)) (sym same) (Contains-append_left (first ∷ []) later first (Contains-push [] first))
-
-pub contains_later : (first : List ℕ) (later : List (List ℕ)) (name : List ℕ) → Contains later name → Contains (first ∷ later) name
-contains_later first later name one = Contains-append_right (first ∷ []) later name one
 
 -- a name was opened as often as in the one list and in the other
 pub times-append : (name : List ℕ) (one other : List (List ℕ)) → times_opened name (one ++ other) ≡ times_opened name one + times_opened name other
@@ -110,15 +101,3 @@ bytes-more texts text = sum_by-append length texts (text ∷ []) ∙ ap (λ (n :
 
 pub lines-more : (texts : List (List ℕ)) (text : List ℕ) → all_lines (texts ++ text ∷ []) ≡ all_lines texts ++ lines text
 lines-more texts text = flat_map-append lines texts (text ∷ []) ∙ ap (λ (ls : List (List ℕ)). all_lines texts ++ ls) (append-nil (lines text))
-
--- a trace among others has one of their names
-pub trace_named : (held : List ℕ → ℕ → Held) (opened names : List (List ℕ)) (earlier later : List TraceFile) (file : TraceFile) → trace_files held opened names ≡ earlier ++ file ∷ later
-    → Contains names file.name
-trace_named held opened [] [] later file place = absurd (cc)
-trace_named held opened [] (first ∷ earlier) later file place = absurd (cc)
-trace_named held opened (name ∷ names) [] later file place =
-    let same : trace_file held opened name ≡ file = cc in
-    contains_first name names file.name (ap (λ (f : TraceFile). f.name) (sym same))
-trace_named held opened (name ∷ names) (first ∷ earlier) later file place =
-    let rest : trace_files held (opened ++ name ∷ []) names ≡ earlier ++ file ∷ later = cc in
-    contains_later name names file.name (trace_named held (opened ++ name ∷ []) names earlier later file rest)

@@ -6,7 +6,7 @@ use Rattle.plant_config.specs.Bench.{bench}
 use Rattle.plant_config.specs.PlantOfText.{plant_of_text}
 use Rattle.plantctl.specs.World.{World}
 use Rattle.plantctl.specs.Words.{Command, Check, Replay, Audit, plant_word, Ask}
-use Rattle.plantctl.specs.OpensPlant.{longest_plant, is_bench, OpensPlant, next_opening, opened_for}
+use Rattle.plantctl.specs.OpensPlant.{longest_plant, is_bench, OpensPlant, next_opening, opened_for, files_of}
 use Rattle.plantctl.specs.Audit.{TraceFile, trace_files, Reaches}
 
 -- The words ask for the plant file of this name: it is a plant's word, and not that of the bench plant.
@@ -62,17 +62,10 @@ WantsFile words before name held =
     ((plant : PlantData) × AskReplay words before plant name held) ⊎
     ((plant : PlantData) × ReachTrace words before plant name held)
 
--- The words name this file as one of the traces.
-pub record NamesTrace (words : List (List ℕ)) (name : List ℕ) : Type 0 where
-  pub word : List ℕ
-  pub traces : List (List ℕ)
-  pub ask : Ask words (Audit word traces)
-  pub one : Contains traces name
-
--- The words name this file: as the plant's, as the script's or as a trace.
+-- The words name this file: it is one that they ask for.
 abbrev pub NamesFile : List (List ℕ) → List ℕ → Type 0
-NamesFile words name = AskFile words name ⊎
-    ((word : List ℕ) × Ask words (Replay word name)) ⊎ NamesTrace words name
+NamesFile words name =
+    (command : Command) × Ask words command × Contains (files_of command) name
 
 -- The files show a plant file with this plant.
 abbrev pub ShowsFile : Held → PlantData → Type 0

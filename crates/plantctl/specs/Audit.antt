@@ -6,7 +6,7 @@ use Rattle.line_text.specs.Lines.{lines}
 use Rattle.plant_config.specs.Plant.{PlantData}
 use Rattle.trace_audit.specs.declared.verdict.Verdict.{Verdict}
 use Rattle.trace_audit.specs.Verdict.{IsVerdict}
-use Rattle.plantctl.specs.End.{End, Done, NoMemory, Usage, FileMissing, FileFault, PlantRefused, PlantTooLong, LineRefused, ScriptTooLong, Audited, TraceTooLong}
+use Rattle.plantctl.specs.End.{End, NoMemory, FileMissing, FileFault, Audited, TraceTooLong}
 
 -- the most bytes of all traces together, 256 MiB
 abbrev pub longest_traces : ℕ
@@ -62,6 +62,12 @@ pub record Reaches (files : List TraceFile) (file : TraceFile) : Type 0 where
   pub place : files ≡ earlier ++ file ∷ later
   pub within : AreWithin earlier
 
+-- Traces of these names were opened in order behind files of other names, and none of them behind traces that are too long
+-- together.
+abbrev pub OpensWithin : (List ℕ → ℕ → Held) → List (List ℕ) → List (List ℕ) → Type 0
+OpensWithin held opened names = (earlier : List (List ℕ)) (last : List ℕ)
+    → names ≡ earlier ++ last ∷ [] → AreWithin (trace_files held opened earlier)
+
 -- One trace is reached with which they are too long.
 pub record EndsTooLong (files : List TraceFile) : Type 0 where
   pub file : TraceFile
@@ -80,19 +86,14 @@ HaveVerdict plant files verdict = IfAllHeld files
 -- The audit of these traces on this plant ends so, with its cause. The first trace that is missing or failed, or with which they
 -- are too long, ends it. That the files had a fault shows in their count, for every command alike.
 abbrev pub AuditEnds : PlantData → List TraceFile → End → Type 0
-AuditEnds plant files (Done output) = ⊥
 AuditEnds plant files NoMemory = RunsOut files
-AuditEnds plant files Usage = ⊥
 AuditEnds plant files (FileMissing name) =
     (file : TraceFile) × Reaches files file × (name ≡ file.name) × MayBeMissing file.held
 AuditEnds plant files (FileFault name) =
     (file : TraceFile) × Reaches files file × (name ≡ file.name)
-AuditEnds plant files (PlantRefused fault) = ⊥
-AuditEnds plant files PlantTooLong = ⊥
-AuditEnds plant files (LineRefused number) = ⊥
-AuditEnds plant files ScriptTooLong = ⊥
 AuditEnds plant files (Audited verdict) = HaveVerdict plant files verdict
 AuditEnds plant files TraceTooLong = EndsTooLong files
+AuditEnds plant files other = ⊥
 
 -- Traces hold these texts, one each, in order.
 abbrev pub HoldTexts : List TraceFile → List (List ℕ) → Type 0

@@ -3,7 +3,7 @@ use Rattle.std.specs.Prelude.{◌≡◌, ℕ, List, ◌++◌, length, sum_by, co
 use Rattle.std.specs.Fmt.{decimal}
 use Rattle.plant_config.specs.Plant.{PlantData, sources_of, destinations_of}
 use Rattle.plantctl.specs.Lines.{line}
-use Rattle.plantctl.specs.End.{End, Done, NoMemory, Usage, FileMissing, FileFault, PlantRefused, PlantTooLong, LineRefused, ScriptTooLong, Audited, TraceTooLong}
+use Rattle.plantctl.specs.End.{End, Done, NoMemory}
 
 -- how many tie-lines all pools of a plant have
 abbrev pub ties_of : PlantData → ℕ
@@ -27,12 +27,4 @@ check_text plant =
 abbrev pub CheckEnds : PlantData → End → Type 0
 CheckEnds plant (Done output) = output ≡ check_text plant
 CheckEnds plant NoMemory = Unit {0}
-CheckEnds plant Usage = ⊥
-CheckEnds plant (FileMissing name) = ⊥
-CheckEnds plant (FileFault name) = ⊥
-CheckEnds plant (PlantRefused fault) = ⊥
-CheckEnds plant PlantTooLong = ⊥
-CheckEnds plant (LineRefused number) = ⊥
-CheckEnds plant ScriptTooLong = ⊥
-CheckEnds plant (Audited verdict) = ⊥
-CheckEnds plant TraceTooLong = ⊥
+CheckEnds plant other = ⊥

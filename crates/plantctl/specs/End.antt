@@ -72,14 +72,5 @@ text_of TraceTooLong = trace_too_long
 
 -- whether the files had a fault
 abbrev pub is_file_fault : End → Bool
-is_file_fault (Done output) = false
-is_file_fault NoMemory = false
-is_file_fault Usage = false
-is_file_fault (FileMissing name) = false
 is_file_fault (FileFault name) = true
-is_file_fault (PlantRefused fault) = false
-is_file_fault PlantTooLong = false
-is_file_fault (LineRefused number) = false
-is_file_fault ScriptTooLong = false
-is_file_fault (Audited verdict) = false
-is_file_fault TraceTooLong = false
+is_file_fault other = false

@@ -1,11 +1,12 @@
 -- What a plant's word leads to: a plant, or the end of the run.
-use Rattle.std.specs.Prelude.{◌≡◌, ℕ, ◌≤◌, Bool, bytes_eq, if◌then◌else◌, MatchBool, List, [], ◌∷◌, length, codes, Result, Ok, Err}
+use Rattle.std.specs.Prelude.{◌≡◌, ℕ, ◌≤◌, Bool, bytes_eq, if◌then◌else◌, MatchBool, List, [], ◌∷◌, ◌++◌, length, codes, Result, Ok, Err}
 use Rattle.ctl_io.specs.Held.{Held, IfHeld, IsLonger, MayBeHere, MayBeMissing}
 use Rattle.plant_file.specs.declared.fault.PlantFault.{PlantFault}
 use Rattle.plant_config.specs.Plant.{PlantData}
 use Rattle.plant_config.specs.Bench.{bench}
 use Rattle.plant_config.specs.PlantOfText.{plant_of_text}
-use Rattle.plantctl.specs.End.{End, Done, NoMemory, Usage, FileMissing, FileFault, PlantRefused, PlantTooLong, LineRefused, ScriptTooLong, Audited, TraceTooLong}
+use Rattle.plantctl.specs.Words.{Command, plant_word, other_files}
+use Rattle.plantctl.specs.End.{End, NoMemory, FileMissing, FileFault, PlantRefused, PlantTooLong}
 
 -- the most bytes of a plant file, 4 MiB
 abbrev pub longest_plant : ℕ
@@ -19,32 +20,18 @@ Reads held read = IfHeld held (λ text. (length text ≤ longest_plant) × (plan
 -- in their count, for every command alike.
 abbrev pub OpensFile : List ℕ → Held → Result PlantData End → Type 0
 OpensFile name held (Ok plant) = Reads held (Ok plant)
-OpensFile name held (Err (Done output)) = ⊥
 OpensFile name held (Err NoMemory) = MayBeHere held
-OpensFile name held (Err Usage) = ⊥
 OpensFile name held (Err (FileMissing missing)) = (missing ≡ name) × MayBeMissing held
 OpensFile name held (Err (FileFault failed)) = failed ≡ name
 OpensFile name held (Err (PlantRefused fault)) = Reads held (Err fault)
 OpensFile name held (Err PlantTooLong) = IsLonger longest_plant held
-OpensFile name held (Err (LineRefused number)) = ⊥
-OpensFile name held (Err ScriptTooLong) = ⊥
-OpensFile name held (Err (Audited verdict)) = ⊥
-OpensFile name held (Err TraceTooLong) = ⊥
+OpensFile name held (Err other) = ⊥
 
 -- The bench plant is there, or there is no memory for it.
 abbrev pub OpensBench : Result PlantData End → Type 0
 OpensBench (Ok plant) = plant ≡ bench
-OpensBench (Err (Done output)) = ⊥
 OpensBench (Err NoMemory) = Unit {0}
-OpensBench (Err Usage) = ⊥
-OpensBench (Err (FileMissing missing)) = ⊥
-OpensBench (Err (FileFault failed)) = ⊥
-OpensBench (Err (PlantRefused fault)) = ⊥
-OpensBench (Err PlantTooLong) = ⊥
-OpensBench (Err (LineRefused number)) = ⊥
-OpensBench (Err ScriptTooLong) = ⊥
-OpensBench (Err (Audited verdict)) = ⊥
-OpensBench (Err TraceTooLong) = ⊥
+OpensBench (Err other) = ⊥
 
 -- whether a plant's word is that of the bench plant, for which no file is opened
 abbrev pub is_bench : List ℕ → Bool
@@ -68,3 +55,7 @@ next_opening word name = if is_bench word then 0 else (if bytes_eq word name the
 -- the names of the files that are opened for a plant's word: that of the plant file, but none for the bench plant
 abbrev pub opened_for : List ℕ → List (List ℕ)
 opened_for word = if is_bench word then [] else word ∷ []
+
+-- the names of all files that a command asks for, in order
+abbrev pub files_of : Command → List (List ℕ)
+files_of command = opened_for (plant_word command) ++ other_files command

@@ -1,8 +1,9 @@
 -- What a run came to: what was done, why it ended, and what kept it from its end.
-use Rattle.std.specs.Prelude.{◌≡◌, ◌⊎◌, ℕ, ◌<◌, ◌≤◌, List, length, Err}
+use Rattle.std.specs.Prelude.{◌≡◌, ◌⊎◌, ℕ, ◌<◌, ◌≤◌, List, ◌++◌, length, Err}
 use Rattle.ctl_io.specs.Faults.{one_more}
 use Rattle.ctl_io.specs.Sink.{appended}
 use Rattle.ctl_io.specs.Held.{Held, IfHeld, IsLonger, MayBeMissing}
+use Rattle.ctl_io.specs.WholeFile.{Reading, Missing, Failed}
 use Rattle.plant_file.specs.declared.fault.PlantFault.{PlantFault}
 use Rattle.plant_file.specs.PlantFile.{fault_text}
 use Rattle.plant_config.specs.Plant.{PlantData}
@@ -12,14 +13,15 @@ use Rattle.record_replay.specs.Replay.{IsReplay}
 use Rattle.record_replay.specs.TiedReplay.{IsTiedReplay}
 use Rattle.trace_audit.specs.declared.verdict.Verdict.{Verdict}
 use Rattle.trace_audit.specs.declared.verdict.Verdict.TheVariants.{Confirmed, BadLine, Gap, Repeat, Differs}
-use Rattle.plantctl.specs.World.{World}
+use Rattle.plantctl.specs.World.{World, snapshot}
 use Rattle.plantctl.specs.Lines.{no_memory, file_missing, file_fault, plant_refused, plant_too_long, line_refused, script_too_long, trace_too_long}
 use Rattle.plantctl.specs.End.{verdict_line}
 use Rattle.plantctl.specs.Words.{Command, plant_word, Ask}
-use Rattle.plantctl.specs.OpensPlant.{longest_plant, Reads}
+use Rattle.plantctl.specs.OpensPlant.{longest_plant, Reads, files_of}
 use Rattle.plantctl.specs.Check.{check_text}
 use Rattle.plantctl.specs.Replay.{longest_script}
 use Rattle.plantctl.specs.Audit.{TraceFile, EndsTooLong, HaveVerdict}
+use Rattle.plantctl.specs.Run.{EndsReading}
 use Rattle.plantctl.specs.Asked.{AskFile, AskCheck, AskReplay, AskAudit, PlantMayBeHere, WantsFile}
 
 -- The plant was checked: exactly its ten lines were appended.
@@ -48,20 +50,34 @@ pub record RanOutOfMemory (words : List (List ℕ)) (before now : World) : Type 
   pub there : PlantMayBeHere before (plant_word command)
   pub appends : now.written ≡ appended before.written no_memory
 
--- A file that was asked for is missing, and the line says so.
+-- Of the files that the words ask for, in order, the last that was opened has this name and was read so, and with those before
+-- it all was well.
+pub record StopsAtFile (reading : Reading) (words : List (List ℕ)) (before now : World)
+    (name : List ℕ) : Type 0 where
+  pub command : Command
+  pub ask : Ask words command
+  pub opened : List (List ℕ)
+  pub unopened : List (List ℕ)
+  pub front : files_of command ≡ opened ++ unopened
+  pub ended : EndsReading reading name opened (snapshot before) (snapshot now)
+
+-- A file that was asked for is missing, the last that was opened, and the line says so.
 pub record WasMissing (words : List (List ℕ)) (before now : World) : Type 0 where
   pub name : List ℕ
   pub held : Held
   pub wants : WantsFile words before name held
   pub missing : MayBeMissing held
+  pub stops : StopsAtFile Missing words before now name
   pub no_fault : now.file_faults ≡ before.file_faults
   pub appends : now.written ≡ appended before.written (file_missing name)
 
--- The files had a fault, which their count shows, and the line names a file that was asked for.
+-- The files had a fault, which their count shows, and the line names the file that was asked for then, or that was given back
+-- with a fault: the last that was opened.
 pub record HadFileFault (words : List (List ℕ)) (before now : World) : Type 0 where
   pub name : List ℕ
   pub held : Held
   pub wants : WantsFile words before name held
+  pub stops : StopsAtFile Failed words before now name
   pub fault : now.file_faults ≡ one_more before.file_faults
   pub appends : now.written ≡ appended before.written (file_fault name)
 

@@ -4,7 +4,7 @@ use Rattle.ctl_io.specs.Held.{Held, IfHeld, MayBeMissing}
 use Rattle.plant_config.specs.Plant.{PlantData}
 use Rattle.record_replay.specs.Script.{IsFirstBad}
 use Rattle.record_replay.specs.TiedReplay.{IsTiedReplay}
-use Rattle.plantctl.specs.End.{End, Done, NoMemory, Usage, FileMissing, FileFault, PlantRefused, PlantTooLong, LineRefused, ScriptTooLong, Audited, TraceTooLong}
+use Rattle.plantctl.specs.End.{End, Done, NoMemory, FileMissing, FileFault, LineRefused, ScriptTooLong}
 
 -- the most bytes of a script, 64 MiB
 abbrev pub longest_script : ℕ
@@ -22,13 +22,9 @@ abbrev pub ReplayEnds : PlantData → List ℕ → Held → End → Type 0
 ReplayEnds plant name held (Done output) =
     IfHeld held (λ script. IfFits script (IsTiedReplay plant script output))
 ReplayEnds plant name held NoMemory = IfHeld held (λ script. Unit {0})
-ReplayEnds plant name held Usage = ⊥
 ReplayEnds plant name held (FileMissing missing) = (missing ≡ name) × MayBeMissing held
 ReplayEnds plant name held (FileFault failed) = failed ≡ name
-ReplayEnds plant name held (PlantRefused fault) = ⊥
-ReplayEnds plant name held PlantTooLong = ⊥
 ReplayEnds plant name held (LineRefused number) =
     IfHeld held (λ script. IfFits script (IsFirstBad plant script number))
 ReplayEnds plant name held ScriptTooLong = IfHeld held (λ script. longest_script < length script)
-ReplayEnds plant name held (Audited verdict) = ⊥
-ReplayEnds plant name held TraceTooLong = ⊥
+ReplayEnds plant name held other = ⊥

@@ -1,17 +1,17 @@
 -- How a run ends: its cause, what it wrote, and what it left of the files.
-use Rattle.std.specs.Prelude.{◌≡◌, ◌≢◌, ◌⊎◌, ℕ, List, [], ◌∷◌, MatchBool, Contains, Result}
+use Rattle.std.specs.Prelude.{◌≡◌, ◌⊎◌, ℕ, List, [], ◌∷◌, ◌++◌, Result}
 use Rattle.ctl_io.specs.Faults.{one_more, counted}
 use Rattle.ctl_io.specs.Sink.{appended, AppendsPart}
-use Rattle.ctl_io.specs.Held.{Stays, CountsOn, OthersStay}
-use Rattle.ctl_io.specs.WholeFile.{IsGivenBack}
+use Rattle.ctl_io.specs.Held.{OthersStay}
+use Rattle.ctl_io.specs.WholeFile.{Reading, Well, Missing, Failed, reading_failed, AfterReading, IsGivenBack}
 use Rattle.plant_config.specs.Plant.{PlantData}
-use Rattle.plantctl.specs.World.{World, Shelf, shelf}
-use Rattle.plantctl.specs.End.{End, Usage, FileFault, status_of, output_failed, text_of, is_file_fault}
-use Rattle.plantctl.specs.Words.{Command, Check, Replay, Audit, Ask, HasNoForm}
-use Rattle.plantctl.specs.OpensPlant.{is_bench, OpensPlant, GoesOn, next_opening, opened_for}
+use Rattle.plantctl.specs.World.{World, Snapshot, snapshot}
+use Rattle.plantctl.specs.End.{End, Usage, FileMissing, FileFault, status_of, output_failed, text_of, is_file_fault}
+use Rattle.plantctl.specs.Words.{Command, Check, Replay, Audit, plant_word, other_files, Ask, HasNoForm}
+use Rattle.plantctl.specs.OpensPlant.{OpensPlant, GoesOn, next_opening, opened_for}
 use Rattle.plantctl.specs.Check.{CheckEnds}
 use Rattle.plantctl.specs.Replay.{ReplayEnds}
-use Rattle.plantctl.specs.Audit.{trace_files, AuditEnds}
+use Rattle.plantctl.specs.Audit.{trace_files, OpensWithin, AuditEnds}
 
 -- A command ends so, in a world that is so before it: its plant's word leads to a plant with which it goes on, or to the end.
 abbrev pub CommandEnds : Command → World → End → Type 0
@@ -29,70 +29,58 @@ CommandEnds (Audit word traces) before end =
     × GoesOn (λ plant. AuditEnds plant (trace_files before.held (opened_for word) traces))
     opened end
 
--- The files were left alone.
-pub record LeavesAlone (before now : Shelf) : Type 0 where
-  pub custody : now.custody ≡ before.custody
-  pub names : (name : List ℕ) → Stays (before.held name) (now.held name)
-
--- This file was opened at most once: each opening finds what it would have found before, or the next one is gone.
-abbrev pub OpensAtMostOnce : List ℕ → Shelf → Shelf → Type 0
-OpensAtMostOnce name before now =
-    Stays (before.held name) (now.held name) ⊎ CountsOn (before.held name) (now.held name)
-
--- At most this file was opened, once, and given back, and no sink was made. What the files hold of other names stays.
-pub record ReadsOnly (name : List ℕ) (before now : Shelf) : Type 0 where
-  pub given_back : IsGivenBack name before.custody now.custody
-  pub opened : OpensAtMostOnce name before now
-  pub others : OthersStay name before.held now.held
-
--- what a plant's word leaves of the files: no file is opened for the bench plant
-abbrev pub LeavesPlant : List ℕ → Shelf → Shelf → Type 0
-LeavesPlant word before now =
-    MatchBool (is_bench word) (LeavesAlone before now) (ReadsOnly word before now)
-
--- The plant's file was read only, and behind it the script's, which isn't opened where the plant is refused or its file
--- failed.
-pub record ReadsBoth (word name : List ℕ) (before now : Shelf) (end : End) : Type 0 where
-  pub between : Shelf
-  pub plant : LeavesPlant word before between
-  pub script : ReadsOnly name between now
-  pub unopened : status_of end ≡ 4 → LeavesAlone between now
-  pub failed : end ≡ FileFault word → word ≢ name → LeavesAlone between now
-
--- The files of these names were read only, one after the other in order.
-abbrev pub ReadsInOrder : List (List ℕ) → Shelf → Shelf → Type 0
-ReadsInOrder [] before now = now ≡ before
-ReadsInOrder (name ∷ later) before now =
-    (between : Shelf) × ReadsOnly name before between × ReadsInOrder later between now
-
--- The plant's file was read only, and behind it the traces' in order, of which none is opened where the plant is refused or
--- its file failed.
-pub record ReadsTraces (word : List ℕ) (traces : List (List ℕ)) (before now : Shelf) (end : End)
+-- The file of this name was read so, and what the files hold of other names stays.
+pub record ReadsFile (reading : Reading) (name : List ℕ) (before now : Snapshot)
     : Type 0 where
-  pub between : Shelf
-  pub plant : LeavesPlant word before between
-  pub read : ReadsInOrder traces between now
-  pub unopened : status_of end ≡ 4 → LeavesAlone between now
-  pub failed : end ≡ FileFault word → (Contains traces word → ⊥) → LeavesAlone between now
+  pub openings : AfterReading reading (before.held name) (now.held name)
+  pub others : OthersStay name before.held now.held
+  pub given_back : IsGivenBack reading name before.custody now.custody
+  pub faults : now.faults ≡ counted (reading_failed reading) before.faults
 
--- the files that a command leaves where it ends so
-abbrev pub LeavesFiles : Command → Shelf → Shelf → End → Type 0
-LeavesFiles (Check word) before now end = LeavesPlant word before now
-LeavesFiles (Replay word name) before now end = ReadsBoth word name before now end
-LeavesFiles (Audit word traces) before now end = ReadsTraces word traces before now end
+-- The files of these names were read one after the other, in order, and all was well.
+abbrev pub ReadsWell : List (List ℕ) → Snapshot → Snapshot → Type 0
+ReadsWell [] before now = now ≡ before
+ReadsWell (name ∷ later) before now =
+    (between : Snapshot) × ReadsFile Well name before between × ReadsWell later between now
+
+-- Of the files that were opened, in order, the last has this name and was read so, and with those before it all was well.
+pub record EndsReading (reading : Reading) (name : List ℕ) (opened : List (List ℕ))
+    (before now : Snapshot) : Type 0 where
+  pub earlier : List (List ℕ)
+  pub last : opened ≡ earlier ++ name ∷ []
+  pub between : Snapshot
+  pub well : ReadsWell earlier before between
+  pub read : ReadsFile reading name between now
+
+-- What a run that ends so leaves of the files that it opened, in order: the file that it tells of as missing or failed is
+-- the last, and just that was missing or failed. Where it tells of none, all was well.
+abbrev pub LeavesOpened : End → List (List ℕ) → Snapshot → Snapshot → Type 0
+LeavesOpened (FileMissing name) opened before now = EndsReading Missing name opened before now
+LeavesOpened (FileFault name) opened before now = EndsReading Failed name opened before now
+LeavesOpened other opened before now = ReadsWell opened before now
+
+-- A command that ends so has opened its plant's file, and behind it a front of its other files, in order: none where the plant
+-- is refused, and no trace behind others that are too long together.
+pub record LeavesFiles (command : Command) (before now : Snapshot) (end : End) : Type 0 where
+  pub opened : List (List ℕ)
+  pub unopened : List (List ℕ)
+  pub front : other_files command ≡ opened ++ unopened
+  pub left : LeavesOpened end (opened_for (plant_word command) ++ opened) before now
+  pub refused : status_of end ≡ 4 → opened ≡ []
+  pub within : OpensWithin before.held (opened_for (plant_word command)) opened
 
 -- The words have no form, the run says so, and leaves the files alone.
 pub record EndsAtWords (words : List (List ℕ)) (before now : World) (end : End) : Type 0 where
   pub no_form : HasNoForm words
   pub end_is : end ≡ Usage
-  pub files : LeavesAlone (shelf before) (shelf now)
+  pub files : snapshot now ≡ snapshot before
 
 -- The words ask for a command, which ends so.
 pub record EndsByCommand (words : List (List ℕ)) (before now : World) (end : End) : Type 0 where
   pub command : Command
   pub ask : Ask words command
   pub ends : CommandEnds command before end
-  pub files : LeavesFiles command (shelf before) (shelf now) end
+  pub files : LeavesFiles command (snapshot before) (snapshot now) end
 
 -- The end's text was appended, and the status is the end's.
 pub record IsWritten (end : End) (before now : World) (status : ℕ) : Type 0 where

@@ -175,14 +175,13 @@ OthersWriteAll = (words : List (List ℕ)) (before now : World) (status : ℕ)
 -- As many sources are out after a run as before it.
 abbrev pub SourcesComeBack : Type 0
 SourcesComeBack = (words : List (List ℕ)) (before now : World) (status : ℕ)
-    → RunEnds words before now status → now.custody.sources_out ≡ before.custody.sources_out
+    → RunEnds words before now status → now.custody.sources.out ≡ before.custody.sources.out
 
 -- No run has a sink handed out or gives one back.
 abbrev pub NoSinkIsMade : Type 0
 NoSinkIsMade = (words : List (List ℕ)) (before now : World) (status : ℕ)
     → RunEnds words before now status
-    → (now.custody.sinks_out ≡ before.custody.sinks_out)
-    × (now.custody.sinks_back ≡ before.custody.sinks_back)
+    → now.custody.sinks ≡ before.custody.sinks
 
 -- What the files hold of a name that the words don't name stays.
 abbrev pub OtherNamesStay : Type 0

@@ -1,5 +1,5 @@
 -- How a run stops in the code, before its end is written out.
-use Rattle.std.specs.Prelude.{◌≡◌, ◌≢◌, ◌⊎◌, ℕ, Bool, true, false, List, [], ◌++◌, ◌+◌, codes, string_bytes, Option, Result, Ok, Err}
+use Rattle.std.specs.Prelude.{◌≡◌, ◌≢◌, ◌⊎◌, ℕ, Bool, true, false, List, [], ◌∷◌, ◌++◌, ◌+◌, codes, string_bytes, Option, Result, Ok, Err}
 use Rattle.std.specs.Borrow.{Bor}
 use Rattle.ctl_io.specs.Faults.{one_more, counted}
 use Rattle.ctl_io.specs.Held.{Held}
@@ -20,10 +20,11 @@ use Rattle.plantctl.specs.declared.words.Command as code
 use Rattle.plantctl.specs.declared.words.Command.TheVariants as commands
 use Rattle.plantctl.specs.Lines.{usage, no_memory, file_missing, file_fault, plant_refused, plant_too_long, line_refused, script_too_long, trace_too_long}
 use Rattle.plantctl.specs.End.{End, status_of, output_failed, text_of, is_file_fault, verdict_status, verdict_line}
-use Rattle.plantctl.specs.World.{World, shelf}
+use Rattle.plantctl.specs.World.{World, Snapshot, snapshot}
 use Rattle.plantctl.specs.Words.{Command, Check, Replay, Audit, texts}
-use Rattle.plantctl.specs.OpensPlant.{next_opening}
-use Rattle.plantctl.specs.Run.{CommandEnds, LeavesFiles, EndsAtWords, EndsByCommand}
+use Rattle.plantctl.specs.OpensPlant.{OpensPlant, OpensFile, next_opening, opened_for}
+use Rattle.plantctl.specs.Replay.{ReplayEnds}
+use Rattle.plantctl.specs.Run.{ReadsWell, LeavesOpened, CommandEnds, LeavesFiles, EndsAtWords, EndsByCommand}
 
 -- the number of a status
 abbrev pub number_of : Status → ℕ
@@ -70,30 +71,12 @@ stop_status stops.OutputFault = 7
 
 -- Whether a write failed, and whether the files did, before the report.
 abbrev pub is_by_output : Stop → Bool
-is_by_output stops.NoMemory = false
-is_by_output stops.Usage = false
-is_by_output (stops.FileMissing name) = false
-is_by_output (stops.FileFault name) = false
-is_by_output (stops.PlantRefused why) = false
-is_by_output stops.PlantTooLong = false
-is_by_output (stops.LineRefused number) = false
-is_by_output stops.ScriptTooLong = false
-is_by_output (stops.Found verdict) = false
-is_by_output stops.TraceTooLong = false
 is_by_output stops.OutputFault = true
+is_by_output other = false
 
 abbrev pub is_by_files : Stop → Bool
-is_by_files stops.NoMemory = false
-is_by_files stops.Usage = false
-is_by_files (stops.FileMissing name) = false
 is_by_files (stops.FileFault name) = true
-is_by_files (stops.PlantRefused why) = false
-is_by_files stops.PlantTooLong = false
-is_by_files (stops.LineRefused number) = false
-is_by_files stops.ScriptTooLong = false
-is_by_files (stops.Found verdict) = false
-is_by_files stops.TraceTooLong = false
-is_by_files stops.OutputFault = false
+is_by_files other = false
 
 abbrev pub stopped_by_output : {T : Type 0} → Result T Stop → Bool
 stopped_by_output (Ok done) = false
@@ -112,20 +95,8 @@ pub record IsFrontOf (stop : Stop) (end : End) (before now : Option (List ℕ)) 
 
 -- A stop comes to this end. Where a write failed, a shorter front of the end's text was written.
 abbrev pub StopComesTo : Stop → End → Option (List ℕ) → Option (List ℕ) → Type 0
-StopComesTo stops.NoMemory end before now = IsFrontOf stops.NoMemory end before now
-StopComesTo stops.Usage end before now = IsFrontOf stops.Usage end before now
-StopComesTo (stops.FileMissing name) end before now =
-    IsFrontOf (stops.FileMissing name) end before now
-StopComesTo (stops.FileFault name) end before now = IsFrontOf (stops.FileFault name) end before now
-StopComesTo (stops.PlantRefused why) end before now =
-    IsFrontOf (stops.PlantRefused why) end before now
-StopComesTo stops.PlantTooLong end before now = IsFrontOf stops.PlantTooLong end before now
-StopComesTo (stops.LineRefused number) end before now =
-    IsFrontOf (stops.LineRefused number) end before now
-StopComesTo stops.ScriptTooLong end before now = IsFrontOf stops.ScriptTooLong end before now
-StopComesTo (stops.Found verdict) end before now = IsFrontOf (stops.Found verdict) end before now
-StopComesTo stops.TraceTooLong end before now = IsFrontOf stops.TraceTooLong end before now
 StopComesTo stops.OutputFault end before now = AppendsPart (text_of end) before now
+StopComesTo other end before now = IsFrontOf other end before now
 
 -- What was done, or a stop, comes to this end.
 abbrev pub ComesTo : {T : Type 0} → Result T Stop → End → Option (List ℕ)
@@ -171,6 +142,26 @@ abbrev pub OpensAs : (Result PlantData End → Type 0) → Result PlantData Stop
 OpensAs Opens (Ok plant) = Opens (Ok plant)
 OpensAs Opens (Err stop) = (end : End) × Opens (Err end) × IsStopOf stop end
 
+-- What opening a plant's word leaves of the files that it opens, by what the word leads to.
+abbrev pub LeavesPlant : List (List ℕ) → Snapshot → Snapshot → Result PlantData End
+    → Type 0
+LeavesPlant opened before now (Ok plant) = ReadsWell opened before now
+LeavesPlant opened before now (Err end) = LeavesOpened end opened before now
+
+-- A plant's word, and the name of a plant file, leads to this, and leaves the files so.
+abbrev pub Opens : List ℕ → Snapshot → Snapshot → Result PlantData End → Type 0
+Opens word before now opened = OpensPlant word (before.held word 0) opened
+    × LeavesPlant (opened_for word) before now opened
+
+abbrev pub OpensNamed : List ℕ → Snapshot → Snapshot → Result PlantData End → Type 0
+OpensNamed name before now opened = OpensFile name (before.held name 0) opened
+    × LeavesPlant (name ∷ []) before now opened
+
+-- The replay of this script ends so, and leaves the files so.
+abbrev pub Replays : PlantData → List ℕ → Snapshot → Snapshot → End → Type 0
+Replays plant name before now end = ReplayEnds plant name (before.held name 0) end
+    × LeavesOpened end (name ∷ []) before now
+
 -- Once a plant's word has led to a plant, each opening of a name finds this.
 abbrev pub AreNext : List ℕ → (List ℕ → ℕ → Held) → (List ℕ → ℕ → Held)
     → Type 0
@@ -194,15 +185,7 @@ abbrev pub SaysFault : PlantFault → Stop → Type 0
 SaysFault fault stops.NoMemory = Unit {0}
 SaysFault fault (stops.PlantRefused why) =
     (string_bytes why ≡ fault_text fault) × (fault ≢ plants.NoMemory)
-SaysFault fault stops.Usage = ⊥
-SaysFault fault (stops.FileMissing name) = ⊥
-SaysFault fault (stops.FileFault name) = ⊥
-SaysFault fault stops.PlantTooLong = ⊥
-SaysFault fault (stops.LineRefused number) = ⊥
-SaysFault fault stops.ScriptTooLong = ⊥
-SaysFault fault (stops.Found verdict) = ⊥
-SaysFault fault stops.TraceTooLong = ⊥
-SaysFault fault stops.OutputFault = ⊥
+SaysFault fault other = ⊥
 
 -- what the code calls this command
 abbrev pub asked : code.Command → Command
@@ -215,7 +198,7 @@ pub record CommandStops {T : Type 0} (command : Command) (before now : World)
     (result : Result T Stop) : Type 0 where
   pub end : End
   pub ends : CommandEnds command before end
-  pub files : LeavesFiles command (shelf before) (shelf now) end
+  pub files : LeavesFiles command (snapshot before) (snapshot now) end
   pub comes : ComesTo result end before.written now.written
   pub fault : is_file_fault end ≡ stopped_by_files result
   pub file_faults : now.file_faults ≡ counted (stopped_by_files result) before.file_faults

@@ -27,6 +27,12 @@ plant_word (Check plant) = plant
 plant_word (Replay plant script) = plant
 plant_word (Audit plant traces) = plant
 
+-- the files that it asks for behind its plant's, in order
+abbrev pub other_files : Command → List (List ℕ)
+other_files (Check plant) = []
+other_files (Replay plant script) = script ∷ []
+other_files (Audit plant traces) = traces
+
 -- A word that names something isn't empty and doesn't begin with a dash.
 abbrev pub IsName : List ℕ → Type 0
 IsName [] = ⊥

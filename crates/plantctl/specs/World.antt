@@ -1,21 +1,21 @@
 -- What stands outside of the program.
 use Rattle.std.specs.Prelude.{ℕ, List, Option}
 use Rattle.ctl_io.specs.Held.{Held}
-use Rattle.ctl_io.specs.Custody.{Custody}
+use Rattle.ctl_io.specs.Custody.{FilesCustody}
 
 -- What stands outside at a moment: what the files hold of each name, for each of its openings from then on, what they
 -- handed out and took back, how often they have failed, what was written to the output, where that shows it, and how
 -- often a write has failed.
 pub record World : Type 0 where
   pub held : List ℕ → ℕ → Held
-  pub custody : Custody
+  pub custody : FilesCustody
   pub file_faults : ℕ
   pub written : Option (List ℕ)
   pub output_faults : ℕ
 
 -- The world of these files and this output: what the files hold and handed out, how often they failed, what was written to
 -- the output, and how often that failed, are what their types say of them.
-abbrev pub world : {F K : Type 0} → (F → List ℕ → ℕ → Held) → (F → Custody)
+abbrev pub world : {F K : Type 0} → (F → List ℕ → ℕ → Held) → (F → FilesCustody)
     → (F → ℕ) → (K → Option (List ℕ)) → (K → ℕ) → F → K → World
 world held custody file_faults written output_faults files out = record {
   held = held files;
@@ -25,16 +25,19 @@ world held custody file_faults written output_faults files out = record {
   output_faults = output_faults out;
 }
 
--- What files show at a moment: what they hold of each name, and what they handed out and took back.
-pub record Shelf : Type 0 where
+-- A snapshot of files: what they hold of each name, what they handed out and took back, and how often they have failed.
+pub record Snapshot : Type 0 where
   pub held : List ℕ → ℕ → Held
-  pub custody : Custody
+  pub custody : FilesCustody
+  pub faults : ℕ
 
--- the files of a world
-abbrev pub shelf : World → Shelf
-shelf world = record { held = world.held; custody = world.custody }
+-- that of a world
+abbrev pub snapshot : World → Snapshot
+snapshot world =
+    record { held = world.held; custody = world.custody; faults = world.file_faults }
 
--- what files show by what their type says of them
-abbrev pub shelf_of : {F : Type 0} → (F → List ℕ → ℕ → Held) → (F → Custody) → F
-    → Shelf
-shelf_of held custody files = record { held = held files; custody = custody files }
+-- that of files by what their type says of them
+abbrev pub snapshot_of : {F : Type 0} → (F → List ℕ → ℕ → Held) → (F → FilesCustody)
+    → (F → ℕ) → F → Snapshot
+snapshot_of held custody faults files =
+    record { held = held files; custody = custody files; faults = faults files }

@@ -1,14 +1,13 @@
 //! The command `audit`.
 
-ghost use Rattle.std.specs.Prelude.{◌≡◌, [], false, IfOk, IfErr};
+ghost use Rattle.std.specs.Prelude.{◌≡◌, [], false, IfOk, OnOk, IfErr};
 ghost use Rattle.ctl_io.specs.Faults.{counted};
-ghost use Rattle.plantctl.specs.World.{shelf_of};
+ghost use Rattle.plantctl.specs.World.{snapshot_of};
 ghost use Rattle.plantctl.specs.Words.{texts};
 ghost use Rattle.plantctl.specs.End.{Audited};
-ghost use Rattle.plantctl.specs.Audit.{trace_files, AuditEnds};
-ghost use Rattle.plantctl.specs.Run.{ReadsInOrder};
+ghost use Rattle.plantctl.specs.Audit.{trace_files};
 ghost use Rattle.plantctl.specs.StopInside.{stopped_by_files, stopped_by_output, StopsFor, ComesTo};
-ghost use Rattle.plantctl.specs.AuditInside.{AreJoined, StopsReading};
+ghost use Rattle.plantctl.specs.AuditInside.{AreJoined, Audits, ReadsAll, StopsReading};
 
 use crate::stop::Stop;
 use crate::verdict::write_verdict;
@@ -30,10 +29,10 @@ pub(crate) fn audit<'a, F: Files, K: Sink>(
     out: &mut K,
 ) -> Result<(), Stop<'a>>
     ensures ends { StopsFor result
-        (AuditEnds plant.now (trace_files (F.held files.old) [] (texts names.now)))
+        (Audits plant.now (texts names.now)
+        (snapshot_of F.held F.custody F.faults files.old)
+        (snapshot_of F.held F.custody F.faults files.new))
         (K.written out.old) (K.written out.new) }
-    ensures files { ReadsInOrder (texts names.now)
-        (shelf_of F.held F.custody files.old) (shelf_of F.held F.custody files.new) }
     ensures file_count { F.faults files.new
         ≡ counted (stopped_by_files result) (F.faults files.old) }
     ensures output_count { K.faults out.new
@@ -57,10 +56,12 @@ fn read_traces<'a, F: Files>(
 ) -> Result<Vec<u8>, Stop<'a>>
     ensures joined { IfOk result
         (λ text. AreJoined (trace_files (F.held files.old) [] (texts names.now)) text.items) }
-    ensures stops { IfErr result
-        (λ stop. StopsReading (trace_files (F.held files.old) [] (texts names.now)) stop) }
-    ensures files { ReadsInOrder (texts names.now)
-        (shelf_of F.held F.custody files.old) (shelf_of F.held F.custody files.new) }
+    ensures read { OnOk result (ReadsAll (texts names.now)
+        (snapshot_of F.held F.custody F.faults files.old)
+        (snapshot_of F.held F.custody F.faults files.new)) }
+    ensures stops { IfErr result (StopsReading (texts names.now)
+        (snapshot_of F.held F.custody F.faults files.old)
+        (snapshot_of F.held F.custody F.faults files.new)) }
     ensures count { F.faults files.new
         ≡ counted (stopped_by_files result) (F.faults files.old) }
 {

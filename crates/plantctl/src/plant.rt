@@ -3,10 +3,10 @@
 ghost use Rattle.std.specs.Prelude.{◌≡◌, OnOk};
 ghost use Rattle.ctl_io.specs.Faults.{counted};
 ghost use Rattle.ctl_io.specs.Held.{CountsOn};
-ghost use Rattle.plantctl.specs.World.{shelf_of};
-ghost use Rattle.plantctl.specs.OpensPlant.{is_bench, OpensPlant, OpensFile};
-ghost use Rattle.plantctl.specs.Run.{LeavesPlant, ReadsOnly};
-ghost use Rattle.plantctl.specs.StopInside.{OpensAs, AreNext, stopped_by_files};
+ghost use Rattle.plantctl.specs.World.{snapshot_of};
+ghost use Rattle.plantctl.specs.OpensPlant.{is_bench};
+ghost use Rattle.plantctl.specs.StopInside.{OpensAs, Opens, OpensNamed, AreNext};
+ghost use Rattle.plantctl.specs.StopInside.{stopped_by_files};
 
 use crate::stop::Stop;
 use ctl_io::{Files, read_file};
@@ -22,9 +22,9 @@ pub(crate) fn open_plant<'a, F: Files>(
     word: &'a str,
     files: &mut F,
 ) -> Result<Plant, Stop<'a>>
-    ensures opens { OpensAs (OpensPlant word.now (F.held files.old word.now 0)) result }
-    ensures files { LeavesPlant word.now
-        (shelf_of F.held F.custody files.old) (shelf_of F.held F.custody files.new) }
+    ensures opens { OpensAs (Opens word.now
+        (snapshot_of F.held F.custody F.faults files.old)
+        (snapshot_of F.held F.custody F.faults files.new)) result }
     ensures next { OnOk result (AreNext word.now (F.held files.old) (F.held files.new)) }
     ensures count { F.faults files.new
         ≡ counted (stopped_by_files result) (F.faults files.old) }
@@ -48,9 +48,9 @@ fn is_bench(word: &str) -> bool
 
 // The plant of the file of this name.
 fn read_plant<'a, F: Files>(alloc: Global, name: &'a str, files: &mut F) -> Result<Plant, Stop<'a>>
-    ensures opens { OpensAs (OpensFile name.now (F.held files.old name.now 0)) result }
-    ensures files { ReadsOnly name.now
-        (shelf_of F.held F.custody files.old) (shelf_of F.held F.custody files.new) }
+    ensures opens { OpensAs (OpensNamed name.now
+        (snapshot_of F.held F.custody F.faults files.old)
+        (snapshot_of F.held F.custody F.faults files.new)) result }
     ensures next { OnOk result (CountsOn (F.held files.old name.now) (F.held files.new name.now)) }
     ensures count { F.faults files.new
         ≡ counted (stopped_by_files result) (F.faults files.old) }

@@ -2,10 +2,8 @@
 
 ghost use Rattle.std.specs.Prelude.{◌≡◌};
 ghost use Rattle.ctl_io.specs.Faults.{counted};
-ghost use Rattle.plantctl.specs.World.{shelf_of};
-ghost use Rattle.plantctl.specs.Replay.{ReplayEnds};
-ghost use Rattle.plantctl.specs.Run.{ReadsOnly};
-ghost use Rattle.plantctl.specs.StopInside.{stopped_by_files, stopped_by_output, StopsFor};
+ghost use Rattle.plantctl.specs.World.{snapshot_of};
+ghost use Rattle.plantctl.specs.StopInside.{stopped_by_files, stopped_by_output, StopsFor, Replays};
 
 use crate::stop::Stop;
 use ctl_io::{Files, Sink, read_file};
@@ -26,10 +24,10 @@ pub(crate) fn replay<'a, F: Files, K: Sink>(
     out: &mut K,
 ) -> Result<(), Stop<'a>>
     ensures ends { StopsFor result
-        (ReplayEnds plant.now name.now (F.held files.old name.now 0))
+        (Replays plant.now name.now
+        (snapshot_of F.held F.custody F.faults files.old)
+        (snapshot_of F.held F.custody F.faults files.new))
         (K.written out.old) (K.written out.new) }
-    ensures files { ReadsOnly name.now
-        (shelf_of F.held F.custody files.old) (shelf_of F.held F.custody files.new) }
     ensures file_count { F.faults files.new
         ≡ counted (stopped_by_files result) (F.faults files.old) }
     ensures output_count { K.faults out.new

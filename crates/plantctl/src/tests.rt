@@ -56,6 +56,27 @@ fn outcome(
     Ok((status, out))
 }
 
+// Words, and the status and the output of a run with them.
+type Run = (&'static [&'static str], u8, &'static str);
+
+// The first of these runs over files with these texts that ends otherwise, or `None` where all end so.
+fn first_wrong(
+    alloc: Global,
+    texts: &[(&str, &str)],
+    runs: &[Run],
+) -> Result<Option<usize>, AllocError> {
+    for at in 0..runs.len() {
+        let (words, status, output) = runs[at];
+        let mut files = files_of(alloc, texts)?;
+        let mut out = MemSink::new(alloc, 1000, Vec::new(alloc))?;
+        let found = run_quiet(alloc, &owned(alloc, words)?, &mut files, &mut out);
+        if found != status || out.written() != output.as_bytes() {
+            return Ok(Some(at));
+        }
+    }
+    Ok(None)
+}
+
 // Files with these texts, each under its name.
 fn files_of(alloc: Global, texts: &[(&str, &str)]) -> Result<MemFiles, AllocError> {
     let mut files = Vec::new(alloc);

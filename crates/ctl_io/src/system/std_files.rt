@@ -53,7 +53,10 @@ where
 
     ghost held = { λ _ _ _. Unshown };
 
-    ghost custody = { λ f. only_out f.sources_out f.sinks_out };
+    ghost custody = { λ f. record {
+      sources = only_out f.sources_out;
+      sinks = only_out f.sinks_out;
+    } };
 
     ghost faults = { λ f. f.faults };
 

@@ -1,6 +1,6 @@
 //! Traces that are audited.
 
-use super::{Failing, NEVER, NOTHING, files_of, outcome, owned};
+use super::{Run, files_of, first_wrong, owned};
 use crate::run_quiet;
 use ctl_io::MemSink;
 use std::test::Fail;
@@ -49,8 +49,8 @@ const FILES: [(&str, &str); 20] = [
     ("faulty", "title = 1\n"),
 ];
 
-// Words, and the status and the output of a run over these files.
-const RUNS: [(&[&str], u8, &str); 29] = [
+// Runs over these files.
+const RUNS: [Run; 29] = [
     (&["audit", "bench", "whole"], 0, "confirmed 4\n"),
     // The lines may be in any order, and in any number of files.
     (
@@ -174,13 +174,7 @@ const RUNS: [(&[&str], u8, &str); 29] = [
 #[test]
 fn traces_are_audited(rt: HostRuntime) -> Result<(), Fail> {
     let alloc = rt.alloc();
-    for (words, status, output) in RUNS {
-        let mut files = files_of(alloc, FILES.as_slice())?;
-        let mut out = MemSink::new(alloc, 1000, Vec::new(alloc))?;
-        let found = run_quiet(alloc, &owned(alloc, words)?, &mut files, &mut out);
-        assert_eq!(rt; out.written(), output.as_bytes());
-        assert_eq!(rt; found, status);
-    }
+    assert_eq!(rt; first_wrong(alloc, &FILES, &RUNS)?, None);
     Ok(())
 }
 
@@ -213,55 +207,3 @@ fn an_audit_has_at_most_200_traces(rt: HostRuntime) -> Result<(), Fail> {
 }
 
 pub(super) const AUDIT: [&str; 3] = ["audit", "bench", "script"];
-
-// The trace, what fails, the status and the output.
-const FAILURES: [(&str, Failing, u8, &str); 5] = [
-    (WHOLE, NOTHING, 0, "confirmed 4\n"),
-    (
-        WHOLE,
-        Failing {
-            read: 0,
-            write: NEVER,
-        },
-        3,
-        "file script fault\n",
-    ),
-    (
-        WHOLE,
-        Failing {
-            read: NEVER,
-            write: 0,
-        },
-        7,
-        "",
-    ),
-    (
-        WHOLE,
-        Failing {
-            read: NEVER,
-            write: 1,
-        },
-        7,
-        "confirmed ",
-    ),
-    (
-        "1 poll 0 1 0 = -\n",
-        Failing {
-            read: NEVER,
-            write: 2,
-        },
-        7,
-        "gap at 0",
-    ),
-];
-
-#[test]
-fn a_trace_and_its_verdict_may_fail(rt: HostRuntime) -> Result<(), Fail> {
-    let alloc = rt.alloc();
-    for (trace, failing, status, output) in FAILURES {
-        let (found, out) = outcome(alloc, &AUDIT, trace.as_bytes().to_vec(alloc)?, failing)?;
-        assert_eq!(rt; out.written(), output.as_bytes());
-        assert_eq!(rt; found, status);
-    }
-    Ok(())
-}

@@ -4,7 +4,7 @@
 pub(super) type Exchange = (&'static str, &'static str);
 
 // Interrogate 5, which is parked.
-pub(super) const PARKED: Exchange = ("10020100000504F61003", "10061002030007057F056D1003");
+const PARKED: Exchange = ("10020100000504F61003", "10061002030007057F056D1003");
 
 pub(super) const SESSIONS: [&[Exchange]; 7] = [
     &[PARKED],

@@ -1,8 +1,6 @@
 //! Plant files: what is said of them, and what ends a run at them.
 
-use super::{files_of, owned};
-use crate::run_quiet;
-use ctl_io::MemSink;
+use super::{Run, first_wrong};
 use std::test::Fail;
 
 const SMALL: &str = "title = \"Small\"\n\
@@ -41,8 +39,8 @@ const FILES: [(&str, &str); 7] = [
     ("both", "poll 0\n"),
 ];
 
-// Words, and the status and the output of a run over these files.
-const RUNS: [(&[&str], u8, &str); 14] = [
+// Runs over these files.
+const RUNS: [Run; 14] = [
     (
         &["check", "bench"],
         0,
@@ -99,12 +97,6 @@ const RUNS: [(&[&str], u8, &str); 14] = [
 #[test]
 fn plant_files_are_checked_and_replayed_on(rt: HostRuntime) -> Result<(), Fail> {
     let alloc = rt.alloc();
-    for (words, status, output) in RUNS {
-        let mut files = files_of(alloc, FILES.as_slice())?;
-        let mut out = MemSink::new(alloc, 1000, Vec::new(alloc))?;
-        let found = run_quiet(alloc, &owned(alloc, words)?, &mut files, &mut out);
-        assert_eq!(rt; out.written(), output.as_bytes());
-        assert_eq!(rt; found, status);
-    }
+    assert_eq!(rt; first_wrong(alloc, &FILES, &RUNS)?, None);
     Ok(())
 }

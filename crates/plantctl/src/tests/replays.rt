@@ -1,6 +1,6 @@
 //! Scripts that are replayed.
 
-use super::frames::{Exchange, PARKED, SESSIONS};
+use super::frames::{Exchange, SESSIONS};
 use super::{NOTHING, REPLAY, outcome};
 use std::alloc::{AllocError, Global};
 use std::test::Fail;
@@ -25,20 +25,5 @@ fn sessions_are_replayed(rt: HostRuntime) -> Result<(), Fail> {
         assert_eq!(rt; out.written(), output.as_bytes());
         assert_eq!(rt; status, 0);
     }
-    Ok(())
-}
-
-#[test]
-fn an_empty_script_and_a_last_line_without_end_are_replayed(rt: HostRuntime) -> Result<(), Fail> {
-    let alloc = rt.alloc();
-    let (status, out) = outcome(alloc, &REPLAY, Vec::new(alloc), NOTHING)?;
-    assert_eq!(rt; out.written(), b"".as_slice());
-    assert_eq!(rt; status, 0);
-
-    let (mut script, output) = script_of(alloc, &[PARKED])?;
-    let _ = script.pop();
-    let (status, out) = outcome(alloc, &REPLAY, script.into_bytes(), NOTHING)?;
-    assert_eq!(rt; out.written(), output.as_bytes());
-    assert_eq!(rt; status, 0);
     Ok(())
 }

@@ -7,7 +7,14 @@ use std::alloc::{AllocError, Global};
 use std::test::Fail;
 
 // A script, the status of its replay, and the output.
-const SCRIPTS: [(&str, u8, &str); 12] = [
+const SCRIPTS: [(&str, u8, &str); 14] = [
+    // No line, and a last line without its end.
+    ("", 0, ""),
+    (
+        "> 0 10020100000504F61003",
+        0,
+        "< 0 10061002030007057F056D1003\n",
+    ),
     // One byte of noise, and an idle turn.
     ("> 0 00\npoll 0\n", 0, "< 0 -\n< 0 -\n"),
     // A wrong check byte.

@@ -1,8 +1,6 @@
 //! Sources that come by the one tie-line between two routers.
 
-use super::{files_of, owned};
-use crate::run_quiet;
-use ctl_io::MemSink;
+use super::{Run, first_wrong};
 use std::test::Fail;
 
 // Sources 16 and 17 of matrix 1 stand for sources 3 and 2 of matrix 0.
@@ -16,33 +14,37 @@ const STUDIO: &str = "title = \"Studio\"\n\
 
 // Destination 0 of matrix 1 gets source 16. Destination 1 gets no other remote source, as no tie is free, and then source
 // 16 by the same tie.
-const SHARED: (&str, &str) = (
-    "> 0 10020210100000101005D91003\n> 0 100202101000011105D71003\n> 0 10020210100001101005D81003\n",
-    "< 0 100610020410100000101005D71003\n< 0 1006100203101007017F05611003\n\
-     < 0 100610020410100001101005D61003\n",
-);
+const SHARED: &str =
+    "> 0 10020210100000101005D91003\n> 0 100202101000011105D71003\n> 0 10020210100001101005D81003\n";
 
 // Destination 0 gets source 16. A salvo that gives destination 1 source 17 first, and destination 0 a local source
 // behind it, is made as one: the tie that destination 0 gives up brings source 17. Made one by one the first would find
 // no tie.
-const TAKEN: (&str, &str) = (
+const TAKEN: &str =
     "> 0 10020210100000101005D91003\n> 0 100278101000011105065B1003\n> 0 100278101000000005066D1003\n\
-     > 0 1002790005037F1003\n",
-    "< 0 100610020410100000101005D71003\n< 0 100610027A10100001110506591003\n\
+     > 0 1002790005037F1003\n";
+
+const FILES: [(&str, &str); 3] = [("studio", STUDIO), ("shared", SHARED), ("taken", TAKEN)];
+
+// Runs over these files.
+const RUNS: [Run; 2] = [
+    (
+        &["replay", "studio", "shared"],
+        0,
+        "< 0 100610020410100000101005D71003\n< 0 1006100203101007017F05611003\n\
+     < 0 100610020410100001101005D61003\n",
+    ),
+    (
+        &["replay", "studio", "taken"],
+        0,
+        "< 0 100610020410100000101005D71003\n< 0 100610027A10100001110506591003\n\
      < 0 100610027A101000000005066B1003\n\
      < 0 100610027B0005037D1003100204101000000005E71003100204101000011105D51003\n",
-);
+    ),
+];
 
 #[test]
 fn a_tie_brings_one_source_at_a_time(rt: HostRuntime) -> Result<(), Fail> {
-    let alloc = rt.alloc();
-    for (script, output) in [SHARED, TAKEN] {
-        let texts = [("studio", STUDIO), ("script", script)];
-        let mut files = files_of(alloc, texts.as_slice())?;
-        let mut out = MemSink::new(alloc, 1000, Vec::new(alloc))?;
-        let words = owned(alloc, ["replay", "studio", "script"].as_slice())?;
-        assert_eq!(rt; run_quiet(alloc, &words, &mut files, &mut out), 0);
-        assert_eq!(rt; out.written(), output.as_bytes());
-    }
+    assert_eq!(rt; first_wrong(rt.alloc(), &FILES, &RUNS)?, None);
     Ok(())
 }

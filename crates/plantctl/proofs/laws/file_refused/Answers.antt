@@ -1,4 +1,4 @@
-use Rattle.plantctl.proofs.StatusesLemmas.{file_cause}
+use Rattle.plantctl.proofs.FileCauseLemmas.{file_cause}
 use Rattle.plantctl.proofs.AlwaysLemmas.{no_plant, no_script}
 use Rattle.plantctl.proofs.TracesLemmas.{no_trace}
 use Rattle.plantctl.proofs.laws.file_refused.Goals as goal
