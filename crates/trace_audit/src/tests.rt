@@ -1,9 +1,4 @@
 //! Traces.
 
 mod audits;
-mod histories;
 mod lines;
-mod requests;
-mod sessions;
-mod studio;
-mod texts;
