@@ -5,6 +5,5 @@ pub mod RoomLemmas
 pub mod ValidLemmas
 pub mod AppliedLemmas
 pub mod LawLemmas
-pub mod MadeLemmas
 pub mod Worked
 pub mod FreedLemmas

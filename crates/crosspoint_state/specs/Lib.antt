@@ -3,5 +3,4 @@ pub use Rattle.number_map.specs.Table
 pub mod Crosspoints
 pub mod Ties
 pub mod Applied
-pub mod CrosspointsInside
 pub mod Laws

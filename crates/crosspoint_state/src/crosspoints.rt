@@ -1,14 +1,13 @@
 //! The crosspoints of a plant.
 
-ghost use Rattle.std.specs.Prelude.{◌≡◌, ◌<◌, All, IfOk, length};
+ghost use Rattle.std.specs.Prelude.{◌≡◌, ◌<◌, IfOk};
 ghost use Rattle.std.specs.FinMap.{empty, get};
 ghost use Rattle.number_map.specs.Table.{put};
-ghost use Rattle.crosspoint_state.specs.Crosspoints.{source_of, is_idle, NamesOnce};
-ghost use Rattle.crosspoint_state.specs.CrosspointsInside.{spot_with, made_with, set_with};
+ghost use Rattle.crosspoint_state.specs.Crosspoints.{source_of, is_idle};
 
 use crate::spot::Spot;
 use number_map::NumberMap;
-use plant_config::{Change, DestId, SourceId, TieNo};
+use plant_config::{Change, DestId, SourceId};
 use std::alloc::{AllocError, Global};
 use std::marker::Model;
 
@@ -73,38 +72,4 @@ impl Crosspoints {
     {
         self.source_at(change.dest) == change.source
     }
-
-    /// Makes a list of changes, each with the tie beside it. A destination of an idle change keeps what it carries, its
-    /// tie too, and each other one is given its source by its tie. No other destination changes.
-    pub fn set_all(&mut self, changes: &[Change], ties: &[Option<TieNo>])
-        requires dests { All (λ change. change.dest < self.old.room) changes.now }
-        requires once { NamesOnce changes.now }
-        requires beside { length changes.now ≡ length ties.now }
-        ensures entries { self.new.entries ≡ set_with self.old.entries changes.now ties.now }
-        ensures room { self.new.room ≡ self.old.room }
-    {
-        for index in 0..changes.len() {
-            self.set_one(&changes[index], ties[index]);
-        }
-    }
-
-    // Makes one change.
-    fn set_one(&mut self, change: &Change, tie: Option<TieNo>)
-        requires { change.now.dest < self.old.room }
-        ensures entries { self.new.entries ≡ made_with self.old.entries change.now tie }
-        ensures room { self.new.room ≡ self.old.room }
-    {
-        if self.is_idle(change) {
-            return;
-        }
-        self.set(change.dest, spot_with(change.source, tie));
-    }
-}
-
-// What a destination carries that is given a source by a tie.
-fn spot_with(source: Option<SourceId>, tie: Option<TieNo>) -> Option<Spot>
-    ensures { result ≡ spot_with source tie }
-{
-    let source = source?;
-    Some(Spot { source, tie })
 }

@@ -1,34 +1,31 @@
 //! The crate in use.
 
-use crate::Crosspoints;
-use plant_config::{Change, DestId, SourceId};
+use crate::{Crosspoints, Spot};
+use plant_config::{Change, DestId, SourceId, TieNo};
 use std::test::Fail;
 
 #[test]
-fn changes_are_made_as_one(rt: HostRuntime) -> Result<(), Fail> {
+fn a_destination_carries_what_it_was_given(rt: HostRuntime) -> Result<(), Fail> {
     let mut crosspoints = Crosspoints::new(rt.alloc(), 8)?;
-    let (fourth, fifth) = (DestId::of(4), DestId::of(5));
-    let third = SourceId::of(3);
+    let (fourth, seventh) = (DestId::of(4), DestId::of(7));
+    let camera = SourceId::of(40);
     assert_eq!(rt; crosspoints.source_at(fourth), None);
 
-    let takes = [
-        Change {
-            dest: fourth,
-            source: Some(third),
-        },
-        Change {
-            dest: fifth,
-            source: Some(SourceId::of(7)),
-        },
-    ];
-    crosspoints.set_all(&takes, &[None, None]);
-    let parking = Change {
-        dest: fifth,
-        source: None,
+    let spot = Some(Spot {
+        source: camera,
+        tie: Some(TieNo::of(2)),
+    });
+    crosspoints.set(fourth, spot);
+    crosspoints.set(seventh, spot);
+    let again = Change {
+        dest: fourth,
+        source: Some(camera),
     };
-    crosspoints.set_all(&[parking], &[None]);
+    assert!(rt; crosspoints.is_idle(&again));
 
-    assert_eq!(rt; crosspoints.source_at(fourth), Some(third));
-    assert_eq!(rt; crosspoints.source_at(fifth), None);
+    crosspoints.set(fourth, None);
+    assert_eq!(rt; crosspoints.at(fourth), None);
+    assert_eq!(rt; crosspoints.at(seventh), spot);
+    assert_eq!(rt; crosspoints.source_at(seventh), Some(camera));
     Ok(())
 }

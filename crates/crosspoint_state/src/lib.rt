@@ -1,5 +1,5 @@
-//! What each destination carries: a source, and the tie that brings it there. Lists of changes are made as one, and an
-//! idle change does nothing. All memory is taken at the start, and no call looks at a destination that it isn't given.
+//! What each destination carries: a source, and the tie that brings it there. The definition `applied` makes a list of changes
+//! as one, and laws say what it does. All memory is taken at the start, and no call looks at a destination that it isn't given.
 #![tactic(auto)]
 
 mod crosspoints;
@@ -7,8 +7,6 @@ mod crosspoints;
 mod example;
 mod laws;
 mod spot;
-#[cfg(test)]
-mod tests;
 
 pub use crosspoints::Crosspoints;
 pub use laws::{
