@@ -1,15 +1,23 @@
--- How the tables are made: buses and devices from the last one to the first, so that the first of a number stays, and the
--- switches bus by bus.
-use Rattle.std.specs.Prelude.{◌≡◌, ℕ, ◌+◌, ◌-◌, ◌*◌, ◌≤◌, ◌==◌, nat_eq, Bool, false, List, map, filter, find, take, drop, length, slice_get, Option, Some, MatchOption}
+-- How the tables are made: numbers source by source, buses and devices from the last one to the first, so that the first of
+-- a number stays, and the switches bus by bus.
+use Rattle.std.specs.Prelude.{◌≡◌, ℕ, ◌+◌, ◌-◌, ◌*◌, ◌<◌, ◌≤◌, ◌==◌, nat_eq, Bool, false, List, map, filter, find, take, drop, length, slice_get, Option, Some, None, MatchOption}
 use Rattle.std.specs.List.{range_with_len, list_any}
 use Rattle.std.specs.Option.{option_and_then, option_eq}
 use Rattle.std.specs.Ordering.{nat_cmp}
 use Rattle.std.specs.FinMap.{FinMap, get}
 use Rattle.plant_config.specs.declared.records.Bus.{Bus}
 use Rattle.plant_config.specs.Plant.{PlantData}
+use Rattle.plant_config.specs.Sites.{source_number_of}
 use Rattle.mixer_effects.specs.declared.span.Span.{Span}
 use Rattle.mixer_effects.specs.Buses.{output_of, switched_at}
 use Rattle.mixer_effects.specs.Wiring.{part_at}
+
+-- Each source below this number has its number in its level, and no other one has any.
+pub record HaveNumbersBelow (plant : PlantData) (number : ℕ) (by_source : FinMap nat_cmp ℕ)
+    : Type 0 where
+  pub below : (source : ℕ) → source < number
+      → get by_source source ≡ source_number_of plant source
+  pub past : (source : ℕ) → number ≤ source → get by_source source ≡ None
 
 -- Each destination has the first bus that it is, of those from this number on.
 abbrev pub HaveBusesFrom : PlantData → ℕ → FinMap nat_cmp ℕ → Type 0

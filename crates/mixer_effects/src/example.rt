@@ -35,11 +35,7 @@ fn a_bus_is_on_by_its_switch(rt: HostRuntime) -> Result<(), Fail> {
             tie: None,
         }),
     );
-    let graph = Graph {
-        plant: &plant,
-        mixers: &mixers,
-        points: &points,
-    };
+    let graph = Graph::new(&mixers, &points);
 
     let mixer = graph.fed_device(SourceId::of(1));
     assert_eq!(rt; mixer, Some(DeviceId::of(0)));

@@ -1,5 +1,5 @@
 //! Devices and their buses. A bus is a destination, and is on by itself or by the destination that switches it. All tables are
-//! made at the opening, and no call of a graph looks at a bus or a device that it isn't asked for.
+//! made at the opening, and a graph is the only door to them: no call looks at a bus or a device that it isn't asked for.
 #![tactic(auto)]
 
 #[cfg(test)]
@@ -11,7 +11,7 @@ mod span;
 #[cfg(test)]
 mod tests;
 
-pub use graph::{Graph, is_bus_on};
+pub use graph::Graph;
 pub use laws::{
     a_cut_switch_cuts_its_bus, cut_sources_are_dark, live_is_least, sources_at_roots_are_seen,
 };

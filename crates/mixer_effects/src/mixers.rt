@@ -1,21 +1,28 @@
-//! The buses and devices of a plant, by tables.
+//! The buses and devices of a plant, and the tables by which they are found.
 
 ghost use Rattle.std.specs.Prelude.{◌≡◌, ◌+◌, ◌<◌, ◌++◌, length, slice_get, IfOk, OnOk};
 ghost use Rattle.std.specs.FinMap.{get};
-ghost use Rattle.plant_config.specs.Plant.{destinations_of};
-ghost use Rattle.mixer_effects.specs.Wiring.{IsWiringOf, switched_in};
-ghost use Rattle.mixer_effects.specs.WiringInside.{HaveBusesFrom, HaveDevicesFrom};
+ghost use Rattle.plant_config.specs.Plant.{destinations_of, sources_of};
+ghost use Rattle.mixer_effects.specs.Wiring.{IsWiringOf, bus_in, switched_in, is_on_by};
+ghost use Rattle.mixer_effects.specs.WiringInside.{HaveNumbersBelow, HaveBusesFrom};
+ghost use Rattle.mixer_effects.specs.WiringInside.{HaveDevicesFrom};
 ghost use Rattle.mixer_effects.specs.WiringInside.{AreSpansBelow, switched_among};
 
 use crate::span::Span;
 use number_map::NumberMap;
-use plant_config::{Bus, BusId, DestId, DeviceId, Plant, SourceId};
+use plant_config::{Bus, BusId, DestId, Device, DeviceId, Plant, SourceId};
 use std::alloc::{AllocError, Global};
 use std::marker::Model;
 
-/// By which tables the buses and devices of a plant are found.
+/// The buses and devices of a plant, and by which tables they are found. Only a graph reads them.
 #[derive(Debug, Drop)]
 pub struct Mixers {
+    /// The devices.
+    devices: Vec<Device>,
+    /// The buses.
+    buses: Vec<Bus>,
+    /// By source, its number in its level.
+    number_by_source: NumberMap<u16>,
     /// By destination, the bus that it is.
     bus_by_dest: NumberMap<BusId>,
     /// By source, the device whose output it is.
@@ -34,6 +41,9 @@ impl Model for Mixers {
     ghost coded = { code };
 
     ghost view = { λ mixers. record {
+      devices = mixers.devices.items;
+      buses = mixers.buses.items;
+      number_by_source = mixers.number_by_source.entries;
       bus_by_dest = mixers.bus_by_dest.entries;
       device_by_output = mixers.device_by_output.entries;
       span_by_switch = mixers.span_by_switch.entries;
@@ -46,6 +56,9 @@ impl Mixers {
     pub fn new(alloc: Global, plant: &Plant) -> Result<Mixers, AllocError>
         ensures { IfOk result (IsWiringOf plant.now) }
     {
+        let devices = plant.devices().to_vec(alloc)?;
+        let buses = plant.buses().to_vec(alloc)?;
+        let number_by_source = numbers_by_source(alloc, plant)?;
         let bus_by_dest = buses_by_dest(alloc, plant)?;
         let device_by_output = devices_by_output(alloc, plant)?;
         let mut span_by_switch = NumberMap::new(alloc, plant.destination_count() as usize)?;
@@ -54,6 +67,9 @@ impl Mixers {
             put_switch(plant, number, &mut span_by_switch, &mut switched)?;
         }
         Ok(Mixers {
+            devices,
+            buses,
+            number_by_source,
             bus_by_dest,
             device_by_output,
             span_by_switch,
@@ -61,18 +77,43 @@ impl Mixers {
         })
     }
 
-    // The bus that a destination is.
-    pub(crate) fn bus(&self, dest: DestId) -> Option<BusId>
-        ensures { result ≡ get self.now.bus_by_dest dest }
+    // A device by its number.
+    pub(crate) fn device(&self, device: DeviceId) -> Option<Device>
+        ensures { result ≡ slice_get self.now.devices device }
     {
-        self.bus_by_dest.get(dest.get())
+        self.devices.get(device.get() as usize).copied()
+    }
+
+    // A bus by its number.
+    pub(crate) fn bus(&self, number: usize) -> Option<Bus>
+        ensures { result ≡ slice_get self.now.buses number }
+    {
+        self.buses.get(number).copied()
+    }
+
+    // The bus that a destination is.
+    pub(crate) fn bus_at(&self, dest: DestId) -> Option<Bus>
+        ensures { result ≡ bus_in self.now dest }
+    {
+        let number = self.bus_by_dest.get(dest.get())?;
+        self.bus(number.get() as usize)
     }
 
     // The device whose output a source is.
-    pub(crate) fn device(&self, source: SourceId) -> Option<DeviceId>
+    pub(crate) fn fed_device(&self, source: SourceId) -> Option<DeviceId>
         ensures { result ≡ get self.now.device_by_output source }
     {
         self.device_by_output.get(source.get())
+    }
+
+    // Whether a switch is on that carries this source. It is off by one that the plant hasn't.
+    pub(crate) fn is_on_by(&self, source: SourceId) -> bool
+        ensures { result ≡ is_on_by self.now source }
+    {
+        match self.number_by_source.get(source.get()) {
+            Some(number) => number != 0,
+            None => false,
+        }
     }
 
     // The bus of this place among those that a destination switches.
@@ -86,6 +127,20 @@ impl Mixers {
         let number = span.first as usize + place as usize;
         self.switched.get(number).copied()
     }
+}
+
+// The number of each source in its level.
+fn numbers_by_source(alloc: Global, plant: &Plant) -> Result<NumberMap<u16>, AllocError>
+    ensures { IfOk result (λ by_source.
+        HaveNumbersBelow plant.now (sources_of plant.now) by_source.entries) }
+{
+    let sources = plant.source_count();
+    let mut by_source = NumberMap::new(alloc, sources as usize)?;
+    for number in 0..sources {
+        let source = SourceId::of(number);
+        by_source.set(number, Some(plant.source_number(source)));
+    }
+    Ok(by_source)
 }
 
 // The bus that each destination is.

@@ -20,8 +20,8 @@ use Rattle.mixer_effects.specs.Live.{carries, is_fed_by, buses_behind, reach, li
 use Rattle.mixer_effects.specs.Laws.{LiveIsLeast}
 use Rattle.tally.specs.declared.roots.Roots.{Roots}
 use Rattle.tally.specs.declared.roots.Roots.TheVariants.{Air, Preview}
-use Rattle.tally.specs.Tally.{Origins, Tallies, roots_of, origins_at, seen_origins, tallies_of}
-use Rattle.tally.specs.TallyInside.{feeds, is_fed_bus, is_root, seen_at}
+use Rattle.tally.specs.Tally.{Origins, Tallies, roots_of, AreSeen, IsTallyOf}
+use Rattle.tally.specs.TallyInside.{origins_at, seen_origins, feeds, is_fed_bus, is_root, seen_at}
 use Rattle.tally.proofs.Searches.{any_agrees, any_never, any_kept, passing, any_stands, found_stands, any_found}
 use Rattle.tally.proofs.SetLemmas.{same_origins, contains-origins_at}
 use Rattle.tally.proofs.RoundLemmas.{feeds-origins_at, seen_is}
@@ -36,30 +36,38 @@ seen_parked plant roots =
     ∙ any_never (live plant finite.empty roots)
     ∙ sym (contains-empty nat_cmp origin))
 
-pub tallies_parked : (plant : PlantData) (air preview : Origins) → air ≡ empty → preview ≡ empty → record { air = air; preview = preview } ≡ tallies_of plant finite.empty
-tallies_parked plant air preview first second =
-    ap₂ (λ (air preview : Origins). let both : Tallies = record { air = air; preview = preview } in both)
-    (first ∙ sym (seen_parked plant plant.air)) (second ∙ sym (seen_parked plant plant.preview))
-
--- the set of these roots
-pub seen_at_roots : (plant : PlantData) (points : Crosspoints) (tally : Tallies) (roots : Roots) → tally ≡ tallies_of plant points → seen_at tally roots ≡ seen_origins plant points (roots_of plant roots)
-seen_at_roots plant points tally Air found = ap (λ (tally : Tallies). tally.air) found
-seen_at_roots plant points tally Preview found = ap (λ (tally : Tallies). tally.preview) found
-
 contains-seen : (plant : PlantData) (points : Crosspoints) (roots : List ℕ) (origin : ℕ) → contains (seen_origins plant points roots) origin ≡ is_origin_seen plant points roots origin
 contains-seen plant points roots origin =
     ap (λ (set : Origins). contains set origin) (seen_is plant points roots)
     ∙ contains-origins_at plant points (live plant points roots) origin
 
+-- a set is what is seen exactly where its members are the origins that are seen
+pub are_seen : (plant : PlantData) (points : Crosspoints) (roots : List ℕ) (set : Origins) → set ≡ seen_origins plant points roots → AreSeen plant points roots set
+are_seen plant points roots set is = λ origin. ap (λ (set : Origins). contains set origin) is ∙ contains-seen plant points roots origin
+
+seen_set : (plant : PlantData) (points : Crosspoints) (roots : List ℕ) (set : Origins) → AreSeen plant points roots set → set ≡ seen_origins plant points roots
+seen_set plant points roots set are = same_origins set (seen_origins plant points roots) (λ origin. are origin ∙ sym (contains-seen plant points roots origin))
+
+pub none_is_seen : (plant : PlantData) (air preview : Origins) → air ≡ empty → preview ≡ empty → IsTallyOf plant finite.empty (record { air = air; preview = preview })
+none_is_seen plant air preview first second = record {
+  air = are_seen plant finite.empty plant.air air (first ∙ sym (seen_parked plant plant.air));
+  preview = are_seen plant finite.empty plant.preview preview (second ∙ sym (seen_parked plant plant.preview));
+}
+
+-- the set of these roots
+pub seen_at_roots : (plant : PlantData) (points : Crosspoints) (tally : Tallies) (roots : Roots) → IsTallyOf plant points tally → seen_at tally roots ≡ seen_origins plant points (roots_of plant roots)
+seen_at_roots plant points tally Air found = seen_set plant points plant.air tally.air found.air
+seen_at_roots plant points tally Preview found = seen_set plant points plant.preview tally.preview found.preview
+
 -- whether a source is seen
-pub seen_answer : (plant : PlantData) (points : Crosspoints) (tally : Tallies) (roots : Roots) (source origin : ℕ) → tally ≡ tallies_of plant points → origin_of plant source ≡ Some origin → contains (seen_at tally roots) origin ≡ is_seen plant points (roots_of plant roots) source
+pub seen_answer : (plant : PlantData) (points : Crosspoints) (tally : Tallies) (roots : Roots) (source origin : ℕ) → IsTallyOf plant points tally → origin_of plant source ≡ Some origin → contains (seen_at tally roots) origin ≡ is_seen plant points (roots_of plant roots) source
 seen_answer plant points tally roots source origin found stands =
     ap (λ (set : Origins). contains set origin) (seen_at_roots plant points tally roots found)
     ∙ contains-seen plant points (roots_of plant roots) origin
     ∙ ap (λ o. option_map_or (is_origin_seen plant points (roots_of plant roots)) o false) (sym stands)
 
 -- a bus of a plant is what is found at its destination
-bus_found : (plant : PlantData) (place : ℕ) (bus : Bus) → IsPlant plant → slice_get plant.buses place ≡ Some bus → bus_at plant bus.dest ≡ Some bus
+pub bus_found : (plant : PlantData) (place : ℕ) (bus : Bus) → IsPlant plant → slice_get plant.buses place ≡ Some bus → bus_at plant bus.dest ≡ Some bus
 bus_found plant place bus is stands =
     let first = any_found (λ (other : Bus). other.dest == bus.dest) plant.buses (any_stands (λ (other : Bus). other.dest == bus.dest) plant.buses place bus stands (eq-eqb bus.dest bus.dest refl)) in
     let at = found_stands (λ (other : Bus). other.dest == bus.dest) plant.buses first.0 first.1 in
@@ -144,7 +152,7 @@ module _ (plant : PlantData) (points : Crosspoints) (roots : List ℕ) where
       (bus_live least dest (bus_at plant dest) refl)
 
 -- whether a destination is live
-pub live_answer : (plant : PlantData) (points : Crosspoints) (tally : Tallies) (roots : Roots) (dest : ℕ) → IsPlant plant → LiveIsLeast plant points (roots_of plant roots) → tally ≡ tallies_of plant points → (is_root (roots_of plant roots) dest || is_fed_bus plant points (seen_at tally roots) dest) ≡ is_live plant points (roots_of plant roots) dest
+pub live_answer : (plant : PlantData) (points : Crosspoints) (tally : Tallies) (roots : Roots) (dest : ℕ) → IsPlant plant → LiveIsLeast plant points (roots_of plant roots) → IsTallyOf plant points tally → (is_root (roots_of plant roots) dest || is_fed_bus plant points (seen_at tally roots) dest) ≡ is_live plant points (roots_of plant roots) dest
 live_answer plant points tally roots dest is least found =
     ap (λ (set : Origins). is_root (roots_of plant roots) dest || is_fed_bus plant points set dest) (seen_at_roots plant points tally roots found)
     ∙ live_is plant points (roots_of plant roots) is least dest

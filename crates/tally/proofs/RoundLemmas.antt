@@ -15,8 +15,8 @@ use Rattle.plant_config.specs.IsPlant.{IsPlant, IsBus}
 use Rattle.crosspoint_state.specs.Crosspoints.{Crosspoints}
 use Rattle.mixer_effects.specs.Buses.{is_bus_on, output_of}
 use Rattle.mixer_effects.specs.Live.{carries, is_fed_by, buses_behind, reach, live}
-use Rattle.tally.specs.Tally.{Origins, origins_at, seen_origins}
-use Rattle.tally.specs.TallyInside.{Adds, any_carries, any_brings, feeds, bus_carries}
+use Rattle.tally.specs.Tally.{Origins}
+use Rattle.tally.specs.TallyInside.{origins_at, seen_origins, Adds, any_carries, any_brings, feeds, bus_carries}
 use Rattle.tally.proofs.Searches.{any_agrees, any_never, any_kept}
 use Rattle.tally.proofs.SetLemmas.{adds_once, contains-origins_at}
 

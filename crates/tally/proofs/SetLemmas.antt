@@ -7,8 +7,8 @@ use Rattle.std.specs.FinSet.{empty, contains, insert, contains-empty, contains-i
 use Rattle.plant_config.specs.Plant.{PlantData}
 use Rattle.crosspoint_state.specs.Crosspoints.{Crosspoints}
 use Rattle.mixer_effects.specs.Live.{origin_at, carries}
-use Rattle.tally.specs.Tally.{Origins, origins_at}
-use Rattle.tally.specs.TallyInside.{Adds, any_carries}
+use Rattle.tally.specs.Tally.{Origins}
+use Rattle.tally.specs.TallyInside.{origins_at, Adds, any_carries}
 use Rattle.tally.proofs.Searches.{any_had}
 
 -- sets with the same members are the same

@@ -1,16 +1,25 @@
 -- How a set of origins grows to those that are seen, and by which sets a destination is live.
-use Rattle.std.specs.Prelude.{◌≡◌, ℕ, ◌==◌, Bool, false, ◌&&◌, ◌||◌, List}
+use Rattle.std.specs.Prelude.{◌≡◌, ℕ, ◌==◌, Bool, false, ◌&&◌, ◌||◌, List, filter_map}
 use Rattle.std.specs.List.{list_any}
 use Rattle.std.specs.Option.{option_map_or}
-use Rattle.std.specs.FinSet.{contains}
+use Rattle.std.specs.FinSet.{contains, from_list}
 use Rattle.plant_config.specs.declared.records.Bus.{Bus}
 use Rattle.plant_config.specs.Plant.{PlantData}
 use Rattle.crosspoint_state.specs.Crosspoints.{Crosspoints}
 use Rattle.mixer_effects.specs.Buses.{is_bus_on, bus_at, output_of}
-use Rattle.mixer_effects.specs.Live.{carries}
+use Rattle.mixer_effects.specs.Live.{origin_at, carries, live}
 use Rattle.tally.specs.declared.roots.Roots.{Roots}
 use Rattle.tally.specs.declared.roots.Roots.TheVariants.{Air, Preview}
 use Rattle.tally.specs.Tally.{Origins, Tallies}
+
+-- the local sources whose pictures these destinations carry
+abbrev pub origins_at : PlantData → Crosspoints → List ℕ → Origins
+origins_at plant crosspoints dests = from_list (filter_map (origin_at plant crosspoints) dests)
+
+-- the local sources whose pictures are seen at roots
+unfoldable pub seen_origins : PlantData → Crosspoints → List ℕ → Origins
+seen_origins plant crosspoints roots =
+    origins_at plant crosspoints (live plant crosspoints roots)
 
 -- A set has what it had, and the origins of which this is true.
 abbrev pub Adds : (ℕ → Bool) → Origins → Origins → Type 0

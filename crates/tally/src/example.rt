@@ -43,19 +43,15 @@ fn a_camera_is_on_air_through_a_mixer(rt: HostRuntime) -> Result<(), Fail> {
     let (camera, mixer) = (SourceId::of(1), SourceId::of(2));
 
     give(&plant, &mut points, bus, camera);
-    tally.find(&plant, &points);
+    tally.find(&plant, &Graph::new(&mixers, &points));
     assert!(rt; !tally.is_seen(&plant, Roots::Air, camera));
 
     give(&plant, &mut points, program, mixer);
-    tally.find(&plant, &points);
+    let graph = Graph::new(&mixers, &points);
+    tally.find(&plant, &graph);
     assert!(rt; tally.is_seen(&plant, Roots::Air, camera));
     assert!(rt; tally.is_seen(&plant, Roots::Air, mixer));
-    let graph = Graph {
-        plant: &plant,
-        mixers: &mixers,
-        points: &points,
-    };
-    assert!(rt; tally.is_live(&graph, Roots::Air, bus));
-    assert!(rt; !tally.is_live(&graph, Roots::Preview, bus));
+    assert!(rt; tally.is_live(&plant, &graph, Roots::Air, bus));
+    assert!(rt; !tally.is_live(&plant, &graph, Roots::Preview, bus));
     Ok(())
 }

@@ -7,12 +7,11 @@ ghost use Rattle.plant_config.specs.IsPlant.{IsPlant};
 ghost use Rattle.crosspoint_state.specs.Crosspoints as carried;
 ghost use Rattle.mixer_effects.specs.Live.{is_live, is_seen};
 ghost use Rattle.mixer_effects.specs.Wiring.{IsWiringOf};
-ghost use Rattle.tally.specs.Tally.{tallies_of, roots_of, CarrySources};
+ghost use Rattle.tally.specs.Tally.{IsTallyOf, roots_of, CarrySources};
 ghost use Rattle.tally.specs.TallyInside.{feeds, seen_at, is_fed_bus};
 
 use crate::roots::Roots;
 use crate::rounds::find_seen;
-use crosspoint_state::Crosspoints;
 use mixer_effects::{Graph, live_is_least};
 use number_set::NumberSet;
 use plant_config::{DestId, DeviceId, Plant, SourceId};
@@ -41,7 +40,7 @@ impl Model for Tally {
 impl Tally {
     /// The tally of a plant of which all destinations are parked.
     pub fn new(alloc: Global, plant: &Plant) -> Result<Tally, AllocError>
-        ensures { IfOk result (λ tally. tally ≡ tallies_of plant.now empty) }
+        ensures { IfOk result (IsTallyOf plant.now empty) }
     {
         let air = NumberSet::new(alloc)?;
         let preview = NumberSet::new(alloc)?;
@@ -50,18 +49,19 @@ impl Tally {
 
     /// Finds the tally anew, from what the destinations carry.
     #[inline]
-    pub fn find(&mut self, plant: &Plant, points: &Crosspoints)
-        requires { CarrySources plant.now points.now.entries }
-        ensures { self.new ≡ tallies_of plant.now points.now.entries }
+    pub fn find(&mut self, plant: &Plant, graph: &Graph<'_>)
+        requires wired { IsWiringOf plant.now graph.now.wiring }
+        requires carried { CarrySources plant.now graph.now.crosspoints }
+        ensures { IsTallyOf plant.now graph.now.crosspoints self.new }
     {
-        find_seen(plant, points, plant.air(), &mut self.air);
-        find_seen(plant, points, plant.preview(), &mut self.preview);
+        find_seen(plant, graph, plant.air(), &mut self.air);
+        find_seen(plant, graph, plant.preview(), &mut self.preview);
     }
 
     /// Whether a source is seen at the air roots, or at the preview roots, with the crosspoints from which the tally was found.
     pub fn is_seen(&self, plant: &Plant, roots: Roots, source: SourceId) -> bool
         requires { source < sources_of plant.now }
-        ensures { (points : carried.Crosspoints) → self.now ≡ tallies_of plant.now points
+        ensures { (points : carried.Crosspoints) → IsTallyOf plant.now points self.now
             → result ≡ is_seen plant.now points (roots_of plant.now roots) source }
     {
         // So it is known that the plant is within its limits.
@@ -70,29 +70,26 @@ impl Tally {
     }
 
     /// Whether a destination is live for the air roots, or for the preview roots.
-    pub fn is_live(&self, graph: &Graph<'_>, roots: Roots, dest: DestId) -> bool
-        requires wired { IsWiringOf graph.now.plant.now graph.now.mixers.now }
-        requires found { self.now ≡ tallies_of graph.now.plant.now graph.now.points.now.entries }
-        ensures { result ≡ is_live graph.now.plant.now graph.now.points.now.entries
-            (roots_of graph.now.plant.now roots) dest }
+    pub fn is_live(&self, plant: &Plant, graph: &Graph<'_>, roots: Roots, dest: DestId) -> bool
+        requires wired { IsWiringOf plant.now graph.now.wiring }
+        requires found { IsTallyOf plant.now graph.now.crosspoints self.now }
+        ensures { result ≡ is_live plant.now graph.now.crosspoints
+            (roots_of plant.now roots) dest }
     {
         live_is_least();
-        // So it is known that the plant is within its limits.
-        let _sources = graph.plant.source_count();
-        roots.has(graph.plant, dest) || self.is_fed_bus(graph, roots, dest)
+        roots.has(plant, dest) || self.is_fed_bus(plant, graph, roots, dest)
     }
 
     // Whether a destination is a bus that is on, of a device that puts out a source that is seen.
-    fn is_fed_bus(&self, graph: &Graph<'_>, roots: Roots, dest: DestId) -> bool
-        requires wired { IsWiringOf graph.now.plant.now graph.now.mixers.now }
-        requires plant { IsPlant graph.now.plant.now }
-        ensures { result ≡ is_fed_bus graph.now.plant.now graph.now.points.now.entries
+    fn is_fed_bus(&self, plant: &Plant, graph: &Graph<'_>, roots: Roots, dest: DestId) -> bool
+        requires wired { IsWiringOf plant.now graph.now.wiring }
+        ensures { result ≡ is_fed_bus plant.now graph.now.crosspoints
             (seen_at self.now roots) dest }
     {
         let Some(device) = graph.device_of(dest) else {
             return false;
         };
-        graph.is_on(dest) && self.feeds(graph.plant, roots, device)
+        graph.is_on(dest) && self.feeds(plant, roots, device)
     }
 
     // Whether a device puts out a source that is seen.

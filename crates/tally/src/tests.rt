@@ -3,7 +3,7 @@
 ghost use Rattle.std.specs.Prelude.{◌≡◌, IfOk};
 ghost use Rattle.plant_config.specs.Plant.{destinations_of};
 ghost use Rattle.mixer_effects.specs.Wiring.{IsWiringOf};
-ghost use Rattle.tally.specs.Tally.{tallies_of, CarrySources};
+ghost use Rattle.tally.specs.Tally.{IsTallyOf, CarrySources};
 
 use crate::{Roots, Tally};
 use crosspoint_state::{Crosspoints, Spot};
@@ -74,114 +74,109 @@ fn carried(
     Ok(points)
 }
 
-// Finds the tally from what destinations carry, and lists the sources that are seen.
-fn seen(
-    rt: &impl Abort,
+// What destinations carry, and for some roots the sources that are seen then and the destinations that are live.
+struct Row {
+    given: &'static [(u32, u32)],
+    roots: Roots,
+    seen: &'static [u32],
+    live: &'static [u32],
+}
+
+const ROWS: [Row; 8] = [
+    // Three mixers stand one behind the other, and a camera behind these. A root is live whatever it carries.
+    Row {
+        given: &[(0, 6), (5, 5), (4, 4), (2, 1), (6, 8)],
+        roots: Roots::Air,
+        seen: &[1, 4, 5, 6, 10, 11],
+        live: &[0, 2, 3, 4, 5, 7],
+    },
+    // The bus of the second one is off, as it is where its switch is parked.
+    Row {
+        given: &[(0, 6), (5, 5), (4, 4), (2, 1), (6, 7)],
+        roots: Roots::Air,
+        seen: &[5, 6],
+        live: &[0, 5, 7],
+    },
+    Row {
+        given: &[(0, 6), (5, 5), (4, 4), (2, 1)],
+        roots: Roots::Air,
+        seen: &[5, 6],
+        live: &[0, 5, 7],
+    },
+    // Two mixers carry each other, on air and then cut from it.
+    Row {
+        given: &[(0, 4), (2, 1), (3, 5), (4, 4), (6, 8)],
+        roots: Roots::Air,
+        seen: &[1, 4, 5, 10, 11],
+        live: &[0, 2, 3, 4, 7],
+    },
+    Row {
+        given: &[(0, 0), (2, 1), (3, 5), (4, 4), (6, 8)],
+        roots: Roots::Air,
+        seen: &[0],
+        live: &[0, 7],
+    },
+    // A remote source is seen with all of its origin, and another one of its level by itself.
+    Row {
+        given: &[(7, 11)],
+        roots: Roots::Air,
+        seen: &[1, 10, 11],
+        live: &[0, 7],
+    },
+    Row {
+        given: &[(7, 9)],
+        roots: Roots::Air,
+        seen: &[9],
+        live: &[0, 7],
+    },
+    // A camera is on air, and a mixer with another one on preview.
+    Row {
+        given: &[(0, 1), (1, 4), (3, 2)],
+        roots: Roots::Preview,
+        seen: &[2, 4],
+        live: &[1, 2, 3],
+    },
+];
+
+// The sources that are seen, and the destinations that are live.
+fn shown(
     alloc: Global,
     plant: &Plant,
-    tally: &mut Tally,
-    given: &[(u32, u32)],
+    graph: &Graph<'_>,
+    tally: &Tally,
     roots: Roots,
-) -> Result<Vec<u32>, AllocError> {
-    let points = carried(rt, alloc, plant, given)?;
-    tally.find(plant, &points);
+) -> Result<(Vec<u32>, Vec<u32>), AllocError>
+    requires wired { IsWiringOf plant.now graph.now.wiring }
+    requires found { IsTallyOf plant.now graph.now.crosspoints tally.now }
+{
     let mut seen = Vec::new(alloc);
     for number in 0..plant.source_count() {
         if tally.is_seen(plant, roots, SourceId::of(number)) {
             seen.push(number)?;
         }
     }
-    Ok(seen)
-}
-
-// The destinations that are live.
-fn live(
-    alloc: Global,
-    graph: &Graph<'_>,
-    tally: &Tally,
-    roots: Roots,
-) -> Result<Vec<u32>, AllocError>
-    requires wired { IsWiringOf graph.now.plant.now graph.now.mixers.now }
-    requires found { tally.now ≡ tallies_of graph.now.plant.now graph.now.points.now.entries }
-{
     let mut live = Vec::new(alloc);
-    for number in 0..graph.plant.destination_count() {
-        if tally.is_live(graph, roots, DestId::of(number)) {
+    for number in 0..plant.destination_count() {
+        if tally.is_live(plant, graph, roots, DestId::of(number)) {
             live.push(number)?;
         }
     }
-    Ok(live)
+    Ok((seen, live))
 }
 
 #[test]
-fn sources_are_seen_through_mixers(rt: HostRuntime) -> Result<(), Fail> {
+fn tallies_are_as_worked(rt: HostRuntime) -> Result<(), Fail> {
     let plant = Plant::from_toml(rt.alloc(), PLANT)?;
+    let mixers = Mixers::new(rt.alloc(), &plant)?;
+    // One tally for all rows: nothing is kept of the one before.
     let mut tally = Tally::new(rt.alloc(), &plant)?;
-    // Three mixers stand one behind the other.
-    let given = [(0, 6), (5, 5), (4, 4), (2, 1), (6, 8)];
-    let air = seen(&rt, rt.alloc(), &plant, &mut tally, &given, Roots::Air)?;
-    assert_eq!(rt; air.as_slice(), [1, 4, 5, 6, 10, 11].as_slice());
-    // The bus of the second one is off, as it is where its switch is parked.
-    let off = [(0, 6), (5, 5), (4, 4), (2, 1), (6, 7)];
-    for given in [off.as_slice(), &off[..4]] {
-        let air = seen(&rt, rt.alloc(), &plant, &mut tally, given, Roots::Air)?;
-        assert_eq!(rt; air.as_slice(), [5, 6].as_slice());
+    for row in &ROWS {
+        let points = carried(&rt, rt.alloc(), &plant, row.given)?;
+        let graph = Graph::new(&mixers, &points);
+        tally.find(&plant, &graph);
+        let (seen, live) = shown(rt.alloc(), &plant, &graph, &tally, row.roots)?;
+        assert_eq!(rt; seen.as_slice(), row.seen);
+        assert_eq!(rt; live.as_slice(), row.live);
     }
-    Ok(())
-}
-
-#[test]
-fn a_remote_source_at_a_root_is_seen_with_all_of_its_origin(rt: HostRuntime) -> Result<(), Fail> {
-    let plant = Plant::from_toml(rt.alloc(), PLANT)?;
-    let mut tally = Tally::new(rt.alloc(), &plant)?;
-    let air = seen(&rt, rt.alloc(), &plant, &mut tally, &[(7, 11)], Roots::Air)?;
-    assert_eq!(rt; air.as_slice(), [1, 10, 11].as_slice());
-    let own = seen(&rt, rt.alloc(), &plant, &mut tally, &[(7, 9)], Roots::Air)?;
-    assert_eq!(rt; own.as_slice(), [9].as_slice());
-    Ok(())
-}
-
-#[test]
-fn air_and_preview_have_their_own_roots(rt: HostRuntime) -> Result<(), Fail> {
-    let plant = Plant::from_toml(rt.alloc(), PLANT)?;
-    let mut tally = Tally::new(rt.alloc(), &plant)?;
-    // A camera is on air, and a mixer with another one on preview.
-    let given = [(0, 1), (1, 4), (3, 2)];
-    let air = seen(&rt, rt.alloc(), &plant, &mut tally, &given, Roots::Air)?;
-    assert_eq!(rt; air.as_slice(), [1, 10, 11].as_slice());
-    let preview = seen(&rt, rt.alloc(), &plant, &mut tally, &given, Roots::Preview)?;
-    assert_eq!(rt; preview.as_slice(), [2, 4].as_slice());
-    Ok(())
-}
-
-// Finds the tally where two mixers carry each other and the program carries this source, and lists the live destinations.
-fn live_with(
-    rt: &impl Abort,
-    alloc: Global,
-    plant: &Plant,
-    tally: &mut Tally,
-    program: u32,
-) -> Result<Vec<u32>, AllocError> {
-    let mixers = Mixers::new(alloc, plant)?;
-    let given = [(0, program), (2, 1), (3, 5), (4, 4), (6, 8)];
-    let points = carried(rt, alloc, plant, &given)?;
-    tally.find(plant, &points);
-    let graph = Graph {
-        plant,
-        mixers: &mixers,
-        points: &points,
-    };
-    live(alloc, &graph, tally, Roots::Air)
-}
-
-#[test]
-fn a_loop_is_live_until_it_is_cut_from_air(rt: HostRuntime) -> Result<(), Fail> {
-    let plant = Plant::from_toml(rt.alloc(), PLANT)?;
-    let mut tally = Tally::new(rt.alloc(), &plant)?;
-    // A root is live whatever it carries.
-    let on_air = live_with(&rt, rt.alloc(), &plant, &mut tally, 4)?;
-    assert_eq!(rt; on_air.as_slice(), [0, 2, 3, 4, 7].as_slice());
-    let cut = live_with(&rt, rt.alloc(), &plant, &mut tally, 0)?;
-    assert_eq!(rt; cut.as_slice(), [0, 7].as_slice());
     Ok(())
 }

@@ -7,5 +7,5 @@ use Rattle.tally.proofs.rounds.put_roots.Goals as goal
 
 pub returns : goal.returns
 returns c =
-    puts_origins_at c.args.plant.now c.args.points.now.entries c.args.roots.now c.loop-root.seen
-    (subst (λ (roots : List ℕ). Adds (any_carries c.args.plant.now c.args.points.now.entries roots) empty c.loop-root.seen) (take_all c.loop-root.root-index c.args.roots.now c.loop-root-test.false) c.loop-root.invariant)
+    puts_origins_at c.args.plant.now c.args.graph.now.crosspoints c.args.roots.now c.loop-root.seen
+    (subst (λ (roots : List ℕ). Adds (any_carries c.args.plant.now c.args.graph.now.crosspoints roots) empty c.loop-root.seen) (take_all c.loop-root.root-index c.args.roots.now c.loop-root-test.false) c.loop-root.invariant)
