@@ -10,7 +10,7 @@ use Rattle.change_boards.specs.Board.{Board}
 use Rattle.change_boards.specs.Screens.{AreScreensOf}
 use Rattle.change_boards.specs.Shown.{Shown}
 use Rattle.mixer_effects.specs.Wiring.{IsWiringOf}
-use Rattle.tally.specs.Tally.{tallies_of}
+use Rattle.tally.specs.Tally.{IsTallyOf}
 use Rattle.plant_core.specs.declared.tables.Tables.{Tables}
 use Rattle.plant_core.specs.State.{State, IsValid}
 
@@ -31,7 +31,7 @@ pub record AreTablesOf (plant : PlantData) (crosspoints : Crosspoints) (tables :
     : Type 0 where
   pub counted : AreCountsOf plant crosspoints tables.ties
   pub wired : IsWiringOf plant tables.mixers
-  pub tallied : tables.tally ≡ tallies_of plant crosspoints
+  pub tallied : IsTallyOf plant crosspoints tables.tally
   pub screened : AreScreensOf plant tables.screens
 
 -- There is room for what each destination of a plant carries, and for who protects it.

@@ -5,7 +5,7 @@ ghost use Rattle.std.specs.Prelude.{[], ◌∷◌, ◌++◌, length};
 ghost use Rattle.std.specs.List.{IsDistinct, list_any, range_with_len};
 ghost use Rattle.change_boards.specs.Screens.{has_screen};
 ghost use Rattle.change_boards.specs.Shown.{differs as is_news, with_shown};
-ghost use Rattle.tally.specs.Tally.{tallies_of, CarrySources};
+ghost use Rattle.tally.specs.Tally.{IsTallyOf, CarrySources};
 ghost use Rattle.plant_core.specs.declared.answer.Answer.TheVariants.{Lamp};
 ghost use Rattle.plant_core.specs.State.{IsValid};
 ghost use Rattle.plant_core.specs.Displays.{lamp_limit, value_at, differs, differing, refreshed};
@@ -36,8 +36,8 @@ struct Picture<'a> {
 impl Picture<'_> {
     // The value of a destination: the source there, and whether that is on air and on preview.
     fn value_at(&self, dest: DestId) -> Value
-        requires found { self.now.tally.now
-            ≡ tallies_of self.now.plant.now self.now.points.now.entries }
+        requires found { IsTallyOf self.now.plant.now self.now.points.now.entries
+            self.now.tally.now }
         requires carried { CarrySources self.now.plant.now self.now.points.now.entries }
         ensures { result ≡ value_at self.now.plant.now self.now.points.now.entries dest }
     {
@@ -57,8 +57,8 @@ impl Picture<'_> {
 
     // The value of a display: that of the destination that it watches.
     fn value_of(&self, display: DisplayId) -> Value
-        requires found { self.now.tally.now
-            ≡ tallies_of self.now.plant.now self.now.points.now.entries }
+        requires found { IsTallyOf self.now.plant.now self.now.points.now.entries
+            self.now.tally.now }
         requires carried { CarrySources self.now.plant.now self.now.points.now.entries }
         requires below { display < length self.now.plant.now.displays }
         ensures { result ≡ value_in self.now.plant.now self.now.points.now.entries display }
@@ -69,8 +69,8 @@ impl Picture<'_> {
 
     // Shows a display its value where it differs, and answers a lamp for it.
     fn show(&self, display: DisplayId, shown: &mut Shown, out: &mut OutBox<Answer>)
-        requires found { self.now.tally.now
-            ≡ tallies_of self.now.plant.now self.now.points.now.entries }
+        requires found { IsTallyOf self.now.plant.now self.now.points.now.entries
+            self.now.tally.now }
         requires carried { CarrySources self.now.plant.now self.now.points.now.entries }
         requires below { display < length self.now.plant.now.displays }
         requires count { length shown.old ≡ length self.now.plant.now.displays }
@@ -93,8 +93,8 @@ impl Picture<'_> {
 
     // Shows displays that differ their values, the first 64 of these, and answers a lamp for each.
     fn show_first(&self, displays: &[DisplayId], shown: &mut Shown, out: &mut OutBox<Answer>)
-        requires found { self.now.tally.now
-            ≡ tallies_of self.now.plant.now self.now.points.now.entries }
+        requires found { IsTallyOf self.now.plant.now self.now.points.now.entries
+            self.now.tally.now }
         requires carried { CarrySources self.now.plant.now self.now.points.now.entries }
         requires below { AreBelow (length self.now.plant.now.displays) displays.now }
         requires once { IsDistinct nat_eq displays.now }

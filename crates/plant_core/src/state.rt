@@ -129,12 +129,8 @@ impl PlantState {
             (roots_of self.now.plant roots) dest }
         ensures valid { IsValid self.now }
     {
-        let graph = Graph {
-            plant: &self.plant,
-            mixers: &self.tables.mixers,
-            points: &self.crosspoints,
-        };
-        self.tables.tally.is_live(&graph, roots, dest)
+        let graph = Graph::new(&self.tables.mixers, &self.crosspoints);
+        self.tables.tally.is_live(&self.plant, &graph, roots, dest)
     }
 
     /// The device that protects a destination, 0 to 1023, `None` where it is unprotected.

@@ -12,7 +12,7 @@ ghost use Rattle.plant_core.specs.StateInside.{AreTablesOf};
 
 use change_boards::Screens;
 use crosspoint_state::Crosspoints;
-use mixer_effects::Mixers;
+use mixer_effects::{Graph, Mixers};
 use plant_config::{Change, Plant};
 use std::alloc::{AllocError, Global};
 use tally::Tally;
@@ -66,6 +66,7 @@ impl Tables {
         ensures tables { AreTablesOf plant.now points.new.entries self.new }
     {
         self.ties.commit(plant, points, planned, changes);
-        self.tally.find(plant, points);
+        let graph = Graph::new(&self.mixers, points);
+        self.tally.find(plant, &graph);
     }
 }
