@@ -3,7 +3,7 @@
 ghost use Rattle.std.specs.Prelude.{◌≡◌, ◌≤◌, IfOk};
 ghost use Rattle.plant_core.specs.Answer.{room_of};
 
-use super::{place, poll, told};
+use super::{Act, request_of};
 use crate::{Answer, PlantState, Request};
 use history_lock::{Closed, HistoryLock, Machine, OutBox, Seat};
 use plant_config::{DestId, Plant, SourceId};
@@ -12,28 +12,28 @@ use std::process::Abort;
 use std::sync::Wait;
 use std::test::Fail;
 use std::thread::{Threads, join};
-use swp08_messages::Message;
+use swp08_messages::Point;
 
 // How many connects a panel makes, and how often it is polled.
-const TURNS: u16 = 200;
+const TURNS: u16 = 208;
 
-// A panel's connect of a turn. Panel 0 has the even destinations to itself, panel 1 the odd ones.
-fn connect(panel: u16, turn: u16) -> Request {
+// A panel's connect of a turn, and its poll. Panel 0 has the even destinations to itself, panel 1 the odd ones.
+fn requests(panel: u16, turn: u16) -> [Request; 2] {
     let source = if panel == 0 {
         turn % 32
     } else {
         31 - turn % 32
     };
-    let message = Message::Connect {
-        at: place(0, turn % 16 * 2 + panel % 2),
-        source: Some(source),
+    let at = Point {
+        matrix: 0,
+        level: 0,
+        dest: turn % 16 * 2 + panel % 2,
     };
-    told(u32::from(panel), message)
-}
-
-// A panel's connect of a turn, or its poll.
-fn requests(panel: u16, turn: u16) -> [Request; 2] {
-    [connect(panel, turn), poll(u32::from(panel))]
+    let number = u32::from(panel);
+    [
+        request_of(number, at, Act::Connects(Some(source))),
+        request_of(number, at, Act::IsPolled),
+    ]
 }
 
 // Asks this of the plant in the lock. False where it doesn't fit, or isn't answered.
@@ -147,39 +147,12 @@ fn closed(
     Ok(lock.close(seats))
 }
 
-// The turns of a panel, one after another on a plant of its own.
-fn works(alloc: Global, state: &mut PlantState, panel: u16) -> Result<(), AllocError> {
-    let mut out = OutBox::new(alloc, state.room())?;
-    for turn in 0..TURNS {
-        for request in requests(panel, turn) {
-            if state.fits(&request) {
-                out.clear();
-                state.step(&request, &mut out);
-            }
-        }
-    }
-    Ok(())
-}
-
-// A plant on which each panel has all its turns at once, panel 1 first.
-fn one_by_one(alloc: Global, plant: &Plant) -> Result<PlantState, AllocError> {
-    let mut state = PlantState::start(alloc, plant)?;
-    works(alloc, &mut state, 1)?;
-    works(alloc, &mut state, 0)?;
-    Ok(state)
-}
-
-// Both plants carry at each destination what the last turns of the panels connected there.
-fn carry_the_last(rt: &impl Abort, one: &PlantState, other: &PlantState) {
-    let sources = [
-        0, 31, 1, 30, 2, 29, 3, 28, 4, 27, 5, 26, 6, 25, 7, 24, 24, 7, 25, 6, 26, 5, 27, 4, 28, 3,
-        29, 2, 30, 1, 31, 0,
-    ];
-    for (dest, source) in (0..).zip(sources) {
-        let dest = DestId::of(dest);
-        let source = Some(SourceId::of(source));
-        assert_eq!(rt; one.source_at(dest), source);
-        assert_eq!(rt; other.source_at(dest), source);
+// Each destination carries what its panel connected there in the last 16 turns.
+fn carries_the_last(rt: &impl Abort, state: &PlantState) {
+    for turn in 0..16 {
+        let (even, odd) = (DestId::of(2 * turn), DestId::of(2 * turn + 1));
+        assert_eq!(rt; state.source_at(even), Some(SourceId::of(turn)));
+        assert_eq!(rt; state.source_at(odd), Some(SourceId::of(31 - turn)));
     }
 }
 
@@ -196,8 +169,7 @@ fn two_threads_connect_and_poll(rt: HostRuntime) -> Result<(), Fail> {
         entries,
         past: _,
     } = closed(alloc, lock, zero, one)?;
-    assert_eq!(rt; entries, 800);
-    // The panels' requests have an order of their own here.
-    carry_the_last(&rt, &machine, &one_by_one(alloc, &plant)?);
+    assert_eq!(rt; entries, 832);
+    carries_the_last(&rt, &machine);
     Ok(())
 }

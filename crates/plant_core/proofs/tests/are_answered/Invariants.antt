@@ -2,5 +2,5 @@ use Rattle.std.proofs.Common.{◌≤◌}
 use Rattle.plant_core.specs.Answer.{room_of}
 use Rattle.plant_core.proofs.tests.are_answered.Given as goal
 
-abbrev pub invariant-loop-request : goal.invariant-loop-request
-invariant-loop-request g l = room_of l.state.plant ≤ l.out.places
+abbrev pub invariant-loop-row : goal.invariant-loop-row
+invariant-loop-row g l = room_of l.state.plant ≤ l.out.places
