@@ -8,8 +8,6 @@ mod graph;
 mod laws;
 mod mixers;
 mod span;
-#[cfg(test)]
-mod tests;
 
 pub use graph::Graph;
 pub use laws::{

@@ -8,8 +8,6 @@ mod example;
 mod roots;
 mod rounds;
 mod tally;
-#[cfg(test)]
-mod tests;
 
 pub use roots::Roots;
 pub use tally::Tally;
