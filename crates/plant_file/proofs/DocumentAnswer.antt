@@ -6,11 +6,11 @@ use Rattle.plant_file.specs.declared.fault.Field.TheVariants as fields
 use Rattle.plant_file.specs.declared.fault.PlantFault.{PlantFault}
 use Rattle.plant_file.specs.Rows.{SectionKeys}
 use Rattle.plant_file.specs.Format.{top_keys, server_keys, level_keys, remote_keys, pool_keys, device_keys, bus_keys, root_keys, display_keys, panel_keys, file_format}
-use Rattle.plant_file.specs.Document.{entries_of, text_at}
+use Rattle.plant_file.specs.Document.{section_entries, text_for}
 use Rattle.plant_file.specs.FirstFault.{first_fault, unless_fault, Answers}
 use Rattle.plant_file.specs.KeyFaults.{section_faults, sections_faults}
 use Rattle.plant_file.specs.FileData.{Server, LevelData, RemoteEntry, PoolEntry, DeviceEntry, BusEntry, RootEntry, DisplayEntry, PanelEntry}
-use Rattle.plant_file.specs.Reading.{server_of, level_of, remote_of, pool_of, device_of, bus_of, root_of, display_of, panel_of, only_entry, data_of}
+use Rattle.plant_file.specs.Reading.{server_entry, level_entry, remote_entry, pool_entry, device_entry, bus_entry, root_entry, display_entry, panel_entry, only_entry, data_of}
 use Rattle.plant_file.specs.ReadingInside.{only_answer, section_answer, sections_answer}
 use Rattle.plant_file.proofs.ReadingInside.{behind, stops, value}
 
@@ -20,7 +20,7 @@ pub sections-Ok : {X Y : Type 0} (x : List X) (as_data : Members → X) (section
 unfolding section_answer sections_answer
 sections-Ok x as_data section document read more is = behind _ x read (section_faults document section) _ is
 
-pub section-value : {X : Type 0} (x : List X) (as_data : Members → X) (section : SectionKeys) (document : Members) → Ok x ≡ section_answer as_data section document → map as_data (entries_of section document) ≡ x
+pub section-value : {X : Type 0} (x : List X) (as_data : Members → X) (section : SectionKeys) (document : Members) → Ok x ≡ section_answer as_data section document → map as_data (section_entries section document) ≡ x
 unfolding section_answer
 section-value x as_data section document is = value _ x (section_faults document section) is
 
@@ -54,17 +54,17 @@ sections-none document read = refl
 
 -- the data, of what was read of each section
 pub data-read : (document : Members) (title : List ℕ) (server : Server) (levels : List LevelData) (remotes : List RemoteEntry) (pools : List PoolEntry) (devices : List DeviceEntry) (buses : List BusEntry) (air : List RootEntry) (preview : List RootEntry) (displays : List DisplayEntry) (panels : List PanelEntry)
-    → text_at top_keys fields.Title document ≡ title
-    → server_of (only_entry server_keys document) ≡ server
-    → map level_of (entries_of level_keys document) ≡ levels
-    → map remote_of (entries_of remote_keys document) ≡ remotes
-    → map pool_of (entries_of pool_keys document) ≡ pools
-    → map device_of (entries_of device_keys document) ≡ devices
-    → map bus_of (entries_of bus_keys document) ≡ buses
-    → map (root_of sections.Air) (entries_of (root_keys sections.Air) document) ≡ air
-    → map (root_of sections.Preview) (entries_of (root_keys sections.Preview) document) ≡ preview
-    → map display_of (entries_of display_keys document) ≡ displays
-    → map panel_of (entries_of panel_keys document) ≡ panels
+    → text_for top_keys fields.Title document ≡ title
+    → server_entry (only_entry server_keys document) ≡ server
+    → map level_entry (section_entries level_keys document) ≡ levels
+    → map remote_entry (section_entries remote_keys document) ≡ remotes
+    → map pool_entry (section_entries pool_keys document) ≡ pools
+    → map device_entry (section_entries device_keys document) ≡ devices
+    → map bus_entry (section_entries bus_keys document) ≡ buses
+    → map (root_entry sections.Air) (section_entries (root_keys sections.Air) document) ≡ air
+    → map (root_entry sections.Preview) (section_entries (root_keys sections.Preview) document) ≡ preview
+    → map display_entry (section_entries display_keys document) ≡ displays
+    → map panel_entry (section_entries panel_keys document) ≡ panels
     → data_of document ≡ record { title = title; server = server; levels = levels; remotes = remotes; pools = pools; devices = devices; buses = buses; air = air; preview = preview; displays = displays; panels = panels }
 unfolding data_of
 data-read document title server levels remotes pools devices buses air preview displays panels title_is server_is levels_is remotes_is pools_is devices_is buses_is air_is preview_is displays_is panels_is =

@@ -20,11 +20,11 @@ use Rattle.plant_file.specs.declared.fault.PlantFault.TheVariants.{NotToml}
 use Rattle.plant_file.specs.Spelling.{section_name, field_name, same_field}
 use Rattle.plant_file.specs.Rows.{Key, SectionKeys}
 use Rattle.plant_file.specs.Format.{level_keys, file_format}
-use Rattle.plant_file.specs.Document.{found_at, entries_of}
+use Rattle.plant_file.specs.Document.{found_at, section_entries}
 use Rattle.plant_file.specs.FirstFault.{first_fault}
 use Rattle.plant_file.specs.KeyFaults.{place, key_faults, entry_faults, section_faults, sections_faults}
 use Rattle.plant_file.specs.Limits.{all_sources_limit, all_destinations_limit}
-use Rattle.plant_file.specs.Reading.{level_of, data_of}
+use Rattle.plant_file.specs.Reading.{level_entry, data_of}
 use Rattle.plant_file.specs.Rules.{key_if, rule_faults, sum_faults, twice_faults}
 use Rattle.plant_file.specs.FileData.{LevelData, SwitchEntry, FileData}
 use Rattle.plant_file.specs.Links.{switch_unknown, unknown_faults, not_local_faults, no_pool_faults}
@@ -42,7 +42,7 @@ row_is_key keys k d within =
 
 module _ (document : Members) where
   -- the faults of an entry that the document has
-  entry_at : (section : SectionKeys) → keys_of section.section ≡ section → (number : ℕ) (entry : Members) → number < length (entries_of section document) →
+  entry_at : (section : SectionKeys) → keys_of section.section ≡ section → (number : ℕ) (entry : Members) → number < length (section_entries section document) →
       AreAt (IsIn document) (entry_faults section number entry)
   entry_at section is number entry there =
       flat_map_at (key_faults section.section number entry) section.keys (λ k d within.
@@ -55,7 +55,7 @@ module _ (document : Members) where
   unfolding section_faults
   section_at section is =
       append_at (form_at (place section.section 0 fields.Whole) (inr (refl, refl)) section.form (get_member (section_name section.section) document))
-      (numbered_at (λ (numbered : ℕ × Members). entry_faults section numbered.0 numbered.1) (entries_of section document) (λ k d within.
+      (numbered_at (λ (numbered : ℕ × Members). entry_faults section numbered.0 numbered.1) (section_entries section document) (λ k d within.
       entry_at section is k _ within))
 
   sections_at : AreAt (IsIn document) (sections_faults document)
@@ -84,7 +84,7 @@ switch_keys file None = record { each = tt }
 switch_keys file (Some switch) = append_keys (key_if_is _ fields.SwitchLevel refl) (key_if_is _ fields.SwitchDestination refl)
 
 module _ (document : Members) where
-  named_at : (fault : Place → PlantFault) → ((at : Place) → place_of (fault at) ≡ Some at) → (section : Section) (number : ℕ) → number < length (entries_of (keys_of section) document) →
+  named_at : (fault : Place → PlantFault) → ((at : Place) → place_of (fault at) ≡ Some at) → (section : Section) (number : ℕ) → number < length (section_entries (keys_of section) document) →
       (named : List Field) → AllByRecursion (λ field. is_key section field ≡ true) named → AreAt (IsIn document) (map (λ field. fault (place section number field)) named)
   named_at fault at section number there [] are = none_at
   named_at fault at section number there (field ∷ more) are =
@@ -92,7 +92,7 @@ module _ (document : Members) where
       append_at (one_at (fault (place section number field)) (rw (at (place section number field)) (inl in_entry))) (named_at fault at section number there more are.1)
 
   rule_at : {X : Type 0} (fault : Place → PlantFault) → ((at : Place) → place_of (fault at) ≡ Some at) → (section : Section) (rule : List X → X → List Field) (entries : List X) →
-      length entries ≡ length (entries_of (keys_of section) document) → ((before : List X) (entry : X) → AreKeys section (rule before entry)) →
+      length entries ≡ length (section_entries (keys_of section) document) → ((before : List X) (entry : X) → AreKeys section (rule before entry)) →
       AreAt (IsIn document) (rule_faults fault section rule entries)
   rule_at {X} fault at section rule entries same are =
       numbered_at (λ (numbered : ℕ × X). map (λ field. fault (place section numbered.0 field)) (rule (take numbered.0 entries) numbered.1)) entries (λ k d within.
@@ -118,8 +118,8 @@ module _ (document : Members) where
   sums_at : sections_faults document ≡ [] → AreAt (IsIn document) (sum_faults (data_of document))
   unfolding data_of sum_faults
   sums_at none =
-      let some : 1 ≤ length (map level_of (entries_of level_keys document)) = (AreInRange-data_of document none).levels.0.0 in
-      let there : 0 < length (entries_of level_keys document) = rw length-map at some in
+      let some : 1 ≤ length (map level_entry (section_entries level_keys document)) = (AreInRange-data_of document none).levels.0.0 in
+      let there : 0 < length (section_entries level_keys document) = rw length-map at some in
       let at : Field → Place = place sections.Level 0 in
       let sources : IsInEntry document (at fields.Sources) = record { key = refl; entry = there } in
       let destinations : IsInEntry document (at fields.Destinations) = record { key = refl; entry = there } in

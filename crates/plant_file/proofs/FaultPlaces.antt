@@ -7,8 +7,8 @@ use Rattle.toml.specs.Data.{Data, string, integer, boolean, array, table, Member
 use Rattle.plant_file.specs.declared.fault.Place.{Place}
 use Rattle.plant_file.specs.declared.fault.PlantFault.{PlantFault}
 use Rattle.plant_file.specs.declared.fault.PlantFault.TheVariants.{Missing, WrongType, OutOfRange}
-use Rattle.plant_file.specs.Rows.{Kind, Number, Words, Flag, Names, Default, Required, RequiredWith, Given, Optional, Key, Form, Document, OneTable, Entries, first_printable, last_printable, shortest_name, longest_name}
-use Rattle.plant_file.specs.Document.{values, number_in, found_at}
+use Rattle.plant_file.specs.Rows.{Kind, Number, Words, Flag, Names, Default, Required, RequiredWith, Given, Optional, Key, Form, Document, OneTable, Entries, first_text_byte, last_text_byte, shortest_name, longest_name}
+use Rattle.plant_file.specs.Document.{values, as_number, found_at}
 use Rattle.plant_file.specs.KeyFaults.{range_faults, words_faults, value_faults, absent_faults, found_faults, form_faults}
 use Rattle.plant_file.specs.Places.{place_of}
 
@@ -53,7 +53,7 @@ module _ {IsRight : Place → Type 0} where
 
     words_at : (low high : ℕ) (value : Data) → AreAt IsRight (words_faults at low high value)
     words_at low high (string text) =
-        append_at (range_at (pos (length text)) low high) (flat_map_at (λ byte. range_faults at (pos byte) first_printable last_printable) text (λ k d within. range_at (pos (get_or text k d)) first_printable last_printable))
+        append_at (range_at (pos (length text)) low high) (flat_map_at (λ byte. range_faults at (pos byte) first_text_byte last_text_byte) text (λ k d within. range_at (pos (get_or text k d)) first_text_byte last_text_byte))
     words_at low high value = wrong_at
 
     value_at : (entry : Members) (kind : Kind) (value : Data) → AreAt IsRight (value_faults at entry kind value)
@@ -61,7 +61,7 @@ module _ {IsRight : Place → Type 0} where
     value_at entry (Words low high) value = words_at low high value
     value_at entry Flag (boolean flag) = none_at
     value_at entry (Names limit) (array names) =
-        append_at (range_at (pos (length (values names))) 0 (number_in (found_at limit entry)))
+        append_at (range_at (pos (length (values names))) 0 (as_number (found_at limit entry)))
         (flat_map_at (words_faults at shortest_name longest_name) (values names) (λ k d within. words_at shortest_name longest_name (get_or (values names) k d)))
     value_at entry kind value = wrong_at
 

@@ -11,7 +11,7 @@ use Rattle.plant_file.specs.declared.fault.PlantFault.{PlantFault}
 use Rattle.plant_file.specs.Rows.{SectionKeys, Entries}
 use Rattle.plant_file.specs.declared.fault.PlantFault.TheVariants.{WrongType}
 use Rattle.plant_file.specs.Spelling.{section_name}
-use Rattle.plant_file.specs.Document.{values, entries_in}
+use Rattle.plant_file.specs.Document.{values, entries_found}
 use Rattle.plant_file.specs.FirstFault.{first_fault, unless_fault}
 use Rattle.plant_file.specs.KeyFaults.{place, range_faults, form_faults, section_faults}
 use Rattle.plant_file.specs.ReadingInside.{tables, are_tables, form_answer, entries_answer, section_answer}
@@ -75,8 +75,8 @@ unfolding form_answer section_answer section_faults
 section-Ok read section name least most document entries named form is =
     let found = get_member (section_name section.section) document in
     let at = place section.section 0 fields.Whole in
-    let right : Ok entries ≡ unless_fault (entries_in section.form document found) (first_fault (form_faults at section.form found)) = rw (named, form) is in
-    let same : entries_in section.form document found ≡ entries = value _ entries (form_faults at section.form found) right in
+    let right : Ok entries ≡ unless_fault (entries_found section.form document found) (first_fault (form_faults at section.form found)) = rw (named, form) is in
+    let same : entries_found section.form document found ≡ entries = value _ entries (form_faults at section.form found) right in
     behind _ entries _ (form_faults at section.form found) _ right ∙ rw same refl
 
 pub section-Err : {X : Type 0} (read : Members → X) (section : SectionKeys) (name : Section) (least most : ℕ) (document : Members) (fault : PlantFault) → section.section ≡ name → section.form ≡ Entries least most
@@ -86,5 +86,5 @@ unfolding form_answer section_answer section_faults
 section-Err read section name least most document fault named form is =
     let found = get_member (section_name section.section) document in
     let at = place section.section 0 fields.Whole in
-    let wrong : Err fault ≡ unless_fault (entries_in section.form document found) (first_fault (form_faults at section.form found)) = rw (named, form) is in
+    let wrong : Err fault ≡ unless_fault (entries_found section.form document found) (first_fault (form_faults at section.form found)) = rw (named, form) is in
     stops _ fault _ (form_faults at section.form found) _ wrong

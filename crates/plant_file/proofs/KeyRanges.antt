@@ -9,8 +9,8 @@ use Rattle.plant_file.specs.declared.fault.Section.{Section}
 use Rattle.plant_file.specs.declared.fault.Field.{Field}
 use Rattle.plant_file.specs.declared.fault.Place.{Place}
 use Rattle.plant_file.specs.declared.fault.PlantFault.{PlantFault}
-use Rattle.plant_file.specs.Rows.{Kind, Number, Words, Flag, Names, Default, Required, RequiredWith, Given, Optional, Key, key, SectionKeys, first_printable, last_printable, shortest_name, longest_name}
-use Rattle.plant_file.specs.Document.{values, found_at, number_in, text_in, texts_in}
+use Rattle.plant_file.specs.Rows.{Kind, Number, Words, Flag, Names, Default, Required, RequiredWith, Given, Optional, Key, key, SectionKeys, first_text_byte, last_text_byte, shortest_name, longest_name}
+use Rattle.plant_file.specs.Document.{values, found_at, as_number, as_text, as_texts}
 use Rattle.plant_file.specs.KeyFaults.{place, range_faults, text_faults, words_faults, value_faults, is_looked_at, found_faults, key_faults, entry_faults}
 use Rattle.plant_file.specs.Ranges.{IsFrom, IsWords, IsName}
 use Rattle.plant_file.proofs.NoFault.{append_none, flat_map_none}
@@ -25,7 +25,7 @@ range_right at number low high none =
     let both = and_parts (int_le (pos low) (pos number)) (int_le (pos number) (pos high)) (test_none _ _ none) in
     (leb-true low number both.0, leb-true number high both.1)
 
-integer_right : (at : Place) (value : ℤ) (low high : ℕ) → range_faults at value low high ≡ [] → IsFrom low high (number_in (Some (integer value)))
+integer_right : (at : Place) (value : ℤ) (low high : ℕ) → range_faults at value low high ≡ [] → IsFrom low high (as_number (Some (integer value)))
 integer_right at (pos number) low high none = range_right at number low high none
 integer_right at (negsuc number) low high none = cc
 
@@ -36,9 +36,9 @@ bytes_right at low high (byte ∷ more) none = (range_right at byte low high non
 text_right : (at : Place) (low high : ℕ) (text : List ℕ) → text_faults at low high text ≡ [] → IsWords low high text
 text_right at low high text none =
     let parts = append_none _ _ none in
-    (range_right at (length text) low high parts.0, All-from_recursion _ text (bytes_right at first_printable last_printable text (flat_map_none _ text parts.1)))
+    (range_right at (length text) low high parts.0, All-from_recursion _ text (bytes_right at first_text_byte last_text_byte text (flat_map_none _ text parts.1)))
 
-words_right : (at : Place) (low high : ℕ) (value : Data) → words_faults at low high value ≡ [] → IsWords low high (text_in (Some value))
+words_right : (at : Place) (low high : ℕ) (value : Data) → words_faults at low high value ≡ [] → IsWords low high (as_text (Some value))
 words_right at low high (string text) none = text_right at low high text none
 words_right at low high value none = cc
 
@@ -53,10 +53,10 @@ names_right at (value ∷ more) none = cc (none.0)
 
 -- A value is one of its kind.
 abbrev pub IsOfKind : Members → Kind → Option Data → Type 0
-IsOfKind entry (Number low high) value = IsFrom low high (number_in value)
-IsOfKind entry (Words low high) value = IsWords low high (text_in value)
+IsOfKind entry (Number low high) value = IsFrom low high (as_number value)
+IsOfKind entry (Words low high) value = IsWords low high (as_text value)
 IsOfKind entry Flag value = Unit
-IsOfKind entry (Names limit) value = (length (texts_in value) ≤ number_in (found_at limit entry)) × All IsName (texts_in value)
+IsOfKind entry (Names limit) value = (length (as_texts value) ≤ as_number (found_at limit entry)) × All IsName (as_texts value)
 
 value_right : (at : Place) (entry : Members) (kind : Kind) (value : Data) → value_faults at entry kind value ≡ [] → IsOfKind entry kind (Some value)
 value_right at entry (Number low high) (integer value) none = integer_right at value low high none
@@ -64,7 +64,7 @@ value_right at entry (Words low high) value none = words_right at low high value
 value_right at entry Flag (boolean flag) none = tt
 value_right at entry (Names limit) (array items) none =
     let parts = append_none _ _ none in
-    let count = range_right at (length (values items)) 0 (number_in (found_at limit entry)) parts.0 in
+    let count = range_right at (length (values items)) 0 (as_number (found_at limit entry)) parts.0 in
     let names = names_right at (values items) (flat_map_none _ (values items) parts.1) in
     (omega (arith, count.1, names.0), All-from_recursion _ _ names.1)
 value_right at entry kind value none = cc

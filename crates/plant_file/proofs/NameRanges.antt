@@ -4,12 +4,12 @@ use Rattle.std.specs.List.{AllByRecursion, range_with_len}
 use Rattle.std.proofs.lemmas.Fmt.{decimal_by_steps, length-decimal-le}
 use Rattle.std.proofs.lemmas.List.Elements.{All-append, All-cons, All-nil, All-push, All-from_recursion}
 use Rattle.std.proofs.lemmas.List.FromFn.{length-map-range_with_len}
-use Rattle.plant_file.specs.Rows.{first_printable, last_printable}
+use Rattle.plant_file.specs.Rows.{first_text_byte, last_text_byte}
 use Rattle.plant_file.specs.Reading.{default_name, names_of}
 use Rattle.plant_file.specs.Ranges.{IsFrom, IsName, AreNames}
 
 abbrev pub IsPrintable : ℕ → Type 0
-IsPrintable = IsFrom first_printable last_printable
+IsPrintable = IsFrom first_text_byte last_text_byte
 
 -- the digits of a number are printable
 digits_right : (number : ℕ) → number < 2 ^ 64 → All IsPrintable (decimal number)

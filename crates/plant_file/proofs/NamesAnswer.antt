@@ -11,7 +11,7 @@ use Rattle.plant_file.specs.declared.fault.Place.{Place}
 use Rattle.plant_file.specs.declared.fault.PlantFault.{PlantFault}
 use Rattle.plant_file.specs.declared.fault.PlantFault.TheVariants.{WrongType}
 use Rattle.plant_file.specs.Rows.{Words, Names, key, no_names, shortest_name, longest_name}
-use Rattle.plant_file.specs.Document.{found_at, number_in, text_in, texts_in}
+use Rattle.plant_file.specs.Document.{found_at, as_number, as_text, as_texts}
 use Rattle.plant_file.specs.FirstFault.{first_fault, unless_fault, Answers}
 use Rattle.plant_file.specs.KeyFaults.{place, range_faults, words_faults, value_faults}
 use Rattle.plant_file.specs.Reading.{default_name, names_of}
@@ -27,7 +27,7 @@ names_of-more letter count names more =
     rw (length_push names (default_name letter (length names)), left, append_assoc) refl
 
 -- a name behind those that were read
-text_behind : (at : Place) (done : List (List ℕ)) (d : Data) (texts : List (List ℕ)) (faults : List PlantFault) (text : List ℕ) → Ok text ≡ unless_fault (text_in (Some d)) (first_fault (words_faults at shortest_name longest_name d))
+text_behind : (at : Place) (done : List (List ℕ)) (d : Data) (texts : List (List ℕ)) (faults : List PlantFault) (text : List ℕ) → Ok text ≡ unless_fault (as_text (Some d)) (first_fault (words_faults at shortest_name longest_name d))
     → unless_fault (done ++ cons_option (as_str d) texts) (first_fault (words_faults at shortest_name longest_name d ++ faults)) ≡ unless_fault ((done ++ text ∷ []) ++ texts) (first_fault faults)
 text_behind at done (string own) texts faults text is =
     let same : own ≡ text = value own text (words_faults at shortest_name longest_name (string own)) is in
@@ -39,12 +39,12 @@ text_behind at done (datetime time) texts faults text is = cc
 text_behind at done (array own) texts faults text is = cc
 text_behind at done (table own) texts faults text is = cc
 
-pub texts-Ok : (at : Place) (done : List (List ℕ)) (item : Value) (left : List Value) (text : List ℕ) → Ok text ≡ value_answer text_in at (Words shortest_name longest_name) (view item)
+pub texts-Ok : (at : Place) (done : List (List ℕ)) (item : Value) (left : List Value) (text : List ℕ) → Ok text ≡ value_answer as_text at (Words shortest_name longest_name) (view item)
     → texts_going at done (item ∷ left) ≡ texts_going at (done ++ text ∷ []) left
 unfolding texts_going
 texts-Ok at done item left text is = text_behind at done (view item) (filter_map as_str (map view left)) _ text is
 
-pub texts-Err : (at : Place) (done : List (List ℕ)) (item : Value) (left : List Value) (fault : PlantFault) → Err fault ≡ value_answer text_in at (Words shortest_name longest_name) (view item)
+pub texts-Err : (at : Place) (done : List (List ℕ)) (item : Value) (left : List Value) (fault : PlantFault) → Err fault ≡ value_answer as_text at (Words shortest_name longest_name) (view item)
     → texts_going at done (item ∷ left) ≡ Err fault
 unfolding texts_going
 texts-Err at done item left fault is = stops _ fault _ (words_faults at shortest_name longest_name (view item)) _ is
@@ -90,7 +90,7 @@ pub names-absent : (letter : List ℕ) (count : ℕ) (section : Section) (number
 unfolding key_answer
 names-absent letter count section number entry field limit none = rw (← none) refl
 
-limited : (at : Place) (entry : Members) (limit : Field) (d : Data) → value_faults at entry (Names limit) d ≡ array_faults at (number_in (found_at limit entry)) d
+limited : (at : Place) (entry : Members) (limit : Field) (d : Data) → value_faults at entry (Names limit) d ≡ array_faults at (as_number (found_at limit entry)) d
 limited at entry limit (string text) = refl
 limited at entry limit (integer number) = refl
 limited at entry limit (float number) = refl
@@ -99,11 +99,11 @@ limited at entry limit (datetime time) = refl
 limited at entry limit (array own) = refl
 limited at entry limit (table own) = refl
 
-pub names-found : (letter : List ℕ) (count : ℕ) (section : Section) (number : ℕ) (entry : Members) (field limit : Field) (d : Data) → Some d ≡ found_at field entry → number_in (found_at limit entry) ≡ count
+pub names-found : (letter : List ℕ) (count : ℕ) (section : Section) (number : ℕ) (entry : Members) (field limit : Field) (d : Data) → Some d ≡ found_at field entry → as_number (found_at limit entry) ≡ count
     → key_answer (names_in letter count) section number entry (key field (Names limit) no_names) ≡ read_as (names_of letter count) (names_answer (place section number field) count d)
 unfolding key_answer names_answer
 names-found letter count section number entry field limit d found is =
-    rw (← found, limited (place section number field) entry limit d, is) (read_as-unless (names_of letter count) (texts_in (Some d)) (first_fault (array_faults (place section number field) count d)))
+    rw (← found, limited (place section number field) entry limit d, is) (read_as-unless (names_of letter count) (as_texts (Some d)) (first_fault (array_faults (place section number field) count d)))
 
 -- a fault of what something is made of is its own
 pub made-fails : {X Y : Type 0} (make : X → Y) (fault : PlantFault) (part : Result X PlantFault) (wanted : Result Y PlantFault) → wanted ≡ read_as make part → Answers (Err fault) part → Answers (Err fault) wanted

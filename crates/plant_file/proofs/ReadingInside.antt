@@ -9,8 +9,8 @@ use Rattle.toml.specs.declared.value.Value.{Value}
 use Rattle.plant_file.specs.declared.fault.Place.{Place}
 use Rattle.plant_file.specs.declared.fault.PlantFault.{PlantFault}
 use Rattle.plant_file.specs.declared.fault.Section.{Section}
-use Rattle.plant_file.specs.Document.{found_at, given, number_in}
-use Rattle.plant_file.specs.Rows.{Key, SectionKeys, first_printable, last_printable}
+use Rattle.plant_file.specs.Document.{found_at, default_value, as_number}
+use Rattle.plant_file.specs.Rows.{Key, SectionKeys, first_text_byte, last_text_byte}
 use Rattle.plant_file.specs.FirstFault.{first_fault, unless_fault, Answers}
 use Rattle.plant_file.specs.KeyFaults.{range_faults, text_faults, key_faults, entry_faults}
 use Rattle.plant_file.specs.ReadingInside.{read_as, is_printable, tables, entries_faults, key_answer, keys_answer, entry_answer, entries_going}
@@ -18,7 +18,7 @@ use Rattle.plant_file.proofs.FirstFault.{first_fault-append}
 
 -- a byte's fault
 abbrev byte_faults : Place → ℕ → List PlantFault
-byte_faults at byte = range_faults at (pos byte) first_printable last_printable
+byte_faults at byte = range_faults at (pos byte) first_text_byte last_text_byte
 
 -- the first fault of some bytes is that of the first byte that isn't printable
 bytes-first : (at : Place) (text : List ℕ) → first_fault (flat_map (byte_faults at) text)
@@ -123,7 +123,7 @@ unfolding keys_answer
 keys-none section number entry read = refl
 
 pub key-value : {X : Type 0} (x : X) (as_data : Option Data → X) (section : Section) (number : ℕ) (entry : Members) (row : Key) → Ok x ≡ key_answer as_data section number entry row
-    → as_data (option_or (found_at row.field entry) (given row.default)) ≡ x
+    → as_data (option_or (found_at row.field entry) (default_value row.default)) ≡ x
 unfolding key_answer
 key-value x as_data section number entry row is = value _ x (key_faults section number entry row) is
 
@@ -149,8 +149,8 @@ pub keys-fails : {X Y : Type 0} (fault : PlantFault) (as_data : Option Data → 
 keys-fails fault as_data section number entry row read keys wanted left (inl is) = inl (sym (left ∙ keys-Err fault as_data section number entry row read keys is))
 keys-fails fault as_data section number entry row read keys wanted left (inr none) = inr cc
 
--- a number that isn't given
-pub required : (found : Option Data) → number_in (option_or found None) ≡ number_in found
+-- a number that isn't default_value
+pub required : (found : Option Data) → as_number (option_or found None) ≡ as_number found
 required None = refl
 required (Some value) = refl
 

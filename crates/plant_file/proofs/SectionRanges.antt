@@ -12,9 +12,9 @@ use Rattle.plant_file.specs.declared.fault.PlantFault.{PlantFault}
 use Rattle.plant_file.specs.Spelling.{section_name}
 use Rattle.plant_file.specs.Rows.{OneTable, Entries, SectionKeys}
 use Rattle.plant_file.specs.Format.{top_keys, server_keys, level_keys, remote_keys, pool_keys, device_keys, bus_keys, root_keys, display_keys, panel_keys, file_format}
-use Rattle.plant_file.specs.Document.{values, text_at, entries_in, entries_of}
+use Rattle.plant_file.specs.Document.{values, text_for, entries_found, section_entries}
 use Rattle.plant_file.specs.KeyFaults.{place, range_faults, entry_faults, form_faults, section_faults, sections_faults}
-use Rattle.plant_file.specs.Reading.{server_of, level_of, remote_of, pool_of, device_of, bus_of, root_of, display_of, panel_of, data_of}
+use Rattle.plant_file.specs.Reading.{server_entry, level_entry, remote_entry, pool_entry, device_entry, bus_entry, root_entry, display_entry, panel_entry, data_of}
 use Rattle.plant_file.specs.Ranges.{IsFrom, IsWords, AreEntries, AreInRange, IsServer, IsLevelData, IsRemoteEntry, IsPoolEntry, IsDeviceEntry, IsBusEntry, IsRootEntry, IsDisplayEntry, IsPanelEntry}
 use Rattle.plant_file.proofs.NoFault.{append_none, flat_map_none, numbered_none}
 use Rattle.plant_file.proofs.KeyRanges.{range_right}
@@ -33,7 +33,7 @@ array_right at least most fault all true are none = rw (tables_are all are) (ran
 array_right at least most fault all false are none = cc
 
 form_right : (at : Place) (least most : ℕ) (document : Members) (found : Option Data) →
-    form_faults at (Entries least most) found ≡ [] → IsFrom least most (length (entries_in (Entries least most) document found))
+    form_faults at (Entries least most) found ≡ [] → IsFrom least most (length (entries_found (Entries least most) document found))
 form_right at least most document (Some (array items)) none = array_right at least most _ (values items) _ refl none
 form_right at least most document (Some value) none = cc
 form_right at least most document None none = range_right at 0 least most none
@@ -41,14 +41,14 @@ form_right at least most document None none = range_right at 0 least most none
 module _ {X : Type 0} (IsRight : X → Type 0) (read : Members → X) where
   -- each entry of a section that has no fault
   entries_right : (section : SectionKeys) → ((number : ℕ) (entry : Members) → entry_faults section number entry ≡ [] → IsRight (read entry)) →
-      (document : Members) → section_faults document section ≡ [] → All (λ entry. IsRight (read entry)) (entries_of section document)
+      (document : Members) → section_faults document section ≡ [] → All (λ entry. IsRight (read entry)) (section_entries section document)
   unfolding section_faults
   entries_right section right document none k d within =
-      right k _ (numbered_none (λ (numbered : ℕ × Members). entry_faults section numbered.0 numbered.1) (entries_of section document) (append_none _ _ none).1 k d within)
+      right k _ (numbered_none (λ (numbered : ℕ × Members). entry_faults section numbered.0 numbered.1) (section_entries section document) (append_none _ _ none).1 k d within)
 
   section_right : (section : SectionKeys) (least most : ℕ) → section.form ≡ Entries least most →
       ((number : ℕ) (entry : Members) → entry_faults section number entry ≡ [] → IsRight (read entry)) →
-      (document : Members) → section_faults document section ≡ [] → AreEntries IsRight least most (map read (entries_of section document))
+      (document : Members) → section_faults document section ≡ [] → AreEntries IsRight least most (map read (section_entries section document))
   unfolding section_faults
   section_right section least most is right document none =
       let at : Place = place section.section 0 fields.Whole in
@@ -58,14 +58,14 @@ module _ {X : Type 0} (IsRight : X → Type 0) (read : Members → X) where
       (rw (length-map, is) count, All-map IsRight read _ (entries_right section right document none))
 
 -- a section that is one table has an entry
-one_table : (document : Members) (found : Option Data) → 0 < length (entries_in OneTable document found)
+one_table : (document : Members) (found : Option Data) → 0 < length (entries_found OneTable document found)
 one_table document (Some (table entry)) = omega arith
 one_table document (Some value) = omega arith
 one_table document None = omega arith
 
 roots_right : (section : Section) (document : Members) → section_faults document (root_keys section) ≡ [] →
-    AreEntries IsRootEntry 0 65536 (map (root_of section) (entries_of (root_keys section) document))
-roots_right section = section_right IsRootEntry (root_of section) (root_keys section) 0 65536 refl (λ number entry. root_right number entry section)
+    AreEntries IsRootEntry 0 65536 (map (root_entry section) (section_entries (root_keys section) document))
+roots_right section = section_right IsRootEntry (root_entry section) (root_keys section) 0 65536 refl (λ number entry. root_right number entry section)
 
 -- the data of a document without a fault of its sections
 pub AreInRange-data_of : (document : Members) → sections_faults document ≡ [] → AreInRange (data_of document)
@@ -74,15 +74,15 @@ AreInRange-data_of document none =
     let right : AllByRecursion (λ section. section_faults document section ≡ []) file_format = flat_map_none (section_faults document) file_format none in
     let after : AllByRecursion (λ section. section_faults document section ≡ []) (drop 2 file_format) = right.1.1 in
     record {
-      title = entries_right (IsWords 1 40) (text_at top_keys fields.Title) top_keys title_right document right.0 0 document (omega arith);
-      server = entries_right IsServer server_of server_keys server_right document right.1.0 0 no_members (one_table document _);
-      levels = section_right IsLevelData level_of level_keys 1 256 refl level_right document after.0;
-      remotes = section_right IsRemoteEntry remote_of remote_keys 0 16384 refl remote_right document after.1.0;
-      pools = section_right IsPoolEntry pool_of pool_keys 0 256 refl pool_right document after.1.1.0;
-      devices = section_right IsDeviceEntry device_of device_keys 0 64 refl device_right document after.1.1.1.0;
-      buses = section_right IsBusEntry bus_of bus_keys 0 1024 refl bus_right document after.1.1.1.1.0;
+      title = entries_right (IsWords 1 40) (text_for top_keys fields.Title) top_keys title_right document right.0 0 document (omega arith);
+      server = entries_right IsServer server_entry server_keys server_right document right.1.0 0 no_members (one_table document _);
+      levels = section_right IsLevelData level_entry level_keys 1 256 refl level_right document after.0;
+      remotes = section_right IsRemoteEntry remote_entry remote_keys 0 16384 refl remote_right document after.1.0;
+      pools = section_right IsPoolEntry pool_entry pool_keys 0 256 refl pool_right document after.1.1.0;
+      devices = section_right IsDeviceEntry device_entry device_keys 0 64 refl device_right document after.1.1.1.0;
+      buses = section_right IsBusEntry bus_entry bus_keys 0 1024 refl bus_right document after.1.1.1.1.0;
       air = roots_right sections.Air document after.1.1.1.1.1.0;
       preview = roots_right sections.Preview document after.1.1.1.1.1.1.0;
-      displays = section_right IsDisplayEntry display_of display_keys 0 4096 refl display_right document after.1.1.1.1.1.1.1.0;
-      panels = section_right IsPanelEntry panel_of panel_keys 1 64 refl panel_right document after.1.1.1.1.1.1.1.1.0;
+      displays = section_right IsDisplayEntry display_entry display_keys 0 4096 refl display_right document after.1.1.1.1.1.1.1.0;
+      panels = section_right IsPanelEntry panel_entry panel_keys 1 64 refl panel_right document after.1.1.1.1.1.1.1.1.0;
     }

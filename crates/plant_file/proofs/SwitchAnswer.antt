@@ -11,7 +11,7 @@ use Rattle.plant_file.specs.Document.{found_at}
 use Rattle.plant_file.specs.KeyFaults.{place, key_faults, found_faults}
 use Rattle.plant_file.specs.FileData.{SwitchEntry}
 use Rattle.plant_file.specs.FirstFault.{first_fault, unless_fault}
-use Rattle.plant_file.specs.Reading.{switch_of}
+use Rattle.plant_file.specs.Reading.{switch_entry}
 use Rattle.plant_file.specs.ReadingInside.{read_as, keys_answer, switch_keys, present_switch_keys, switch_in}
 use Rattle.plant_file.proofs.ReadingInside.{read_as-unless}
 
@@ -34,14 +34,14 @@ present-faults section number entry matrix found =
     let destination = asked_for (place section number fields.SwitchDestination) entry fields.SwitchDestination fields.SwitchMatrix a_destination (found_at fields.SwitchDestination entry) in
     rw (← found, level, destination) refl
 
-there : (entry : Members) (matrix : Data) → Some matrix ≡ found_at fields.SwitchMatrix entry → switch_in entry ≡ Some (switch_of entry)
-there entry matrix found = ap (option_map (λ (value : Data). switch_of entry)) (sym found)
+there : (entry : Members) (matrix : Data) → Some matrix ≡ found_at fields.SwitchMatrix entry → switch_in entry ≡ Some (switch_entry entry)
+there entry matrix found = ap (option_map (λ (value : Data). switch_entry entry)) (sym found)
 
 -- with it all of the switch is there
 pub switch-present : (section : Section) (number : ℕ) (entry : Members) (matrix : Data) → Some matrix ≡ found_at fields.SwitchMatrix entry
-    → keys_answer (switch_in entry) section number entry switch_keys ≡ read_as Some (keys_answer (switch_of entry) section number entry present_switch_keys)
+    → keys_answer (switch_in entry) section number entry switch_keys ≡ read_as Some (keys_answer (switch_entry entry) section number entry present_switch_keys)
 unfolding keys_answer
 switch-present section number entry matrix found =
     ap (λ (faults : List PlantFault). unless_fault (switch_in entry) (first_fault faults)) (present-faults section number entry matrix found)
     ∙ ap (λ (switch : Option SwitchEntry). unless_fault switch (first_fault (flat_map (key_faults section number entry) present_switch_keys))) (there entry matrix found)
-    ∙ read_as-unless Some (switch_of entry) (first_fault (flat_map (key_faults section number entry) present_switch_keys))
+    ∙ read_as-unless Some (switch_entry entry) (first_fault (flat_map (key_faults section number entry) present_switch_keys))

@@ -10,9 +10,9 @@ use Rattle.plant_file.specs.declared.fault.Place.{Place}
 use Rattle.plant_file.specs.declared.fault.PlantFault.{PlantFault}
 use Rattle.plant_file.specs.declared.fault.PlantFault.TheVariants.{Missing, WrongType, OutOfRange}
 use Rattle.plant_file.specs.Spelling.{section_name}
-use Rattle.plant_file.specs.Rows.{Kind, Number, Words, Flag, Names, Default, Required, RequiredWith, Given, Optional, Key, Form, Document, OneTable, Entries, SectionKeys, first_printable, last_printable, shortest_name, longest_name}
+use Rattle.plant_file.specs.Rows.{Kind, Number, Words, Flag, Names, Default, Required, RequiredWith, Given, Optional, Key, Form, Document, OneTable, Entries, SectionKeys, first_text_byte, last_text_byte, shortest_name, longest_name}
 use Rattle.plant_file.specs.Format.{file_format}
-use Rattle.plant_file.specs.Document.{values, found_at, number_in, entries_of}
+use Rattle.plant_file.specs.Document.{values, found_at, as_number, section_entries}
 
 -- a key of an entry of a section
 abbrev pub place : Section → ℕ → Field → Place
@@ -28,7 +28,7 @@ range_faults at value low high =
 abbrev pub text_faults : Place → ℕ → ℕ → List ℕ → List PlantFault
 text_faults at low high text =
     range_faults at (pos (length text)) low high
-    ++ flat_map (λ byte. range_faults at (pos byte) first_printable last_printable) text
+    ++ flat_map (λ byte. range_faults at (pos byte) first_text_byte last_text_byte) text
 
 -- a value that must be a text
 abbrev pub words_faults : Place → ℕ → ℕ → Data → List PlantFault
@@ -47,7 +47,7 @@ value_faults at entry (Number low high) (integer value) = range_faults at value 
 value_faults at entry (Words low high) value = words_faults at low high value
 value_faults at entry Flag (boolean flag) = []
 value_faults at entry (Names limit) (array names) =
-    names_faults at (number_in (found_at limit entry)) (values names)
+    names_faults at (as_number (found_at limit entry)) (values names)
 value_faults at entry kind value = WrongType at ∷ []
 
 -- an absent key
@@ -97,7 +97,7 @@ section_faults document section =
     form_faults (place section.section 0 fields.Whole) section.form
     (get_member (section_name section.section) document)
     ++ flat_map (λ (numbered : ℕ × Members). entry_faults section numbered.0 numbered.1)
-    (enumerate_from 0 (entries_of section document))
+    (enumerate_from 0 (section_entries section document))
 
 -- all sections, in the order of the table
 abbrev pub sections_faults : Members → List PlantFault

@@ -13,7 +13,7 @@ use Rattle.plant_file.specs.declared.fault.PlantFault.TheVariants.{NoMemory, Not
 use Rattle.plant_file.specs.Spelling.{same_field}
 use Rattle.plant_file.specs.Rows.{SectionKeys}
 use Rattle.plant_file.specs.Format.{top_keys, server_keys, level_keys, remote_keys, pool_keys, device_keys, bus_keys, root_keys, display_keys, panel_keys}
-use Rattle.plant_file.specs.Document.{entries_of}
+use Rattle.plant_file.specs.Document.{section_entries}
 
 -- the key of the file at which a fault is, where it is at one
 abbrev pub place_of : PlantFault → Option Place
@@ -48,7 +48,7 @@ is_key section field = list_any (λ row. same_field row.field field) (keys_of se
 -- A place is a key of its section, in one of the entries that a document has there.
 pub record IsInEntry (document : Members) (at : Place) : Type 0 where
   pub key : is_key at.section at.field ≡ true
-  pub entry : at.entry < length (entries_of (keys_of at.section) document)
+  pub entry : at.entry < length (section_entries (keys_of at.section) document)
 
 -- A place is in a document: such a key, or a section as a whole.
 abbrev pub IsIn : Members → Place → Type 0

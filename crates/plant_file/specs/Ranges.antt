@@ -1,7 +1,7 @@
 -- The ranges of a plant file's data.
 use Rattle.std.specs.Prelude.{◌≡◌, ℕ, ◌<◌, ◌≤◌, List, All, length, MatchOption}
 use Rattle.plant_file.specs.Limits.{matrix_limit, level_limit, level_source_limit, level_destination_limit, all_levels_limit, remote_limit, pool_limit, tie_limit, device_limit, bus_limit, root_limit, display_limit, last_screen, last_index, panel_limit, last_device, first_port, last_port, longest_title, longest_address, longest_idle, most_idles, most_turns, most_sessions, most_rounds, greatest_brightness}
-use Rattle.plant_file.specs.Rows.{first_printable, last_printable, shortest_name, longest_name}
+use Rattle.plant_file.specs.Rows.{first_text_byte, last_text_byte, shortest_name, longest_name}
 use Rattle.plant_file.specs.FileData.{LevelData, Server, RemoteEntry, PoolEntry, DeviceEntry, SwitchEntry, BusEntry, RootEntry, DisplayEntry, PanelEntry, FileData}
 
 -- A number is from `low` to `high`.
@@ -11,7 +11,7 @@ IsFrom low high number = (low ≤ number) × (number ≤ high)
 -- A text has from `low` to `high` bytes, each of them printable.
 abbrev pub IsWords : ℕ → ℕ → List ℕ → Type 0
 IsWords low high text =
-    IsFrom low high (length text) × All (IsFrom first_printable last_printable) text
+    IsFrom low high (length text) × All (IsFrom first_text_byte last_text_byte) text
 
 abbrev pub IsName : List ℕ → Type 0
 IsName = IsWords shortest_name longest_name

@@ -14,11 +14,11 @@ use Rattle.plant_file.specs.declared.fault.PlantFault.{PlantFault}
 use Rattle.plant_file.specs.declared.fault.PlantFault.TheVariants.{NotToml, WrongType}
 use Rattle.plant_file.specs.Spelling.{section_name}
 use Rattle.plant_file.specs.Limits.{level_limit}
-use Rattle.plant_file.specs.Rows.{Kind, Number, Required, Entries, Key, key, a_matrix, a_destination, SectionKeys, first_printable, last_printable, shortest_name, longest_name}
-use Rattle.plant_file.specs.Document.{values, texts_in, found_at, given, entries_in, entries_of}
+use Rattle.plant_file.specs.Rows.{Kind, Number, Required, Entries, Key, key, a_matrix, a_destination, SectionKeys, first_text_byte, last_text_byte, shortest_name, longest_name}
+use Rattle.plant_file.specs.Document.{values, as_texts, found_at, default_value, entries_found, section_entries}
 use Rattle.plant_file.specs.Format.{bus_keys}
 use Rattle.plant_file.specs.FileData.{SwitchEntry, FileData}
-use Rattle.plant_file.specs.Reading.{switch_of, names_of, only_entry, data_of}
+use Rattle.plant_file.specs.Reading.{switch_entry, names_of, only_entry, data_of}
 use Rattle.plant_file.specs.FirstFault.{first_fault, unless_fault}
 use Rattle.plant_file.specs.KeyFaults.{place, words_faults, names_faults, value_faults, key_faults, entry_faults, form_faults, section_faults, sections_faults}
 
@@ -29,7 +29,7 @@ read_as as_data (Err fault) = Err fault
 
 -- a byte is printable
 abbrev pub is_printable : ℕ → Bool
-is_printable byte = nat_le first_printable byte && nat_le byte last_printable
+is_printable byte = nat_le first_text_byte byte && nat_le byte last_text_byte
 
 -- a value of a kind that isn't limited by another key: what is read of it, or its first fault
 abbrev pub value_answer : {X : Type 0} → (Option Data → X) → Place → Kind → Data
@@ -46,7 +46,7 @@ array_faults at most value = WrongType at ∷ []
 unfoldable pub key_answer : {X : Type 0} → (Option Data → X) → Section → ℕ → Members
     → Key → Result X PlantFault
 key_answer read section number entry row =
-    unless_fault (read (option_or (found_at row.field entry) (given row.default)))
+    unless_fault (read (option_or (found_at row.field entry) (default_value row.default)))
     (first_fault (key_faults section number entry row))
 
 -- keys of an entry, in their order: what is read of the entry, or the first fault of these keys
@@ -68,7 +68,7 @@ present_switch_keys =
 
 -- the switch of a bus, where it has one
 abbrev pub switch_in : Members → Option SwitchEntry
-switch_in entry = option_map (λ matrix. switch_of entry) (found_at fields.SwitchMatrix entry)
+switch_in entry = option_map (λ matrix. switch_entry entry) (found_at fields.SwitchMatrix entry)
 
 -- an entry of a section: what is read of it, or its first fault
 abbrev pub entry_answer : {X : Type 0} → (Members → X) → SectionKeys → ℕ → Members
@@ -86,7 +86,7 @@ counted least most keys = record keys { form = Entries least most }
 
 -- names in an array, with default names behind them
 abbrev pub names_in : List ℕ → ℕ → Option Data → List (List ℕ)
-names_in letter count found = names_of letter count (texts_in found)
+names_in letter count found = names_of letter count (as_texts found)
 
 -- some values that must be names, behind texts that were read: all texts, or the first fault
 unfoldable pub texts_going : Place → List (List ℕ) → List Value
@@ -102,7 +102,7 @@ texts_answer at items = texts_going at [] items
 -- a value that must be an array of at most so many names: their texts, or the first fault
 unfoldable pub names_answer : Place → ℕ → Data → Result (List (List ℕ)) PlantFault
 names_answer at most value =
-    unless_fault (texts_in (Some value)) (first_fault (array_faults at most value))
+    unless_fault (as_texts (Some value)) (first_fault (array_faults at most value))
 
 -- the tables among some values
 abbrev pub tables : List Value → List Members
@@ -117,14 +117,14 @@ unfoldable pub form_answer : Section → ℕ → ℕ → Members
     → Result (List Members) PlantFault
 form_answer section least most document =
     let found = get_member (section_name section) document in
-    unless_fault (entries_in (Entries least most) document found)
+    unless_fault (entries_found (Entries least most) document found)
     (first_fault (form_faults (place section 0 fields.Whole) (Entries least most) found))
 
 -- a section of a document: what is read of each entry, or the first fault
 unfoldable pub section_answer : {X : Type 0} → (Members → X) → SectionKeys → Members
     → Result (List X) PlantFault
 section_answer read section document =
-    unless_fault (map read (entries_of section document))
+    unless_fault (map read (section_entries section document))
     (first_fault (section_faults document section))
 
 -- a section that has one entry alone: what is read of it, or the first fault

@@ -45,11 +45,11 @@ abbrev pub key : Field → Kind → Default → Key
 key field kind default = record { field = field; kind = kind; default = default }
 
 -- the bytes of a text are from the first to the last of these
-abbrev pub first_printable : ℕ
-first_printable = 32
+abbrev pub first_text_byte : ℕ
+first_text_byte = 32
 
-abbrev pub last_printable : ℕ
-last_printable = 126
+abbrev pub last_text_byte : ℕ
+last_text_byte = 126
 
 -- the least and the most bytes of a name
 abbrev pub shortest_name : ℕ

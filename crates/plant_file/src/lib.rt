@@ -4,8 +4,6 @@
 #![tactic(auto)]
 
 mod entries;
-#[cfg(test)]
-mod example;
 mod fault;
 mod fault_text;
 mod file;
@@ -14,8 +12,6 @@ mod level;
 mod name;
 mod read;
 mod rules;
-#[cfg(test)]
-mod tests;
 mod text;
 
 pub use entries::{

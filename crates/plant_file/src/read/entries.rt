@@ -4,8 +4,8 @@ ghost use Rattle.std.specs.Prelude.{◌≡◌};
 ghost use Rattle.toml.specs.View.{table_view};
 ghost use Rattle.plant_file.specs.Format.{remote_keys, pool_keys, device_keys, bus_keys};
 ghost use Rattle.plant_file.specs.Format.{root_keys, display_keys, panel_keys};
-ghost use Rattle.plant_file.specs.Reading.{remote_of, pool_of, device_of, switch_of, bus_of};
-ghost use Rattle.plant_file.specs.Reading.{root_of, display_of, panel_of};
+ghost use Rattle.plant_file.specs.Reading.{remote_entry, pool_entry, device_entry, switch_entry, bus_entry};
+ghost use Rattle.plant_file.specs.Reading.{root_entry, display_entry, panel_entry};
 ghost use Rattle.plant_file.specs.ReadingInside.{keys_at, keys_answer, entry_answer, switch_keys};
 ghost use Rattle.plant_file.specs.ReadingInside.{present_switch_keys, switch_in};
 
@@ -18,7 +18,7 @@ use crate::read::entry::Entry;
 // A remote source.
 #[tactic(auto, using(crate::proofs::ReadingInside::keys))]
 pub(crate) fn read_remote(entry: &Entry) -> Result<RemoteEntry, PlantFault>
-    ensures { result ≡ entry_answer remote_of (keys_at remote_keys entry.now.section)
+    ensures { result ≡ entry_answer remote_entry (keys_at remote_keys entry.now.section)
         entry.now.number (table_view entry.now.table.now) }
 {
     Ok(RemoteEntry {
@@ -33,7 +33,7 @@ pub(crate) fn read_remote(entry: &Entry) -> Result<RemoteEntry, PlantFault>
 // A pool of tie-lines.
 #[tactic(auto, using(crate::proofs::ReadingInside::keys))]
 pub(crate) fn read_pool(entry: &Entry) -> Result<PoolEntry, PlantFault>
-    ensures { result ≡ entry_answer pool_of (keys_at pool_keys entry.now.section)
+    ensures { result ≡ entry_answer pool_entry (keys_at pool_keys entry.now.section)
         entry.now.number (table_view entry.now.table.now) }
 {
     Ok(PoolEntry {
@@ -47,7 +47,7 @@ pub(crate) fn read_pool(entry: &Entry) -> Result<PoolEntry, PlantFault>
 // A device.
 #[tactic(auto, using(crate::proofs::ReadingInside::keys))]
 pub(crate) fn read_device(entry: &Entry) -> Result<DeviceEntry, PlantFault>
-    ensures { result ≡ entry_answer device_of (keys_at device_keys entry.now.section)
+    ensures { result ≡ entry_answer device_entry (keys_at device_keys entry.now.section)
         entry.now.number (table_view entry.now.table.now) }
 {
     Ok(DeviceEntry {
@@ -60,7 +60,7 @@ pub(crate) fn read_device(entry: &Entry) -> Result<DeviceEntry, PlantFault>
 // A bus's switch, where its matrix is there.
 #[tactic(auto, using(crate::proofs::ReadingInside::keys))]
 fn read_present_switch(entry: &Entry) -> Result<SwitchEntry, PlantFault>
-    ensures { result ≡ keys_answer (switch_of (table_view entry.now.table.now)) entry.now.section
+    ensures { result ≡ keys_answer (switch_entry (table_view entry.now.table.now)) entry.now.section
         entry.now.number (table_view entry.now.table.now) present_switch_keys }
 {
     Ok(SwitchEntry {
@@ -87,7 +87,7 @@ fn read_switch(entry: &Entry) -> Result<Option<SwitchEntry>, PlantFault>
 // A bus.
 #[tactic(auto, using(crate::proofs::ReadingInside::keys))]
 pub(crate) fn read_bus(entry: &Entry) -> Result<BusEntry, PlantFault>
-    ensures { result ≡ entry_answer bus_of (keys_at bus_keys entry.now.section)
+    ensures { result ≡ entry_answer bus_entry (keys_at bus_keys entry.now.section)
         entry.now.number (table_view entry.now.table.now) }
 {
     Ok(BusEntry {
@@ -101,7 +101,7 @@ pub(crate) fn read_bus(entry: &Entry) -> Result<BusEntry, PlantFault>
 // A destination that is on air, or on preview.
 #[tactic(auto, using(crate::proofs::ReadingInside::keys))]
 pub(crate) fn read_root(entry: &Entry) -> Result<RootEntry, PlantFault>
-    ensures { result ≡ entry_answer (root_of entry.now.section) (root_keys entry.now.section)
+    ensures { result ≡ entry_answer (root_entry entry.now.section) (root_keys entry.now.section)
         entry.now.number (table_view entry.now.table.now) }
 {
     Ok(RootEntry {
@@ -113,7 +113,7 @@ pub(crate) fn read_root(entry: &Entry) -> Result<RootEntry, PlantFault>
 // A display.
 #[tactic(auto, using(crate::proofs::ReadingInside::keys))]
 pub(crate) fn read_display(entry: &Entry) -> Result<DisplayEntry, PlantFault>
-    ensures { result ≡ entry_answer display_of (keys_at display_keys entry.now.section)
+    ensures { result ≡ entry_answer display_entry (keys_at display_keys entry.now.section)
         entry.now.number (table_view entry.now.table.now) }
 {
     Ok(DisplayEntry {
@@ -127,7 +127,7 @@ pub(crate) fn read_display(entry: &Entry) -> Result<DisplayEntry, PlantFault>
 // A panel.
 #[tactic(auto, using(crate::proofs::ReadingInside::keys))]
 pub(crate) fn read_panel(entry: &Entry) -> Result<PanelEntry, PlantFault>
-    ensures { result ≡ entry_answer panel_of (keys_at panel_keys entry.now.section)
+    ensures { result ≡ entry_answer panel_entry (keys_at panel_keys entry.now.section)
         entry.now.number (table_view entry.now.table.now) }
 {
     Ok(PanelEntry {

@@ -5,7 +5,7 @@ ghost use Rattle.toml.specs.Data.{boolean};
 ghost use Rattle.toml.specs.View.{view, table_view};
 ghost use Rattle.plant_file.specs.Rows.{key, Number, Words, Flag, Required, Given, a_name};
 ghost use Rattle.plant_file.specs.Rows.{number as given_number, words as given_words};
-ghost use Rattle.plant_file.specs.Document.{found_at, number_in, text_in, flag_in};
+ghost use Rattle.plant_file.specs.Document.{found_at, as_number, as_text, as_flag};
 ghost use Rattle.plant_file.specs.KeyFaults.{place};
 ghost use Rattle.plant_file.specs.ReadingInside.{read_as, key_answer};
 
@@ -48,7 +48,7 @@ impl<'a> Entry<'a> {
     pub(crate) fn number(&self, field: Field, low: u64, high: u64) -> Result<u64, PlantFault>
         requires low { low < 2 ^ 63 }
         requires high { high < 2 ^ 63 }
-        ensures answer { result ≡ key_answer number_in self.now.section self.now.number
+        ensures answer { result ≡ key_answer as_number self.now.section self.now.number
             (table_view self.now.table.now) (key field (Number low high) Required) }
         ensures within { IfOk result (λ number. number ≤ high) }
     {
@@ -70,7 +70,7 @@ impl<'a> Entry<'a> {
         requires low { low < 2 ^ 63 }
         requires high { high < 2 ^ 63 }
         requires given { given ≤ high }
-        ensures answer { result ≡ key_answer number_in self.now.section self.now.number
+        ensures answer { result ≡ key_answer as_number self.now.section self.now.number
             (table_view self.now.table.now) (key field (Number low high) (given_number given)) }
         ensures within { IfOk result (λ number. number ≤ high) }
     {
@@ -84,7 +84,7 @@ impl<'a> Entry<'a> {
     pub(crate) fn words(&self, field: Field, low: u64, high: u64) -> Result<&'a str, PlantFault>
         requires low { low < 2 ^ 63 }
         requires high { high < 2 ^ 63 }
-        ensures answer { read_as (λ text. text.now) result ≡ key_answer text_in self.now.section
+        ensures answer { read_as (λ text. text.now) result ≡ key_answer as_text self.now.section
             self.now.number (table_view self.now.table.now) (key field (Words low high) Required) }
         ensures within { IfOk result (λ text. length text.now ≤ high) }
     {
@@ -105,7 +105,7 @@ impl<'a> Entry<'a> {
     ) -> Result<&'a str, PlantFault>
         requires low { low < 2 ^ 63 }
         requires high { high < 2 ^ 63 }
-        ensures { read_as (λ text. text.now) result ≡ key_answer text_in self.now.section
+        ensures { read_as (λ text. text.now) result ≡ key_answer as_text self.now.section
             self.now.number (table_view self.now.table.now)
             (key field (Words low high) (given_words given.now)) }
     {
@@ -117,7 +117,7 @@ impl<'a> Entry<'a> {
 
     // A name.
     pub(crate) fn name(&self, field: Field) -> Result<Name, PlantFault>
-        ensures { result ≡ key_answer text_in self.now.section self.now.number
+        ensures { result ≡ key_answer as_text self.now.section self.now.number
             (table_view self.now.table.now) (key field a_name Required) }
     {
         match self.words(field, 1, MAX_NAME as u64) {
@@ -128,7 +128,7 @@ impl<'a> Entry<'a> {
 
     // True or false, or what is given where it is absent.
     pub(crate) fn flag_or(&self, field: Field, given: bool) -> Result<bool, PlantFault>
-        ensures { result ≡ key_answer flag_in self.now.section self.now.number
+        ensures { result ≡ key_answer as_flag self.now.section self.now.number
             (table_view self.now.table.now) (key field Flag (Given (boolean given))) }
     {
         match self.found(field) {

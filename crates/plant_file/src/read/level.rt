@@ -3,7 +3,7 @@
 ghost use Rattle.std.specs.Prelude.{refl};
 ghost use Rattle.toml.specs.View.{table_view};
 ghost use Rattle.plant_file.specs.Format.{level_keys};
-ghost use Rattle.plant_file.specs.Reading.{level_of};
+ghost use Rattle.plant_file.specs.Reading.{level_entry};
 ghost use Rattle.plant_file.specs.FirstFault.{Answers};
 ghost use Rattle.plant_file.specs.ReadingInside.{keys_at, entry_answer};
 
@@ -16,7 +16,7 @@ use std::alloc::Global;
 
 // A level.
 pub(crate) fn read_level(alloc: Global, entry: &Entry) -> Result<LevelEntry, PlantFault>
-    ensures { Answers result (entry_answer level_of (keys_at level_keys entry.now.section)
+    ensures { Answers result (entry_answer level_entry (keys_at level_keys entry.now.section)
         entry.now.number (table_view entry.now.table.now)) }
 {
     let matrix = entry.number(Field::Matrix, 0, 15)? as u8;
@@ -52,7 +52,7 @@ pub(crate) fn read_level(alloc: Global, entry: &Entry) -> Result<LevelEntry, Pla
 impl ReadEntry for LevelEntry {
     ghost keys = { keys_at level_keys };
 
-    ghost said = { λ _. level_of };
+    ghost said = { λ _. level_entry };
 
     ghost named = { λ _. refl };
 

@@ -4,7 +4,7 @@ ghost use Rattle.std.specs.Prelude.{◌≡◌, ◌<◌, [], ◌∷◌, IfOk, Som
 ghost use Rattle.toml.specs.Data.{array};
 ghost use Rattle.toml.specs.View.{view, table_view};
 ghost use Rattle.plant_file.specs.Rows.{key, Names, no_names};
-ghost use Rattle.plant_file.specs.Document.{found_at, number_in};
+ghost use Rattle.plant_file.specs.Document.{found_at, as_number};
 ghost use Rattle.plant_file.specs.Reading.{names_of};
 ghost use Rattle.plant_file.specs.FirstFault.{Answers};
 ghost use Rattle.plant_file.specs.ReadingInside.{read_as, key_answer, texts_answer};
@@ -66,7 +66,7 @@ pub(crate) fn names(
     letter: u8,
 ) -> Result<Vec<Name>, PlantFault>
     requires count { count < 10000 }
-    requires limit { number_in (found_at limit (table_view entry.now.table.now)) ≡ count }
+    requires limit { as_number (found_at limit (table_view entry.now.table.now)) ≡ count }
     ensures { Answers (read_as (λ names. names.items) result)
         (key_answer (names_in (letter ∷ []) count) entry.now.section entry.now.number
         (table_view entry.now.table.now)

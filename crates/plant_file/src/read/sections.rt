@@ -3,8 +3,8 @@
 ghost use Rattle.std.specs.Prelude.{refl};
 ghost use Rattle.plant_file.specs.Format.{remote_keys, pool_keys, device_keys, bus_keys};
 ghost use Rattle.plant_file.specs.Format.{root_keys, display_keys, panel_keys};
-ghost use Rattle.plant_file.specs.Reading.{remote_of, pool_of, device_of, bus_of, root_of};
-ghost use Rattle.plant_file.specs.Reading.{display_of, panel_of};
+ghost use Rattle.plant_file.specs.Reading.{remote_entry, pool_entry, device_entry, bus_entry, root_entry};
+ghost use Rattle.plant_file.specs.Reading.{display_entry, panel_entry};
 ghost use Rattle.plant_file.specs.ReadingInside.{keys_at};
 
 use crate::entries::{
@@ -21,7 +21,7 @@ use std::alloc::Global;
 impl ReadEntry for RemoteEntry {
     ghost keys = { keys_at remote_keys };
 
-    ghost said = { λ _. remote_of };
+    ghost said = { λ _. remote_entry };
 
     ghost named = { λ _. refl };
 
@@ -33,7 +33,7 @@ impl ReadEntry for RemoteEntry {
 impl ReadEntry for PoolEntry {
     ghost keys = { keys_at pool_keys };
 
-    ghost said = { λ _. pool_of };
+    ghost said = { λ _. pool_entry };
 
     ghost named = { λ _. refl };
 
@@ -45,7 +45,7 @@ impl ReadEntry for PoolEntry {
 impl ReadEntry for DeviceEntry {
     ghost keys = { keys_at device_keys };
 
-    ghost said = { λ _. device_of };
+    ghost said = { λ _. device_entry };
 
     ghost named = { λ _. refl };
 
@@ -57,7 +57,7 @@ impl ReadEntry for DeviceEntry {
 impl ReadEntry for BusEntry {
     ghost keys = { keys_at bus_keys };
 
-    ghost said = { λ _. bus_of };
+    ghost said = { λ _. bus_entry };
 
     ghost named = { λ _. refl };
 
@@ -69,7 +69,7 @@ impl ReadEntry for BusEntry {
 impl ReadEntry for RootEntry {
     ghost keys = { root_keys };
 
-    ghost said = { root_of };
+    ghost said = { root_entry };
 
     ghost named = { λ _. refl };
 
@@ -81,7 +81,7 @@ impl ReadEntry for RootEntry {
 impl ReadEntry for DisplayEntry {
     ghost keys = { keys_at display_keys };
 
-    ghost said = { λ _. display_of };
+    ghost said = { λ _. display_entry };
 
     ghost named = { λ _. refl };
 
@@ -93,7 +93,7 @@ impl ReadEntry for DisplayEntry {
 impl ReadEntry for PanelEntry {
     ghost keys = { keys_at panel_keys };
 
-    ghost said = { λ _. panel_of };
+    ghost said = { λ _. panel_entry };
 
     ghost named = { λ _. refl };
 

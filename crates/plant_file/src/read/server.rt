@@ -3,8 +3,8 @@
 ghost use Rattle.toml.specs.View.{table_view};
 ghost use Rattle.plant_file.specs.declared.fault.Field.TheVariants.{Title};
 ghost use Rattle.plant_file.specs.Format.{top_keys, server_keys};
-ghost use Rattle.plant_file.specs.Document.{text_at};
-ghost use Rattle.plant_file.specs.Reading.{server_of};
+ghost use Rattle.plant_file.specs.Document.{text_for};
+ghost use Rattle.plant_file.specs.Reading.{server_entry};
 ghost use Rattle.plant_file.specs.FirstFault.{Answers};
 ghost use Rattle.plant_file.specs.ReadingInside.{keys_at, entry_answer, only_answer};
 
@@ -19,7 +19,7 @@ use toml::Table;
 // The plant's title.
 pub(crate) fn read_title(alloc: Global, document: &Table) -> Result<Text, PlantFault>
     ensures { Answers result
-        (only_answer (text_at top_keys Title) top_keys (table_view document.now)) }
+        (only_answer (text_for top_keys Title) top_keys (table_view document.now)) }
 {
     let top = Entry {
         section: Section::Top,
@@ -32,7 +32,7 @@ pub(crate) fn read_title(alloc: Global, document: &Table) -> Result<Text, PlantF
 
 // How the plant is served, of the keys of its section.
 fn read_server_keys(alloc: Global, entry: &Entry) -> Result<Server, PlantFault>
-    ensures { Answers result (entry_answer server_of (keys_at server_keys entry.now.section)
+    ensures { Answers result (entry_answer server_entry (keys_at server_keys entry.now.section)
         entry.now.number (table_view entry.now.table.now)) }
 {
     let listen = entry.words_or(Field::Listen, 1, 64, "127.0.0.1")?;
@@ -59,7 +59,7 @@ fn read_server_keys(alloc: Global, entry: &Entry) -> Result<Server, PlantFault>
 
 // How the plant is served. An absent section is an empty one.
 pub(crate) fn read_server(alloc: Global, document: &Table) -> Result<Server, PlantFault>
-    ensures { Answers result (only_answer server_of server_keys (table_view document.now)) }
+    ensures { Answers result (only_answer server_entry server_keys (table_view document.now)) }
 {
     let section = Section::Server;
     let number = 0;

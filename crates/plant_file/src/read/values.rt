@@ -3,7 +3,7 @@
 ghost use Rattle.std.specs.Prelude.{not, find, ◌≡◌, ◌<◌, ◌≤◌, ◌^◌, length, IfOk, Some};
 ghost use Rattle.toml.specs.View.{view};
 ghost use Rattle.plant_file.specs.Rows.{Number, Words, Flag};
-ghost use Rattle.plant_file.specs.Document.{number_in, text_in, flag_in};
+ghost use Rattle.plant_file.specs.Document.{as_number, as_text, as_flag};
 ghost use Rattle.plant_file.specs.FirstFault.{first_fault};
 ghost use Rattle.plant_file.specs.KeyFaults.{range_faults, text_faults};
 ghost use Rattle.plant_file.specs.ReadingInside.{is_printable, read_as, value_answer};
@@ -68,7 +68,7 @@ fn text_fault(at: Place, text: &[u8], low: u64, high: u64) -> Option<PlantFault>
 pub(crate) fn number(at: Place, value: &Value, low: u64, high: u64) -> Result<u64, PlantFault>
     requires low { low < 2 ^ 63 }
     requires high { high < 2 ^ 63 }
-    ensures answer { result ≡ value_answer number_in at (Number low high) (view value.now) }
+    ensures answer { result ≡ value_answer as_number at (Number low high) (view value.now) }
     ensures within { IfOk result (λ number. number ≤ high) }
 {
     match value.as_integer() {
@@ -85,7 +85,7 @@ pub(crate) fn words(at: Place, value: &Value, low: u64, high: u64) -> Result<&st
     requires low { low < 2 ^ 63 }
     requires high { high < 2 ^ 63 }
     ensures answer { read_as (λ text. text.now) result
-        ≡ value_answer text_in at (Words low high) (view value.now) }
+        ≡ value_answer as_text at (Words low high) (view value.now) }
     ensures within { IfOk result (λ text. length text.now ≤ high) }
 {
     match value.as_str() {
@@ -99,7 +99,7 @@ pub(crate) fn words(at: Place, value: &Value, low: u64, high: u64) -> Result<&st
 
 // True or false.
 pub(crate) fn flag(at: Place, value: &Value) -> Result<bool, PlantFault>
-    ensures { result ≡ value_answer flag_in at Flag (view value.now) }
+    ensures { result ≡ value_answer as_flag at Flag (view value.now) }
 {
     match value.as_bool() {
         None => Err(PlantFault::WrongType { at }),

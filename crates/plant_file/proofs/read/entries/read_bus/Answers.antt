@@ -1,6 +1,6 @@
 use Rattle.std.proofs.Common.{◌≡◌, ◌∙◌, Ok, Err, sym, ap, rules}
 use Rattle.toml.specs.View.{table_view}
-use Rattle.plant_file.specs.Reading.{bus_of}
+use Rattle.plant_file.specs.Reading.{bus_entry}
 use Rattle.plant_file.proofs.ReadingInside.{keys-Ok, keys-Err, key-value, keys-rest-Ok, keys-rest-value, keys-rest-Err}
 use Rattle.plant_file.proofs.read.entries.read_bus.Goals as goal
 
@@ -27,5 +27,5 @@ returns c =
     let matrix = key-value _ _ _ _ _ _ c.in_ok-number.ensures.answer in
     let destination = key-value _ _ _ _ _ _ c.in_ok-number-2.ensures.answer in
     let switch = keys-rest-value _ _ _ _ _ _ c.in_ok-read_switch.ensures in
-    let read : bus_of (table_view c.args.entry.now.table.now) ≡ record { device = c.in_ok-name.field-0; matrix = c.in_ok-number.field-0; destination = c.in_ok-number-2.field-0; switch = c.in_ok-read_switch.field-0 } = cc in
+    let read : bus_entry (table_view c.args.entry.now.table.now) ≡ record { device = c.in_ok-name.field-0; matrix = c.in_ok-number.field-0; destination = c.in_ok-number-2.field-0; switch = c.in_ok-read_switch.field-0 } = cc in
     sym (keys-Ok _ _ _ _ _ _ _ _ c.in_ok-name.ensures ∙ keys-Ok _ _ _ _ _ _ _ _ c.in_ok-number.ensures.answer ∙ keys-Ok _ _ _ _ _ _ _ _ c.in_ok-number-2.ensures.answer ∙ keys-rest-Ok _ _ _ _ _ _ _ c.in_ok-read_switch.ensures ∙ ap Ok read)

@@ -1,7 +1,7 @@
 use Rattle.std.proofs.Common.{◌≡◌, ◌∙◌, Ok, Err, inl, sym, ap, rules}
 use Rattle.toml.specs.View.{table_view}
 use Rattle.plant_file.specs.Document.{found_at}
-use Rattle.plant_file.specs.Reading.{level_of}
+use Rattle.plant_file.specs.Reading.{level_entry}
 use Rattle.plant_file.specs.declared.fault.Field.TheVariants as fields
 use Rattle.plant_file.proofs.ReadingInside.{keys-Ok, keys-Err, keys-fails, keys-none, key-value, answered, required}
 use Rattle.plant_file.proofs.read.level.read_level.Goals as goal
@@ -52,5 +52,5 @@ returns c =
     let destinations = key-value _ _ _ _ _ _ c.in_ok-destinations.ensures.answer in
     let source_names = key-value _ _ _ _ _ _ (answered _ _ c.in_ok-source_names.ensures) in
     let destination_names = key-value _ _ _ _ _ _ (answered _ _ c.in_ok-destination_names.ensures) in
-    let read : level_of (table_view c.args.entry.now.table.now) ≡ record { matrix = c.in_ok-matrix.field-0; level = c.in_ok-level.field-0; sources = c.in_ok-sources.field-0; destinations = c.in_ok-destinations.field-0; source_names = c.in_ok-source_names.source_names.items; destination_names = c.in_ok-destination_names.destination_names.items } = cc in
+    let read : level_entry (table_view c.args.entry.now.table.now) ≡ record { matrix = c.in_ok-matrix.field-0; level = c.in_ok-level.field-0; sources = c.in_ok-sources.field-0; destinations = c.in_ok-destinations.field-0; source_names = c.in_ok-source_names.source_names.items; destination_names = c.in_ok-destination_names.destination_names.items } = cc in
     inl (sym (keys-Ok _ _ _ _ _ _ _ _ c.in_ok-matrix.ensures.answer ∙ keys-Ok _ _ _ _ _ _ _ _ c.in_ok-level.ensures.answer ∙ keys-Ok _ _ _ _ _ _ _ _ c.in_ok-sources.ensures.answer ∙ keys-Ok _ _ _ _ _ _ _ _ c.in_ok-destinations.ensures.answer ∙ keys-Ok _ _ _ _ _ _ _ _ (answered _ _ c.in_ok-source_names.ensures) ∙ keys-Ok _ _ _ _ _ _ _ _ (answered _ _ c.in_ok-destination_names.ensures) ∙ keys-none _ _ _ _ ∙ ap Ok read))

@@ -1,6 +1,6 @@
 use Rattle.std.proofs.Common.{◌≡◌, ◌∙◌, Ok, Err, inl, sym, ap, rules}
 use Rattle.toml.specs.View.{table_view}
-use Rattle.plant_file.specs.Reading.{server_of}
+use Rattle.plant_file.specs.Reading.{server_entry}
 use Rattle.plant_file.proofs.ReadingInside.{keys-Ok, keys-Err, keys-none, key-value}
 use Rattle.plant_file.proofs.read.server.read_server_keys.Goals as goal
 
@@ -56,5 +56,5 @@ returns c =
     let brightness = key-value _ _ _ _ _ _ c.in_ok-brightness.ensures.answer in
     let listen_text = c.in_ok-listen-2.ensures in
     let display_text = c.in_ok-display-2.ensures in
-    let read : server_of (table_view c.args.entry.now.table.now) ≡ record { listen = c.in_ok-listen-2.listen; display = c.in_ok-display-2.display; idle_ms = c.in_ok-idle_ms.field-0; idle_limit = c.in_ok-idle_limit.field-0; turns = c.in_ok-turns.turns; sessions = c.in_ok-sessions.field-0; refresh_every = c.in_ok-refresh_every.field-0; brightness = c.in_ok-brightness.field-0 } = cc in
+    let read : server_entry (table_view c.args.entry.now.table.now) ≡ record { listen = c.in_ok-listen-2.listen; display = c.in_ok-display-2.display; idle_ms = c.in_ok-idle_ms.field-0; idle_limit = c.in_ok-idle_limit.field-0; turns = c.in_ok-turns.turns; sessions = c.in_ok-sessions.field-0; refresh_every = c.in_ok-refresh_every.field-0; brightness = c.in_ok-brightness.field-0 } = cc in
     inl (sym (keys-Ok _ _ _ _ _ _ _ _ c.in_ok-listen.ensures ∙ keys-Ok _ _ _ _ _ _ _ _ c.in_ok-display.ensures ∙ keys-Ok _ _ _ _ _ _ _ _ c.in_ok-idle_ms.ensures.answer ∙ keys-Ok _ _ _ _ _ _ _ _ c.in_ok-idle_limit.ensures.answer ∙ keys-Ok _ _ _ _ _ _ _ _ c.in_ok-turns.ensures.answer ∙ keys-Ok _ _ _ _ _ _ _ _ c.in_ok-sessions.ensures.answer ∙ keys-Ok _ _ _ _ _ _ _ _ c.in_ok-refresh_every.ensures.answer ∙ keys-Ok _ _ _ _ _ _ _ _ c.in_ok-brightness.ensures.answer ∙ keys-none _ _ _ _ ∙ ap Ok read))
