@@ -6,7 +6,7 @@ use Rattle.std.specs.Ordering.{nat_cmp}
 use Rattle.std.specs.FinSet.{contains, contains-empty}
 use Rattle.change_boards.specs.declared.sort.Sort.{Sort}
 use Rattle.change_boards.specs.declared.sort.Sort.TheVariants.{Source, Protect}
-use Rattle.change_boards.specs.Board.{Board, IsEmpty, has_notice, next, without, taken}
+use Rattle.change_boards.specs.Board.{Board, IsEmpty, has_notice, next, without, without_next}
 use Rattle.change_boards.specs.Laws.{notices_at, notices_below, TakesInOrder}
 use Rattle.change_boards.proofs.NextLemmas.{next-None}
 use Rattle.change_boards.proofs.OneNotice.{IsNext, next-IsNext, removed, removed_less, removed_other}
@@ -76,7 +76,7 @@ none_of_all board destinations h =
     empty_has board dest Protect is = ap (λ dests. contains dests dest) is.protect ∙ contains-empty nat_cmp dest
 
 -- a take keeps the notices below a count there
-pub taken_has : (board : Board) (dest : ℕ) (sort : Sort) → has_notice (taken board) dest sort ≡ true → has_notice board dest sort ≡ true
+pub taken_has : (board : Board) (dest : ℕ) (sort : Sort) → has_notice (without_next board) dest sort ≡ true → has_notice board dest sort ≡ true
 taken_has board dest sort has = go (next board) has
   where
     go : (notice : Option (ℕ × Sort)) → has_notice (without board notice) dest sort ≡ true → has_notice board dest sort ≡ true
@@ -85,7 +85,7 @@ taken_has board dest sort has = go (next board) has
 
 -- one take removes the first of all notices
 one_take : (board : Board) (destinations : ℕ) → ((dest : ℕ) (sort : Sort) → has_notice board dest sort ≡ true → dest < destinations) →
-    (notices_below destinations (taken board) ≡ drop 1 (notices_below destinations board)) × (next board ≡ slice_get (notices_below destinations board) 0)
+    (notices_below destinations (without_next board) ≡ drop 1 (notices_below destinations board)) × (next board ≡ slice_get (notices_below destinations board) 0)
 one_take board destinations below = go (next board) refl
   where
     go : (notice : Option (ℕ × Sort)) → next board ≡ notice →
@@ -111,7 +111,7 @@ pub takes_in_order : (takes : ℕ) (board : Board) (destinations : ℕ) → ((de
 takes_in_order zero board destinations below = record { left = refl; next = (one_take board destinations below).1 }
 takes_in_order (suc takes) board destinations below =
     let one = one_take board destinations below in
-    let more = takes_in_order takes (taken board) destinations (λ dest sort has. below dest sort (taken_has board dest sort has)) in
+    let more = takes_in_order takes (without_next board) destinations (λ dest sort has. below dest sort (taken_has board dest sort has)) in
     record {
       left = more.left ∙ ap (drop takes) one.0 ∙ drop-suc takes (notices_below destinations board);
       next = more.next ∙ ap (λ notices. slice_get notices takes) one.0 ∙ slice_get-drop takes (notices_below destinations board);

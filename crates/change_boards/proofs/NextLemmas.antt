@@ -4,7 +4,7 @@ use Rattle.change_boards.specs.declared.sort.Sort.{Sort}
 use Rattle.change_boards.specs.declared.sort.Sort.TheVariants.{Source, Protect}
 use Rattle.change_boards.specs.Destinations.{lowest}
 use Rattle.change_boards.specs.Board.{Board, IsEmpty, sooner, next}
-use Rattle.number_set.proofs.LowestLemmas.{lowest-empty, empty_from_lowest}
+use Rattle.number_tables.proofs.LowestLemmas.{lowest-empty, empty_from_lowest}
 
 empty_from : (board : Board) (source protect : Option ℕ) → lowest board.source ≡ source → lowest board.protect ≡ protect → IsNone (sooner source protect) → IsEmpty board
 empty_from board None None no_source no_protect h = record { source = empty_from_lowest board.source no_source; protect = empty_from_lowest board.protect no_protect }

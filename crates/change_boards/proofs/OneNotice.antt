@@ -9,8 +9,8 @@ use Rattle.change_boards.specs.Destinations.{Destinations, lowest}
 use Rattle.change_boards.specs.Board.{Board, blank, dests_of, has_notice, with_dests, marked, sooner, next}
 use Rattle.change_boards.specs.Notices.{board_of, has, has_left, with_mark, with_take}
 use Rattle.change_boards.specs.Laws.{DiffersAt, Gives, IsBefore, Takes}
-use Rattle.number_set.proofs.Members.{contains_inserted, contains_removed}
-use Rattle.number_set.proofs.LowestLemmas.{IsLowest, IsLowest-lowest, none_lowest}
+use Rattle.number_tables.proofs.Members.{contains_inserted, contains_removed}
+use Rattle.number_tables.proofs.LowestLemmas.{IsLowest, IsLowest-lowest, none_lowest}
 
 insert_has : (dests : Destinations) (dest : ℕ) → contains (insert dests dest) dest ≡ true
 insert_has dests dest = contains_inserted dests dest dest ∙ rw (eq-eqb dest dest refl) refl

@@ -6,7 +6,7 @@ use Rattle.std.proofs.Math.ListN.{length-set}
 use Rattle.std.specs.Option.{option_eq}
 use Rattle.change_boards.specs.declared.value.Value.{Value}
 use Rattle.change_boards.specs.Shown.{Shown, is_same, last, with_shown, with_forgotten}
-use Rattle.change_boards.specs.ShownLaws.{is_among, ShowsOne, Forgets}
+use Rattle.change_boards.specs.ShownLaws.{is_in_list, ShowsOne, Forgets}
 
 same_value : (value : Value) → is_same value value ≡ true
 same_value value = go value.source value.air value.preview
@@ -47,21 +47,21 @@ still_none (first ∷ displays) shown display none =
       | inr apart ↦ get_or-set_other shown first display None None apart ∙ none
     ])
 
-forgotten : (displays : List ℕ) (shown : Shown) (display : ℕ) → is_among displays display ≡ true → last (with_forgotten shown displays) display ≡ None
+forgotten : (displays : List ℕ) (shown : Shown) (display : ℕ) → is_in_list displays display ≡ true → last (with_forgotten shown displays) display ≡ None
 forgotten [] shown display among = cc
 forgotten (first ∷ displays) shown display among =
-    elim (or_cases (nat_eq display first) (is_among displays display) among) [
+    elim (or_cases (nat_eq display first) (is_in_list displays display) among) [
       | inl here ↦ still_none displays (set shown first None) display (ap (last (set shown first None)) (eqb-true display first here) ∙ forgotten_one shown first)
       | inr behind ↦ forgotten displays (set shown first None) display behind
     ]
 
-not_forgotten : (displays : List ℕ) (shown : Shown) (other : ℕ) → is_among displays other ≡ false → last (with_forgotten shown displays) other ≡ last shown other
+not_forgotten : (displays : List ℕ) (shown : Shown) (other : ℕ) → is_in_list displays other ≡ false → last (with_forgotten shown displays) other ≡ last shown other
 not_forgotten [] shown other apart = refl
 not_forgotten (first ∷ displays) shown other apart =
-    go (nat_eq other first) refl (is_among displays other) refl apart (not_forgotten displays (set shown first None) other)
+    go (nat_eq other first) refl (is_in_list displays other) refl apart (not_forgotten displays (set shown first None) other)
   where
-    go : (a : Bool) → nat_eq other first ≡ a → (b : Bool) → is_among displays other ≡ b → (a || b) ≡ false →
-        (is_among displays other ≡ false → last (with_forgotten (set shown first None) displays) other ≡ last (set shown first None) other) →
+    go : (a : Bool) → nat_eq other first ≡ a → (b : Bool) → is_in_list displays other ≡ b → (a || b) ≡ false →
+        (is_in_list displays other ≡ false → last (with_forgotten (set shown first None) displays) other ≡ last (set shown first None) other) →
         last (with_forgotten (set shown first None) displays) other ≡ last shown other
     go true here b there none later = cc
     go false here true there none later = cc

@@ -7,8 +7,8 @@ use Rattle.std.specs.Ordering.{nat_cmp}
 use Rattle.std.specs.FinSet.{contains, contains-empty, insert}
 use Rattle.change_boards.specs.declared.sort.Sort.{Sort}
 use Rattle.change_boards.specs.declared.sort.Sort.TheVariants.{Source, Protect}
-use Rattle.change_boards.specs.Board.{Board, IsEmpty, blank, abandoned, dests_of, has_notice, marked, next, without, taken}
-use Rattle.change_boards.specs.Notices.{board_of, start, with_mark, with_take, with_leave}
+use Rattle.change_boards.specs.Board.{Board, IsEmpty, blank, abandoned, dests_of, has_notice, marked, next, without, without_next}
+use Rattle.change_boards.specs.Notices.{board_of, start_boards, with_mark, with_take, with_leave}
 use Rattle.change_boards.specs.Laws.{AreBoards}
 use Rattle.change_boards.proofs.NextLemmas.{IsEmpty-next}
 use Rattle.change_boards.proofs.OneNotice.{given_other, marked_left, marked_open, same_left, board_same, board_other}
@@ -53,14 +53,14 @@ AreBoards-set boards panels destinations panel board are is =
       | inr there ↦ subst Is (sym (board_other boards panel p board there)) (board_at boards panels destinations p are)
     ])
 
-start_blank : (panels panel : ℕ) → board_of (start panels) panel ≡ blank
+start_blank : (panels panel : ℕ) → board_of (start_boards panels) panel ≡ blank
 start_blank zero panel = refl
 start_blank (suc panels) zero = refl
 start_blank (suc panels) (suc panel) = start_blank panels panel
 
-pub AreBoards-start : (panels destinations : ℕ) → AreBoards (start panels) panels destinations
+pub AreBoards-start : (panels destinations : ℕ) → AreBoards (start_boards panels) panels destinations
 AreBoards-start panels destinations =
-    AreBoards-from (start panels) panels destinations (length-replicate panels blank) (λ panel.
+    AreBoards-from (start_boards panels) panels destinations (length-replicate panels blank) (λ panel.
     subst (λ (b : Board). IsBoard b destinations) (sym (start_blank panels panel)) (IsBoard-empty blank destinations (record { source = refl; protect = refl })))
 
 IsBoard-marked : (board : Board) (destinations dest : ℕ) (sort : Sort) → dest < destinations → IsBoard board destinations → IsBoard (marked board dest sort) destinations
@@ -76,7 +76,7 @@ IsBoard-marked board destinations dest sort within is = go board.left refl
       left = λ left. absurd (both_ways board.left stays (sym (same_left board sort (insert (dests_of board sort) dest)) ∙ left));
     })
 
-IsBoard-taken : (board : Board) (destinations : ℕ) → IsBoard board destinations → IsBoard (taken board) destinations
+IsBoard-taken : (board : Board) (destinations : ℕ) → IsBoard board destinations → IsBoard (without_next board) destinations
 IsBoard-taken board destinations is = record {
   below = λ dest sort has. is.below dest sort (taken_has board dest sort has);
   left = λ left. go (next board) refl left;

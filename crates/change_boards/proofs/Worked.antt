@@ -2,7 +2,7 @@
 use Rattle.std.proofs.Common.{◌≡◌, [], ◌∷◌, false, Some, None, refl}
 use Rattle.change_boards.specs.declared.sort.Sort.TheVariants.{Source, Protect}
 use Rattle.change_boards.specs.Board.{sooner, blank, abandoned, marked, without}
-use Rattle.change_boards.specs.Notices.{start, with_leave, has_left}
+use Rattle.change_boards.specs.Notices.{start_boards, with_leave, has_left}
 
 lower_first : sooner (Some 5) (Some 3) ≡ Some (3, Protect)
 lower_first = refl
@@ -25,8 +25,8 @@ nothing_is_taken = refl
 no_mark_after_leaving : marked abandoned 4 Protect ≡ abandoned
 no_mark_after_leaving = refl
 
-one_panel_leaves : with_leave (start 3) 1 ≡ blank ∷ abandoned ∷ blank ∷ []
+one_panel_leaves : with_leave (start_boards 3) 1 ≡ blank ∷ abandoned ∷ blank ∷ []
 one_panel_leaves = refl
 
-others_stay : has_left (with_leave (start 3) 1) 2 ≡ false
+others_stay : has_left (with_leave (start_boards 3) 1) 2 ≡ false
 others_stay = refl

@@ -3,7 +3,7 @@ use Rattle.std.specs.Prelude.{◌≡◌, ◌≢◌, ◌⊎◌, ℕ, zero, suc, �
 use Rattle.std.specs.List.{flat_map, range_with_len}
 use Rattle.change_boards.specs.declared.sort.Sort.{Sort}
 use Rattle.change_boards.specs.declared.sort.Sort.TheVariants.{Source, Protect}
-use Rattle.change_boards.specs.Board.{Board, IsEmpty, has_notice, next, taken}
+use Rattle.change_boards.specs.Board.{Board, IsEmpty, has_notice, next, without_next}
 use Rattle.change_boards.specs.Notices.{board_of, has, has_left, with_mark, with_take, with_leave}
 
 -- The panels have the same notices but for this one.
@@ -31,7 +31,7 @@ abbrev pub IsFirstNotice : List Board → ℕ → ℕ → Sort → Type 0
 IsFirstNotice boards panel dest sort = (d : ℕ) (s : Sort) → has boards panel d s ≡ true
     → (let notice : ℕ × Sort = (d, s) in notice ≢ (dest, sort)) → IsBefore dest sort d s
 
--- A panel had this notice and no other before it; the notice was taken, and nothing else changed.
+-- A panel had this notice and no other before it; the notice was without_next, and nothing else changed.
 pub record Takes (old new : List Board) (panel dest : ℕ) (sort : Sort) : Type 0 where
   pub stood : has old panel dest sort ≡ true
   pub first : IsFirstNotice old panel dest sort
@@ -107,7 +107,7 @@ notices_below destinations board = flat_map (notices_at board) (range_with_len 0
 -- a board after so many takes
 abbrev pub taken_times : ℕ → Board → Board
 taken_times zero board = board
-taken_times (suc n) board = taken_times n (taken board)
+taken_times (suc n) board = taken_times n (without_next board)
 
 -- So many takes leave the notices of those below a count but for the first so many.
 abbrev pub LoseFirst : Board → ℕ → ℕ → Type 0

@@ -1,5 +1,5 @@
 pub use Rattle.plant_config.specs.Plant
-pub use Rattle.number_set.specs.Numbers
+pub use Rattle.number_tables.specs.Numbers
 pub mod Destinations
 pub mod Board
 pub mod Notices

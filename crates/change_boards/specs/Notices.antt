@@ -1,11 +1,11 @@
 -- The boards of all panels, in the order of the panels' numbers.
 use Rattle.std.specs.Prelude.{ℕ, Bool, List, replicate, slice_index_or, slice_set}
 use Rattle.change_boards.specs.declared.sort.Sort.{Sort}
-use Rattle.change_boards.specs.Board.{Board, blank, abandoned, has_notice, marked, taken}
+use Rattle.change_boards.specs.Board.{Board, blank, abandoned, has_notice, marked, without_next}
 
--- so many panels at the start: no notices, and nobody has left
-abbrev pub start : ℕ → List Board
-start panels = replicate panels blank
+-- so many panels at the start_boards: no notices, and nobody has left
+abbrev pub start_boards : ℕ → List Board
+start_boards panels = replicate panels blank
 
 -- a panel's board
 abbrev pub board_of : List Board → ℕ → Board
@@ -19,12 +19,12 @@ has boards panel dest sort = has_notice (board_of boards panel) dest sort
 abbrev pub has_left : List Board → ℕ → Bool
 has_left boards panel = (board_of boards panel).left
 
--- the boards after a panel was given a notice, after its next one was taken, and after it has left
+-- the boards after a panel was given a notice, after its next one was without_next, and after it has left
 abbrev pub with_mark : List Board → ℕ → ℕ → Sort → List Board
 with_mark boards panel dest sort = slice_set boards panel (marked (board_of boards panel) dest sort)
 
 abbrev pub with_take : List Board → ℕ → List Board
-with_take boards panel = slice_set boards panel (taken (board_of boards panel))
+with_take boards panel = slice_set boards panel (without_next (board_of boards panel))
 
 abbrev pub with_leave : List Board → ℕ → List Board
 with_leave boards panel = slice_set boards panel abandoned

@@ -10,27 +10,27 @@ use Rattle.change_boards.specs.Screens.{displays_of, has_screen}
 use Rattle.change_boards.specs.Shown.{Shown, last, differs, with_shown, with_forgotten}
 
 -- whether a display of this number is one of the plant, and on this screen
-abbrev pub is_on : PlantData → ℕ → ℕ → Bool
-is_on plant screen number =
+abbrev pub is_on_screen : PlantData → ℕ → ℕ → Bool
+is_on_screen plant screen number =
     option_map_or (λ (display : Display). display.screen == screen)
     (slice_get plant.displays number) false
 
 -- the index that the display of this number has on its screen
-abbrev pub index_of : PlantData → ℕ → ℕ
-index_of plant number =
+abbrev pub screen_index : PlantData → ℕ → ℕ
+screen_index plant number =
     option_map_or (λ (display : Display). display.index) (slice_get plant.displays number) 0
 
 -- whether a number is among these
-abbrev pub is_among : List ℕ → ℕ → Bool
-is_among numbers number = list_any (nat_eq number) numbers
+abbrev pub is_in_list : List ℕ → ℕ → Bool
+is_in_list numbers number = list_any (nat_eq number) numbers
 
 -- The displays of a screen are those of the plant that are on it, each once, in the rising order of their indexes.
 -- There are none exactly where the plant has no such screen.
 pub record HasItsDisplays (plant : PlantData) (screen : ℕ) : Type 0 where
   pub each : (number : ℕ)
-      → is_among (displays_of plant screen) number ≡ is_on plant screen number
+      → is_in_list (displays_of plant screen) number ≡ is_on_screen plant screen number
   pub once : IsDistinct nat_eq (displays_of plant screen)
-  pub rising : IsStrictlyIncreasing (map (index_of plant) (displays_of plant screen))
+  pub rising : IsStrictlyIncreasing (map (screen_index plant) (displays_of plant screen))
   pub below : All (λ number. number < length plant.displays) (displays_of plant screen)
   pub none : (displays_of plant screen ≡ []) ↔ (has_screen plant screen ≡ false)
 
@@ -44,10 +44,10 @@ pub record ShowsOne (old new : Shown) (display : ℕ) (value : Value) : Type 0 w
 -- These displays were shown no value, so that each is to be shown any. No other display changed.
 pub record Forgets (old new : Shown) (displays : List ℕ) : Type 0 where
   pub count : length new ≡ length old
-  pub none : (display : ℕ) → is_among displays display ≡ true → last new display ≡ None
-  pub again : (display : ℕ) (value : Value) → is_among displays display ≡ true
+  pub none : (display : ℕ) → is_in_list displays display ≡ true → last new display ≡ None
+  pub again : (display : ℕ) (value : Value) → is_in_list displays display ≡ true
       → differs new display value ≡ true
-  pub others : (other : ℕ) → is_among displays other ≡ false
+  pub others : (other : ℕ) → is_in_list displays other ≡ false
       → last new other ≡ last old other
 
 -- What a display is shown, it alone is shown.

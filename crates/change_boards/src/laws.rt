@@ -4,7 +4,7 @@ ghost use Rattle.std.specs.Prelude.{ℕ, List};
 ghost use Rattle.plant_config.specs.Plant.{PlantData};
 ghost use Rattle.plant_config.specs.IsPlant.{IsPlant};
 ghost use Rattle.change_boards.specs.Board.{Board};
-ghost use Rattle.change_boards.specs.Notices.{start};
+ghost use Rattle.change_boards.specs.Notices.{start_boards};
 ghost use Rattle.change_boards.specs.Laws.{AreBoards, IsBelow, LeavesAreOfOnePanel};
 ghost use Rattle.change_boards.specs.Laws.{MarksGiveOneNotice, StayBoards, TakesInOrder};
 ghost use Rattle.change_boards.specs.Laws.{TakesRemoveOneNotice};
@@ -36,7 +36,7 @@ pub fn leaves_are_of_one_panel()
 /// Whoever has left has no notices and gets none, and all notices are of destinations of the plant, whatever is
 /// marked, taken and left.
 pub fn boards_stay_boards()
-    ensures start { (panels count : ℕ) → AreBoards (start panels) panels count }
+    ensures start_boards { (panels count : ℕ) → AreBoards (start_boards panels) panels count }
     ensures stay { (boards : List Board) (panels count : ℕ) → AreBoards boards panels count →
         StayBoards boards panels count }
 {}

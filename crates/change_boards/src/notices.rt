@@ -2,7 +2,7 @@
 
 ghost use Rattle.std.specs.Prelude.{◌≡◌, ◌<◌, ◌↔◌, length, All, IsTrue, IsNone, IfOk};
 ghost use Rattle.change_boards.specs.Board.{IsEmpty, next};
-ghost use Rattle.change_boards.specs.Notices.{board_of, has, has_left, start, with_mark};
+ghost use Rattle.change_boards.specs.Notices.{board_of, has, has_left, start_boards, with_mark};
 ghost use Rattle.change_boards.specs.Notices.{with_take, with_leave};
 
 use crate::panel_board::PanelBoard;
@@ -32,7 +32,7 @@ impl Model for Notices {
 impl Notices {
     /// No notices, for the panels of this plant, none of which has left.
     pub fn new(alloc: Global, plant: &Plant) -> Result<Notices, AllocError>
-        ensures { IfOk result (λ notices. notices ≡ start (length plant.now.panels)) }
+        ensures { IfOk result (λ notices. notices ≡ start_boards (length plant.now.panels)) }
     {
         let panels = plant.panels();
         let mut boards = Vec::with_capacity(alloc, panels.len())?;

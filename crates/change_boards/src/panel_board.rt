@@ -2,10 +2,10 @@
 
 ghost use Rattle.std.specs.Prelude.{◌≡◌, ◌<◌, ◌↔◌, IsNone, IsTrue, IfOk, IfSome};
 ghost use Rattle.change_boards.specs.Board.{IsEmpty, abandoned, blank, has_notice};
-ghost use Rattle.change_boards.specs.Board.{marked, next, taken};
+ghost use Rattle.change_boards.specs.Board.{marked, next, without_next};
 
 use crate::sort::Sort;
-use number_set::{MAX_NUMBERS, NumberSet};
+use number_tables::{MAX_NUMBERS, NumberSet};
 use plant_config::{DestId, MAX_DESTINATIONS};
 use std::alloc::{AllocError, Global};
 use std::marker::Model;
@@ -115,7 +115,7 @@ impl PanelBoard {
     #[inline(always)]
     pub(crate) fn take_lowest(&mut self) -> Option<(DestId, Sort)>
         ensures next { result ≡ next self.old }
-        ensures taken { self.new ≡ taken self.old }
+        ensures without_next { self.new ≡ without_next self.old }
         ensures none { IsNone result ↔ IsEmpty self.old }
     {
         let (dest, sort) = self.next()?;

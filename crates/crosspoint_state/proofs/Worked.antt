@@ -4,7 +4,7 @@ use Rattle.std.proofs.Common.{◌≡◌, ℕ, ◌==◌, cond, [], ◌∷◌, cod
 use Rattle.std.specs.Ordering.{nat_cmp}
 use Rattle.std.specs.FinMap as finite
 use Rattle.std.specs.FinMap.{empty, insert}
-use Rattle.number_map.proofs.PutLemmas.{get-put}
+use Rattle.number_tables.proofs.PutLemmas.{get-put}
 use Rattle.plant_config.specs.Plant.{PlantData}
 use Rattle.plant_config.specs.Bench.{bench}
 use Rattle.crosspoint_state.specs.Crosspoints.{Crosspoints}

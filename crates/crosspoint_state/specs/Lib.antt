@@ -1,5 +1,5 @@
 pub use Rattle.plant_config.specs.Limits
-pub use Rattle.number_map.specs.Table
+pub use Rattle.number_tables.specs.Table
 pub mod Crosspoints
 pub mod Ties
 pub mod Applied

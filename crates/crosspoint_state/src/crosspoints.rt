@@ -2,11 +2,11 @@
 
 ghost use Rattle.std.specs.Prelude.{◌≡◌, ◌<◌, IfOk};
 ghost use Rattle.std.specs.FinMap.{empty, get};
-ghost use Rattle.number_map.specs.Table.{put};
+ghost use Rattle.number_tables.specs.Table.{put};
 ghost use Rattle.crosspoint_state.specs.Crosspoints.{source_of, is_idle};
 
 use crate::spot::Spot;
-use number_map::NumberMap;
+use number_tables::NumberMap;
 use plant_config::{Change, DestId, SourceId};
 use std::alloc::{AllocError, Global};
 use std::marker::Model;
@@ -19,7 +19,7 @@ pub struct Crosspoints {
 }
 
 impl Model for Crosspoints {
-    ghost use Rattle.number_map.specs.Table.{Table, code};
+    ghost use Rattle.number_tables.specs.Table.{Table, code};
     ghost use Rattle.crosspoint_state.specs.Crosspoints.{spot_code};
     ghost use Rattle.crosspoint_state.specs.declared.spot.Spot.{Spot};
 

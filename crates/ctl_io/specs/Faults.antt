@@ -6,8 +6,8 @@ abbrev pub one_more : ℕ → ℕ
 one_more count = max count (min (count + 1) (2 ^ 64 - 1))
 
 -- A count after a call: one more where the call failed, and as it was in every other case.
-abbrev pub counted : Bool → ℕ → ℕ
-counted failed count = if failed then one_more count else count
+abbrev pub count_after : Bool → ℕ → ℕ
+count_after failed count = if failed then one_more count else count
 
 -- A count rose in a call: it is greater than before, or it stands at 2^64 - 1.
 abbrev pub Rose : ℕ → ℕ → Type 0

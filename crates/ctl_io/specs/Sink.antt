@@ -14,9 +14,9 @@ write_failed (Took n) = false
 write_failed Failed = true
 
 -- A write that takes bytes takes at least one, and no more than it was given.
-abbrev pub IsWithin : Write → ℕ → Type 0
-IsWithin (Took n) given = (0 < n) × (n ≤ given)
-IsWithin Failed given = Unit {0}
+abbrev pub TakesWithin : Write → ℕ → Type 0
+TakesWithin (Took n) given = (0 < n) × (n ≤ given)
+TakesWithin Failed given = Unit {0}
 
 -- what a sink shows that was written to it, with these bytes behind it
 abbrev pub appended : Option (List ℕ) → List ℕ → Option (List ℕ)
@@ -24,8 +24,8 @@ appended None bytes = None
 appended (Some before) bytes = Some (before ++ bytes)
 
 -- Where a sink shows what was written to it, that is nothing.
-abbrev pub IsEmpty : Option (List ℕ) → Type 0
-IsEmpty written = IfSome written (λ all. all ≡ [])
+abbrev pub IsUnwritten : Option (List ℕ) → Type 0
+IsUnwritten written = IfSome written (λ all. all ≡ [])
 
 -- A front of the bytes was appended that is shorter than they are.
 pub record AppendsPart (bytes : List ℕ) (before now : Option (List ℕ)) : Type 0 where

@@ -16,19 +16,19 @@ whole_failed (Err whole.TooLong) = false
 whole_failed (Err whole.Failed) = true
 
 -- What became of a file that was to be read whole: it was opened and met no fault, it is missing, or a call failed.
-pub data Reading : Type 0 where
-  Well : Reading
-  Missing : Reading
-  Failed : Reading
+pub data FileReading : Type 0 where
+  Well : FileReading
+  Missing : FileReading
+  Failed : FileReading
 
 -- what the answer says of this
-abbrev pub reading_of : {A : Type 0} → Result A FileFault → Reading
+abbrev pub reading_of : {A : Type 0} → Result A FileFault → FileReading
 reading_of (Err file.Missing) = Missing
 reading_of (Err file.Failed) = Failed
 reading_of other = Well
 
 -- whether the files or the source met a fault
-abbrev pub reading_failed : Reading → Bool
+abbrev pub reading_failed : FileReading → Bool
 reading_failed Failed = true
 reading_failed other = false
 
@@ -43,7 +43,7 @@ abbrev pub SaysNoMemory : {A : Type 0} → Result A FileFault → Type 0
 SaysNoMemory answer = answer ≡ Err file.NoMemory
 
 -- what becomes of the openings of the file's name: one is gone, but where the file is missing, or where the files failed
-abbrev pub AfterReading : Reading → (ℕ → Held) → (ℕ → Held) → Type 0
+abbrev pub AfterReading : FileReading → (ℕ → Held) → (ℕ → Held) → Type 0
 AfterReading Well before now = CountsOn before now
 AfterReading Missing before now = Stays before now
 AfterReading Failed before now = CountsOn before now ⊎ Stays before now
@@ -58,13 +58,13 @@ pub record CameBack (name : List ℕ) (faulty : Bool) (before now : Custody Sour
 
 -- what becomes of the sources: the file's was given back without a fault; none was handed out where the file is missing; and
 -- where a call failed either none was, or the file's was given back with a fault
-abbrev pub GivenBack : Reading → List ℕ → Custody SourceEnd → Custody SourceEnd → Type 0
+abbrev pub GivenBack : FileReading → List ℕ → Custody SourceEnd → Custody SourceEnd → Type 0
 GivenBack Well name before now = CameBack name false before now
 GivenBack Missing name before now = now ≡ before
 GivenBack Failed name before now = (now ≡ before) ⊎ CameBack name true before now
 
 -- The file's source, where one was handed out, was given back so, and no sink was handed out or given back.
-pub record IsGivenBack (reading : Reading) (name : List ℕ) (before now : FilesCustody)
+pub record IsGivenBack (reading : FileReading) (name : List ℕ) (before now : FilesCustody)
     : Type 0 where
   pub sources : GivenBack reading name before.sources now.sources
   pub sinks : now.sinks ≡ before.sinks

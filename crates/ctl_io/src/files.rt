@@ -1,9 +1,9 @@
 //! Files by their names, which hand out sources and sinks and take them back.
 
 ghost use Rattle.std.specs.Prelude.{◌≡◌, ◌<◌, ℕ, List};
-ghost use Rattle.ctl_io.specs.Faults.{counted, is_faulty};
-ghost use Rattle.ctl_io.specs.Sink.{IsEmpty};
-ghost use Rattle.ctl_io.specs.Held.{Held, HasLeft, MayBeMissing, Stays, OthersStay};
+ghost use Rattle.ctl_io.specs.Faults.{count_after, is_faulty};
+ghost use Rattle.ctl_io.specs.Sink.{IsUnwritten};
+ghost use Rattle.ctl_io.specs.Held.{Held, HasLeft, MayBeMissing, Stays, OtherOpeningsStay};
 ghost use Rattle.ctl_io.specs.Held.{AllStayBut, AfterFound, IsNamed};
 ghost use Rattle.ctl_io.specs.Custody.{FilesCustody, TakesSource, TakesSink};
 ghost use Rattle.ctl_io.specs.Custody.{source_lent, sink_lent};
@@ -48,18 +48,18 @@ pub trait Files {
         ensures new { IfFound result (λ source. Self.S.faults source ≡ 0) }
         ensures missing { result ≡ Found.Missing → MayBeMissing (held self.old name.now 0) }
         ensures next { AfterFound result (held self.old name.now) (held self.new name.now) }
-        ensures others { OthersStay name.now (held self.old) (held self.new) }
+        ensures others { OtherOpeningsStay name.now (held self.old) (held self.new) }
         ensures lent { custody self.new ≡ source_lent result (custody self.old) }
-        ensures count { faults self.new ≡ counted (source_failed result) (faults self.old) };
+        ensures count { faults self.new ≡ count_after (source_failed result) (faults self.old) };
 
     /// Makes the file of this name anew, for writing.
     fn sink(&mut self, name: &str) -> Made<Self::K>
-        ensures empty { IfMade result (λ sink. IsEmpty (Self.K.written sink)) }
+        ensures empty { IfMade result (λ sink. IsUnwritten (Self.K.written sink)) }
         ensures named { IfMade result (λ sink. IsNamed name.now (Self.K.name sink)) }
         ensures new { IfMade result (λ sink. Self.K.faults sink ≡ 0) }
-        ensures others { OthersStay name.now (held self.old) (held self.new) }
+        ensures others { OtherOpeningsStay name.now (held self.old) (held self.new) }
         ensures lent { custody self.new ≡ sink_lent result (custody self.old) }
-        ensures count { faults self.new ≡ counted (sink_failed result) (faults self.old) };
+        ensures count { faults self.new ≡ count_after (sink_failed result) (faults self.old) };
 
     /// Takes back a source that these files handed out.
     fn close_source(&mut self, source: Self::S)
@@ -68,7 +68,7 @@ pub trait Files {
             (Self.S.faults source) (custody self.old) (custody self.new) }
         ensures same { (name : List ℕ) → Stays (held self.old name) (held self.new name) }
         ensures count { faults self.new
-            ≡ counted (is_faulty (Self.S.faults source)) (faults self.old) };
+            ≡ count_after (is_faulty (Self.S.faults source)) (faults self.old) };
 
     /// Takes back a sink that these files handed out.
     fn close_sink(&mut self, sink: Self::K)
@@ -77,5 +77,5 @@ pub trait Files {
             (Self.K.faults sink) (custody self.old) (custody self.new) }
         ensures others { AllStayBut (Self.K.name sink) (held self.old) (held self.new) }
         ensures count { faults self.new
-            ≡ counted (is_faulty (Self.K.faults sink)) (faults self.old) };
+            ≡ count_after (is_faulty (Self.K.faults sink)) (faults self.old) };
 }

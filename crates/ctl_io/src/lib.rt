@@ -4,16 +4,12 @@
 #![tactic(auto)]
 
 mod bytes;
-#[cfg(test)]
-mod example;
 mod faults;
 mod files;
 mod memory;
 mod sink;
 mod source;
 mod system;
-#[cfg(test)]
-mod tests;
 mod transfer;
 mod whole_file;
 

@@ -1,8 +1,8 @@
 //! Sinks: places outside that bytes are written to, in order.
 
 ghost use Rattle.std.specs.Prelude.{◌≡◌, ◌<◌, ℕ, List, Option, None, length, take};
-ghost use Rattle.ctl_io.specs.Faults.{counted};
-ghost use Rattle.ctl_io.specs.Sink.{IsWithin, took, appended, write_failed};
+ghost use Rattle.ctl_io.specs.Faults.{count_after};
+ghost use Rattle.ctl_io.specs.Sink.{TakesWithin, took, appended, write_failed};
 
 /// What a write answers.
 #[derive(Clone, Copy, Debug, PartialEq, Eq)]
@@ -27,9 +27,9 @@ pub trait Sink: Send {
     /// Appends a front of `bytes`, which aren't empty.
     fn write(&mut self, bytes: &[u8]) -> Write
         requires { 0 < length bytes.now }
-        ensures within { IsWithin result (length bytes.now) }
+        ensures within { TakesWithin result (length bytes.now) }
         ensures written { written self.new
             ≡ appended (written self.old) (take (took result) bytes.now) }
         ensures name { name self.new ≡ name self.old }
-        ensures count { faults self.new ≡ counted (write_failed result) (faults self.old) };
+        ensures count { faults self.new ≡ count_after (write_failed result) (faults self.old) };
 }

@@ -1,7 +1,7 @@
 //! Sources: bytes that come from outside, in order.
 
 ghost use Rattle.std.specs.Prelude.{◌≡◌, ◌<◌, ℕ, List, Option, None, length};
-ghost use Rattle.ctl_io.specs.Faults.{counted};
+ghost use Rattle.ctl_io.specs.Faults.{count_after};
 ghost use Rattle.ctl_io.specs.Source.{IsWithin, AreNext, IsAtEnd, got, behind, read_failed};
 
 /// What a read answers.
@@ -39,5 +39,5 @@ pub trait Source {
         ensures left { left self.new ≡ behind (got result) (left self.old) }
         ensures end { result ≡ Read.End → IsAtEnd (left self.old) }
         ensures name { name self.new ≡ name self.old }
-        ensures count { faults self.new ≡ counted (read_failed result) (faults self.old) };
+        ensures count { faults self.new ≡ count_after (read_failed result) (faults self.old) };
 }

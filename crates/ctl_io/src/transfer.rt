@@ -3,7 +3,7 @@
 ghost use Rattle.std.specs.Prelude.{◌≡◌, ◌+◌, ◌-◌, ◌<◌, ◌≤◌, min, max, not, [], length, take};
 ghost use Rattle.std.specs.Prelude.{IfOk, OnOk, OnErr, IsErrOf, vec_capacity};
 ghost use Rattle.std.specs.Bool.{OnFalse, OnTrue};
-ghost use Rattle.ctl_io.specs.Faults.{counted};
+ghost use Rattle.ctl_io.specs.Faults.{count_after};
 ghost use Rattle.ctl_io.specs.Sink.{appended, AppendsPart};
 ghost use Rattle.ctl_io.specs.Source.{got, read_failed, AreLeft, IsWithin, IsAtEnd};
 ghost use Rattle.ctl_io.specs.Source.{TakesAtMost, TakesJust};
@@ -21,7 +21,7 @@ pub fn write_all<K: Sink>(sink: &mut K, bytes: &[u8]) -> bool
     ensures part { OnFalse result
         (AppendsPart bytes.now (K.written sink.old) (K.written sink.new)) }
     ensures name { K.name sink.new ≡ K.name sink.old }
-    ensures count { K.faults sink.new ≡ counted (not result) (K.faults sink.old) }
+    ensures count { K.faults sink.new ≡ count_after (not result) (K.faults sink.old) }
 {
     let mut rest = bytes;
     while !rest.is_empty() {
@@ -73,7 +73,7 @@ pub fn read_whole<S: Source>(
     ensures taken { ¬ IsErrOf result WholeFault.TooLong →
         TakesAtMost limit (S.left source.old) (S.left source.new) }
     ensures name { S.name source.new ≡ S.name source.old }
-    ensures count { S.faults source.new ≡ counted (whole_failed result) (S.faults source.old) }
+    ensures count { S.faults source.new ≡ count_after (whole_failed result) (S.faults source.old) }
 {
     let mut whole = first_room(alloc, source.left_hint(), limit)?;
     let mut count = 0;
@@ -129,7 +129,7 @@ fn read_piece<S: Source>(
     ensures no_memory { OnErr result (source.new ≡ source.old) }
     ensures name { S.name source.new ≡ S.name source.old }
     ensures count { IfOk result (λ read.
-        S.faults source.new ≡ counted (read_failed read) (S.faults source.old)) }
+        S.faults source.new ≡ count_after (read_failed read) (S.faults source.old)) }
 {
     widen(whole, count, limit)?;
     Ok(source.read(whole.slice_mut(count..)))

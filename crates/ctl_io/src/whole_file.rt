@@ -1,8 +1,8 @@
 //! Files read whole by their names.
 
 ghost use Rattle.std.specs.Prelude.{◌≡◌, ◌≤◌, length, IfOk};
-ghost use Rattle.ctl_io.specs.Faults.{counted};
-ghost use Rattle.ctl_io.specs.Held.{IsHeld, IsLonger, MayBeHere, MayBeMissing, OthersStay};
+ghost use Rattle.ctl_io.specs.Faults.{count_after};
+ghost use Rattle.ctl_io.specs.Held.{IsHeld, IsLonger, MayBeHere, MayBeMissing, OtherOpeningsStay};
 ghost use Rattle.ctl_io.specs.WholeFile.{SaysMissing, SaysTooLong, SaysNoMemory, reading_of};
 ghost use Rattle.ctl_io.specs.WholeFile.{reading_failed, AfterReading, IsGivenBack};
 
@@ -35,11 +35,11 @@ pub fn read_file<F: Files>(
     ensures no_memory { SaysNoMemory result → MayBeHere (F.held files.old name.now 0) }
     ensures next { AfterReading (reading_of result)
         (F.held files.old name.now) (F.held files.new name.now) }
-    ensures others { OthersStay name.now (F.held files.old) (F.held files.new) }
+    ensures others { OtherOpeningsStay name.now (F.held files.old) (F.held files.new) }
     ensures given_back { IsGivenBack (reading_of result) name.now
         (F.custody files.old) (F.custody files.new) }
     ensures count { F.faults files.new
-        ≡ counted (reading_failed (reading_of result)) (F.faults files.old) }
+        ≡ count_after (reading_failed (reading_of result)) (F.faults files.old) }
 {
     let mut source = match files.source(name) {
         Found::Here(source) => source,

@@ -1,4 +1,4 @@
-//! The control bytes of SW-P-08 and the limits of a frame, and the two answers that are no frames.
+//! The control bytes of SW-P-08, this project's limits of a frame, and the two answers that are no frames.
 ghost use Rattle.std.specs.Prelude.{◌≡◌, ◌+◌, ◌≤◌, ◌++◌, vec_len, vec_capacity};
 ghost use Rattle.dle_framing.specs.Numbers.{ack, nak};
 

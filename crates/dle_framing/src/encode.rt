@@ -31,7 +31,8 @@ pub fn encode_frame(bytes: &[u8], out: &mut Vec<u8>)
     }
 }
 
-// The frame of 5 bytes of DATA, none of its body DLE. Most frames that are sent are such. None for any other DATA.
+// Short way: the frame of 5 bytes of DATA, none of its body DLE. Most frames that are sent are such. None for any other
+// DATA.
 #[inline(always)]
 fn whole_frame(bytes: &[u8]) -> Option<[u8; 11]>
     requires { IsData bytes.now }

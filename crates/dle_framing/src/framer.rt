@@ -91,8 +91,8 @@ impl Framer {
         }
     }
 
-    // Takes the good frame of 4 or 5 bytes of DATA, none of its body DLE, that the piece starts with outside a frame, and
-    // answers how many bytes it has. Most frames are such. None where the piece starts with no such frame.
+    // Short way: takes the good frame of 4 or 5 bytes of DATA, none of its body DLE, that the piece starts with outside a
+    // frame, and answers how many bytes it has. Most frames are such. None where the piece starts with no such frame.
     #[inline(always)]
     fn take_whole(&mut self, piece: &[u8]) -> Option<usize>
         ensures none { IfNone result (self.new ≡ self.old) }

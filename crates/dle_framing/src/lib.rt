@@ -25,8 +25,3 @@ pub use item::Item;
 pub use laws::{frame_room, one_frame, reads_answers, reads_by_start, reads_frame, reads_on};
 pub use pieces::feed_all;
 pub use plain::read_items;
-
-#[cfg(test)]
-mod example;
-#[cfg(test)]
-mod tests;

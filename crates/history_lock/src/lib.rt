@@ -7,8 +7,6 @@ mod call;
 mod close;
 mod desk;
 mod entry;
-#[cfg(test)]
-mod example;
 mod fault;
 mod laws;
 mod lock;
@@ -20,8 +18,6 @@ mod plays;
 mod rule;
 mod seat;
 mod steps;
-#[cfg(test)]
-mod tests;
 mod told;
 mod turns;
 mod view;

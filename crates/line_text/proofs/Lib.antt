@@ -2,4 +2,5 @@ pub mod LinesLemmas
 pub mod JoinLemmas
 pub mod DecimalLemmas
 pub mod HexLemmas
+pub mod CutLemmas
 mod Examples

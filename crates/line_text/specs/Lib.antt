@@ -1,4 +1,5 @@
 pub mod Lines
 pub mod LinesInside
 pub mod Decimal
+pub mod Cut
 pub mod Laws

@@ -3,17 +3,14 @@
 //! What is read and written takes no memory but `join_lines`, and rests on `specs/Lines.antt` and `specs/Decimal.antt`.
 #![tactic(auto)]
 
+mod cut;
 mod decimal;
 mod hexadecimal;
 mod laws;
 mod lines;
 
+pub use cut::{MAX_LINE, SPACE, split_at};
 pub use decimal::{MAX_DIGITS, append_decimal, read_decimal};
 pub use hexadecimal::{append_hex, write_hex};
 pub use laws::{texts_join, whole_lines_are_read};
 pub use lines::{join_lines, split_line};
-
-#[cfg(test)]
-mod example;
-#[cfg(test)]
-mod tests;

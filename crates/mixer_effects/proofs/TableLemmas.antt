@@ -8,8 +8,8 @@ use Rattle.std.specs.List.{range_with_len}
 use Rattle.std.specs.Option.{option_map, option_and_then, option_eq}
 use Rattle.std.specs.Ordering.{nat_cmp}
 use Rattle.std.specs.FinMap.{FinMap, empty, get, get-empty}
-use Rattle.number_map.specs.Table.{put}
-use Rattle.number_map.proofs.PutLemmas.{get-put_same, get-put_other}
+use Rattle.number_tables.specs.Table.{put}
+use Rattle.number_tables.proofs.PutLemmas.{get-put_same, get-put_other}
 use Rattle.plant_config.specs.declared.records.Device.{Device}
 use Rattle.plant_config.specs.declared.records.Bus.{Bus}
 use Rattle.plant_config.specs.Plant.{PlantData}

@@ -5,8 +5,8 @@ use Rattle.std.proofs.Common.{◌≡◌, ℕ, ◌==◌, cond, [], ◌∷◌, cod
 use Rattle.std.specs.Ordering.{nat_cmp}
 use Rattle.std.specs.FinMap as finite
 use Rattle.std.specs.FinMap.{empty}
-use Rattle.number_map.specs.Table.{put}
-use Rattle.number_map.proofs.PutLemmas.{get-put}
+use Rattle.number_tables.specs.Table.{put}
+use Rattle.number_tables.proofs.PutLemmas.{get-put}
 use Rattle.plant_config.specs.Plant.{PlantData}
 use Rattle.plant_config.specs.Bench.{bench}
 use Rattle.crosspoint_state.specs.declared.spot.Spot.{Spot}

@@ -39,8 +39,8 @@ span_code = code_by (ℕ × ℕ) (coded× coded_ℕ coded_ℕ) (λ span. (span.f
     (λ pair. record { first = pair.0; count = pair.1 }) (λ _. refl)
 
 -- numbers by number are stored as the list of their entries
-abbrev pub numbers_code : Coded (FinMap nat_cmp ℕ)
-numbers_code = map_code coded_ℕ coded_ℕ
+abbrev pub by_number_code : Coded (FinMap nat_cmp ℕ)
+by_number_code = map_code coded_ℕ coded_ℕ
 
 -- a wiring is stored as its fields
 abbrev pub code : Coded Wiring
@@ -50,7 +50,7 @@ code =
     × ((FinMap nat_cmp ℕ × (FinMap nat_cmp ℕ × FinMap nat_cmp ℕ))
     × (FinMap nat_cmp Span × List ℕ)))
     (coded× (coded× (coded_list device_code) (coded_list bus_code))
-    (coded× (coded× numbers_code (coded× numbers_code numbers_code))
+    (coded× (coded× by_number_code (coded× by_number_code by_number_code))
     (coded× (map_code coded_ℕ span_code) (coded_list coded_ℕ))))
     (λ wiring. (
       (wiring.devices, wiring.buses),
@@ -70,8 +70,8 @@ code =
     }) (λ _. refl)
 
 -- the bus that a destination is
-abbrev pub bus_in : Wiring → ℕ → Option Bus
-bus_in wiring dest = option_and_then (slice_get wiring.buses) (get wiring.bus_by_dest dest)
+abbrev pub bus_at_dest : Wiring → ℕ → Option Bus
+bus_at_dest wiring dest = option_and_then (slice_get wiring.buses) (get wiring.bus_by_dest dest)
 
 -- the part of a list that a span is
 abbrev pub part_at : List ℕ → Span → List ℕ
@@ -94,6 +94,6 @@ pub record IsWiringOf (plant : PlantData) (wiring : Wiring) : Type 0 where
   pub buses : wiring.buses ≡ plant.buses
   pub numbers : (source : ℕ)
       → get wiring.number_by_source source ≡ source_number_of plant source
-  pub by_dest : (dest : ℕ) → bus_in wiring dest ≡ bus_at plant dest
+  pub by_dest : (dest : ℕ) → bus_at_dest wiring dest ≡ bus_at plant dest
   pub by_output : (source : ℕ) → get wiring.device_by_output source ≡ fed_device plant source
   pub switched : (dest : ℕ) → switched_in wiring dest ≡ switched_at plant dest

@@ -3,13 +3,13 @@
 ghost use Rattle.std.specs.Prelude.{◌≡◌, ◌+◌, ◌<◌, ◌++◌, length, slice_get, IfOk, OnOk};
 ghost use Rattle.std.specs.FinMap.{get};
 ghost use Rattle.plant_config.specs.Plant.{destinations_of, sources_of};
-ghost use Rattle.mixer_effects.specs.Wiring.{IsWiringOf, bus_in, switched_in, is_on_by};
+ghost use Rattle.mixer_effects.specs.Wiring.{IsWiringOf, bus_at_dest, switched_in, is_on_by};
 ghost use Rattle.mixer_effects.specs.WiringInside.{HaveNumbersBelow, HaveBusesFrom};
 ghost use Rattle.mixer_effects.specs.WiringInside.{HaveDevicesFrom};
 ghost use Rattle.mixer_effects.specs.WiringInside.{AreSpansBelow, switched_among};
 
 use crate::span::Span;
-use number_map::NumberMap;
+use number_tables::NumberMap;
 use plant_config::{Bus, BusId, DestId, Device, DeviceId, Plant, SourceId};
 use std::alloc::{AllocError, Global};
 use std::marker::Model;
@@ -93,7 +93,7 @@ impl Mixers {
 
     // The bus that a destination is.
     pub(crate) fn bus_at(&self, dest: DestId) -> Option<Bus>
-        ensures { result ≡ bus_in self.now dest }
+        ensures { result ≡ bus_at_dest self.now dest }
     {
         let number = self.bus_by_dest.get(dest.get())?;
         self.bus(number.get() as usize)

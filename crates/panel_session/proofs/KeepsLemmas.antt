@@ -16,7 +16,7 @@ use Rattle.panel_session.specs.declared.stage.Stage.{Stage}
 use Rattle.panel_session.specs.declared.stage.Stage.TheVariants.{Read, Tell, Poll as PollStage, End}
 use Rattle.panel_session.specs.Entry.{PlantEntry}
 use Rattle.panel_session.specs.Asked.{sent_to_plant}
-use Rattle.panel_session.specs.Turns.{bytes_of, entries_of, Turn}
+use Rattle.panel_session.specs.Turns.{bytes_of, entries_of_turns, Turn}
 use Rattle.panel_session.specs.Text.{Output, frames_of, with_frames, nothing_sent, output_from, told_at, polled_by, polled_at, with_control}
 use Rattle.panel_session.specs.OutgoingInside.{emptied}
 use Rattle.panel_session.specs.SoFar.{Past, read_so_far, entries_so_far, with_sent, with_entry}
@@ -59,17 +59,17 @@ pending_all : (unsent : Bool) (output : Output) → (unsent ≡ false → output
 pending_all true output none = refl
 pending_all false output none = ap (λ (bytes : List ℕ). record output { bytes = bytes }) (none refl)
 
-entries-told : (turns : List Turn) (told polls : List PlantEntry) (entry : PlantEntry) → polls ≡ [] → entries_of turns ++ ((told ++ entry ∷ []) ++ polls) ≡ (entries_of turns ++ (told ++ polls)) ++ entry ∷ []
+entries-told : (turns : List Turn) (told polls : List PlantEntry) (entry : PlantEntry) → polls ≡ [] → entries_of_turns turns ++ ((told ++ entry ∷ []) ++ polls) ≡ (entries_of_turns turns ++ (told ++ polls)) ++ entry ∷ []
 entries-told turns told polls entry none =
-    let P : List PlantEntry → Type 0 = λ polls. entries_of turns ++ ((told ++ entry ∷ []) ++ polls) ≡ (entries_of turns ++ (told ++ polls)) ++ entry ∷ [] in
+    let P : List PlantEntry → Type 0 = λ polls. entries_of_turns turns ++ ((told ++ entry ∷ []) ++ polls) ≡ (entries_of_turns turns ++ (told ++ polls)) ++ entry ∷ [] in
     subst P (sym none)
-    (ap (λ (now : List PlantEntry). entries_of turns ++ now) (append-nil (told ++ entry ∷ []) ∙ ap (λ (told : List PlantEntry). told ++ entry ∷ []) (sym (append-nil told)))
-    ∙ sym (append_assoc (entries_of turns) (told ++ []) (entry ∷ [])))
+    (ap (λ (now : List PlantEntry). entries_of_turns turns ++ now) (append-nil (told ++ entry ∷ []) ∙ ap (λ (told : List PlantEntry). told ++ entry ∷ []) (sym (append-nil told)))
+    ∙ sym (append_assoc (entries_of_turns turns) (told ++ []) (entry ∷ [])))
 
-entries-polled : (turns : List Turn) (told polls : List PlantEntry) (entry : PlantEntry) → entries_of turns ++ (told ++ (polls ++ entry ∷ [])) ≡ (entries_of turns ++ (told ++ polls)) ++ entry ∷ []
+entries-polled : (turns : List Turn) (told polls : List PlantEntry) (entry : PlantEntry) → entries_of_turns turns ++ (told ++ (polls ++ entry ∷ [])) ≡ (entries_of_turns turns ++ (told ++ polls)) ++ entry ∷ []
 entries-polled turns told polls entry =
-    ap (λ (now : List PlantEntry). entries_of turns ++ now) (sym (append_assoc told polls (entry ∷ [])))
-    ∙ sym (append_assoc (entries_of turns) (told ++ polls) (entry ∷ []))
+    ap (λ (now : List PlantEntry). entries_of_turns turns ++ now) (sym (append_assoc told polls (entry ∷ [])))
+    ∙ sym (append_assoc (entries_of_turns turns) (told ++ polls) (entry ∷ []))
 
 -- The plant answered what an item sent to it.
 pub keeps_told : (plant : PlantData) (panel count turns polls seat : ℕ) (message : Message) (output : Output) (past : Past) (answers : List Answer) (unsent : Bool)

@@ -16,7 +16,7 @@ use Rattle.panel_session.specs.declared.stage.Stage.{Stage}
 use Rattle.panel_session.specs.declared.stage.Stage.TheVariants.{Read, Tell, Poll as PollStage, End}
 use Rattle.panel_session.specs.Entry.{PlantEntry}
 use Rattle.panel_session.specs.Asked.{AllAsk, sent_to_plant}
-use Rattle.panel_session.specs.Turns.{bytes_of, entries_of, requests, AreTurns, IsTurn, Turn}
+use Rattle.panel_session.specs.Turns.{bytes_of, entries_of_turns, requests, AreTurns, IsTurn, Turn}
 use Rattle.panel_session.specs.Text.{Output, frames_of, with_frames, nothing_sent, output_from, IsText}
 use Rattle.panel_session.specs.OutgoingInside.{emptied}
 use mathlib.Core.List.{IsPrefix}
@@ -69,9 +69,9 @@ are_turns-append panel turns turn are is before after other split =
 pub bytes_of-append : (turns : List Turn) (turn : Turn) → bytes_of (turns ++ turn ∷ []) ≡ bytes_of turns ++ turn.piece
 bytes_of-append turns turn = flat_map-append (λ (turn : Turn). turn.piece) turns (turn ∷ []) ∙ ap (λ (piece : List ℕ). bytes_of turns ++ piece) (append-nil turn.piece)
 
-entries_of-append : (turns : List Turn) (turn : Turn) → entries_of (turns ++ turn ∷ []) ≡ entries_of turns ++ (turn.told ++ turn.polls)
+entries_of-append : (turns : List Turn) (turn : Turn) → entries_of_turns (turns ++ turn ∷ []) ≡ entries_of_turns turns ++ (turn.told ++ turn.polls)
 entries_of-append turns turn =
-    flat_map-append (λ (turn : Turn). turn.told ++ turn.polls) turns (turn ∷ []) ∙ ap (λ (now : List PlantEntry). entries_of turns ++ now) (append-nil (turn.told ++ turn.polls))
+    flat_map-append (λ (turn : Turn). turn.told ++ turn.polls) turns (turn ∷ []) ∙ ap (λ (now : List PlantEntry). entries_of_turns turns ++ now) (append-nil (turn.told ++ turn.polls))
 
 -- A turn that is over is one.
 pub turn_over : (plant : PlantData) (panel count turns polls : ℕ) (output : Output) (past : Past)
@@ -86,7 +86,7 @@ keeps_turn plant panel count turns polls output past k =
     let later = with_turn past in
     let bytes : bytes_of later.turns ≡ read_so_far past = bytes_of-append past.turns past.now in
     let read : read_so_far later ≡ read_so_far past = append-nil (bytes_of later.turns) ∙ bytes in
-    let entries : entries_so_far later ≡ entries_so_far past = append-nil (entries_of later.turns) ∙ entries_of-append past.turns past.now in
+    let entries : entries_so_far later ≡ entries_so_far past = append-nil (entries_of_turns later.turns) ∙ entries_of-append past.turns past.now in
     let AskOf : List (Item (List ℕ)) → Type 0 = λ its. AllAsk its (k.before ++ k.asked) in
     let Told_of : List Asked → Type 0 = λ asked. AllTold 0 asked (entries_so_far past) in
     let Told_in : List PlantEntry → Type 0 = λ entries. AllTold 0 ((k.before ++ k.asked) ++ []) entries in

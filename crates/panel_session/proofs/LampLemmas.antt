@@ -13,7 +13,7 @@ use Rattle.plant_core.specs.declared.answer.Answer.{Answer}
 use Rattle.plant_core.specs.declared.answer.Answer.TheVariants.{Lamp, Finished}
 use Rattle.plant_core.specs.declared.request.Request.TheVariants.{DisplayPoll}
 use Rattle.plant_core.specs.State.{State, IsValid, AreCrosspoints}
-use Rattle.plant_core.specs.Displays.{lamp_limit, dark, value_with, value_at, value_of, differs, differing, refreshed, is_finished, taken, taken_first}
+use Rattle.plant_core.specs.Displays.{lamp_limit, dark, value_with, display_value, value_of, differs, differing, refreshed, is_finished, told_displays, taken_first}
 use Rattle.plant_core.specs.Step.{step}
 use Rattle.plant_core.proofs.Validity.{source_of-spot}
 use Rattle.panel_session.specs.DisplayPacket.{MayShow, AreLamps}
@@ -25,7 +25,7 @@ record IsWired (state : State) : Type 0 where
   is_crosspoint : AreCrosspoints state.plant state.crosspoints
 
 -- what a destination carries is a source of the plant,
-value_at-source : (state : State) (dest : ℕ) → IsWired state → IfSome (value_at state.plant state.crosspoints dest).source (λ source. source < sources_of state.plant)
+value_at-source : (state : State) (dest : ℕ) → IsWired state → IfSome (display_value state.plant state.crosspoints dest).source (λ source. source < sources_of state.plant)
 value_at-source state dest wired =
     elim (source_of state.crosspoints dest) as (λ found. source_of state.crosspoints dest ≡ found →
     IfSome (option_map_or (value_with state.plant state.crosspoints) found dark).source (λ source. source < sources_of state.plant)) [
@@ -41,13 +41,13 @@ value_at-source state dest wired =
 value_of-source : (state : State) (display : ℕ) → IsWired state → IfSome (value_of state display).source (λ source. source < sources_of state.plant)
 value_of-source state display wired =
     elim (slice_get state.plant.displays display) as (λ found.
-    IfSome (option_map_or (λ (found : records.Display). value_at state.plant state.crosspoints found.watch) found dark).source (λ source. source < sources_of state.plant)) [
+    IfSome (option_map_or (λ (found : records.Display). display_value state.plant state.crosspoints found.watch) found dark).source (λ source. source < sources_of state.plant)) [
       | None ↦ tt
       | Some found ↦ value_at-source state found.watch wired
     ]
 
--- So it is of displays that are taken,
-taken-lamps : (state : State) (displays : List ℕ) → IsWired state → All (λ display. display < length state.plant.displays) displays → AreLamps state.plant (taken state displays).answers
+-- So it is of displays that are told_displays,
+taken-lamps : (state : State) (displays : List ℕ) → IsWired state → All (λ display. display < length state.plant.displays) displays → AreLamps state.plant (told_displays state displays).answers
 taken-lamps state [] wired below =
     elim (is_finished state) as (λ b. AreLamps state.plant (cond b (Finished ∷ []) [])) [
       | true ↦ All-push (MayShow state.plant) [] Finished (All-nil (MayShow state.plant)) tt

@@ -7,7 +7,7 @@ use Rattle.std.proofs.lemmas.Nat.{div-mul-add}
 use Rattle.std.proofs.Math.Nat.{add-div_right}
 use Rattle.plant_names.specs.declared.paged.Paged.{Paged}
 use Rattle.plant_names.specs.declared.paged.Paged.TheVariants.{Nothing, Last, More}
-use Rattle.plant_names.specs.Pages.{AreFew, most_names, page_data, page_end, page_names, page_text}
+use Rattle.plant_names.specs.Pages.{AreFew, most_names, page_data, page_end, page_names, names_text}
 use Rattle.panel_session.specs.NamePages.{page_count, page_from, all_pages}
 use Rattle.panel_session.specs.RoomsInside.{most_named}
 use Rattle.panel_session.proofs.RoomLemmas.{names-most}
@@ -96,7 +96,7 @@ module _ (command matrix level size : ℕ) where
   ends true first None = refl
   ends false first None = refl
   ends true first (Some names) =
-      let one = page_text command matrix level size first (page_names true size first names) in
+      let one = names_text command matrix level size first (page_names true size first names) in
       elim (nat_lt first (length names)) as (λ test.
       Ends (if not test then Nothing else Last) (if test then one ∷ [] else []) (if test then one else []) (λ next. pages_behind command matrix level size true next (Some names))) [
         | true ↦ refl
@@ -148,7 +148,7 @@ module _ (command matrix level size : ℕ) where
       → (first < most) × (1 ≤ length (page_data command matrix level one size first names))
   written most one first None some few = absurd (some refl)
   written most one first (Some names) some few =
-      let its = page_text command matrix level size first (page_names one size first names) in
+      let its = names_text command matrix level size first (page_names one size first names) in
       let Long : Bool → Type 0 = λ test. 1 ≤ length (if test then its else []) in
       elim (cases_lt first (length names)) [
         | (inl less) ↦ (omega (arith, few, less), subst Long (sym (lt-ltb first (length names) less)) (omega arith))

@@ -20,7 +20,7 @@ use Rattle.panel_session.specs.Run.{MayTurn, HasRun}
 use Rattle.panel_session.specs.RunInside.{IsUnderWay}
 use Rattle.panel_session.specs.Session.{StandsFor, outgoing_of}
 use Rattle.panel_session.specs.SoFar.{Past, unread, read_so_far, with_bytes, with_sent, with_entry}
-use Rattle.panel_session.specs.Turns.{Turn, bytes_of, entries_in, entries_of, IsTurn}
+use Rattle.panel_session.specs.Turns.{Turn, bytes_of, entries_in, entries_of_turns, IsTurn}
 use Rattle.panel_session.specs.Text.{IsText}
 
 -- nothing is left of nothing
@@ -186,8 +186,8 @@ module _ {State : Type 0} {step : State → Request → Stepped State Answer} {F
       let turn : Turn = record now.now { piece = now.now.piece ++ take used rest } in
       let all : take used rest ≡ rest = take_all used rest (omega (arith, acts.0)) in
       let TurnBehind : List Turn → Type 0 = λ turns. IsTurn panel turns turn in
-      let TextBehind : List Turn → Type 0 = λ turns. IsText plant (items (bytes_of turns ++ turn.piece)) (entries_of turns ++ entries_in turn) now.sent in
-      let TextOf : List ℕ → Type 0 = λ sent. IsText plant (items (bytes_of past.turns ++ turn.piece)) (entries_of past.turns ++ entries_in turn) sent in
+      let TextBehind : List Turn → Type 0 = λ turns. IsText plant (items (bytes_of turns ++ turn.piece)) (entries_of_turns turns ++ entries_in turn) now.sent in
+      let TextOf : List ℕ → Type 0 = λ sent. IsText plant (items (bytes_of past.turns ++ turn.piece)) (entries_of_turns past.turns ++ entries_in turn) sent in
       let At : Past → Type 0 = λ past. StandsFor plant panel after past in
       record {
         turn = turn;

@@ -23,7 +23,7 @@ use Rattle.panel_session.specs.Entry.{PlantEntry}
 use Rattle.panel_session.specs.Run.{IsWorked}
 use Rattle.panel_session.specs.SoFar.{Past}
 use Rattle.panel_session.specs.Text.{nothing_sent, output_from}
-use Rattle.panel_session.specs.Turns.{Turn, ArePolls, EndIn, bytes_of, entries_in, entries_of, requests}
+use Rattle.panel_session.specs.Turns.{Turn, ArePolls, EndIn, bytes_of, entries_in, entries_of_turns, requests}
 
 -- The kinds of messages differ.
 plant≢report : Plant ≢ Report
@@ -205,7 +205,7 @@ module _ {State : Type 0} (step : State → Request → Stepped State Answer) (F
       (ap (λ (piece : List ℕ). items (bytes_of past.turns ++ piece)) same) w.text.items_ask v.text.items_ask in
       let sent : past.sent ++ more ≡ past.sent ++ less =
       w.text.bytes
-      ∙ ap (λ (asked : List Asked). (output_from plant 0 asked (entries_of past.turns ++ entries_in turn) nothing_sent).bytes) all_asked
-      ∙ ap (λ (turn : Turn). (output_from plant 0 v.text.asked (entries_of past.turns ++ entries_in turn) nothing_sent).bytes) turns
+      ∙ ap (λ (asked : List Asked). (output_from plant 0 asked (entries_of_turns past.turns ++ entries_in turn) nothing_sent).bytes) all_asked
+      ∙ ap (λ (turn : Turn). (output_from plant 0 v.text.asked (entries_of_turns past.turns ++ entries_in turn) nothing_sent).bytes) turns
       ∙ sym v.text.bytes in
       (turns, append_cancel_left past.sent more less sent)

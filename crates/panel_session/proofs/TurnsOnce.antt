@@ -8,7 +8,7 @@ use Rattle.dle_framing.specs.Items.{items}
 use Rattle.panel_session.specs.declared.asked.Asked.{Asked}
 use Rattle.panel_session.specs.Asked.{AllAsk, sent_to_plant}
 use Rattle.panel_session.specs.Entry.{PlantEntry}
-use Rattle.panel_session.specs.Turns.{Turn, bytes_of, entries_in, entries_of, AreTurns, IsTurn}
+use Rattle.panel_session.specs.Turns.{Turn, bytes_of, entries_in, entries_of_turns, AreTurns, IsTurn}
 use Rattle.panel_session.proofs.TurnOnce.{all_ask-one}
 
 -- Two fronts of one list that ask as much are the same.
@@ -73,7 +73,7 @@ turn-front panel before turn other later after is is' same fronts =
 -- Turns with one piece more, whose entries begin with those of other turns: they are these turns and one more, with the
 -- entries that are left.
 turns-more : (panel : ℕ) (before turns others : List Turn) (piece : List ℕ) (entries : List PlantEntry) → AreTurns panel (before ++ turns) → AreTurns panel (before ++ others)
-    → map (λ turn. turn.piece) others ≡ map (λ turn. turn.piece) turns ++ piece ∷ [] → entries_of others ≡ entries_of turns ++ entries
+    → map (λ turn. turn.piece) others ≡ map (λ turn. turn.piece) turns ++ piece ∷ [] → entries_of_turns others ≡ entries_of_turns turns ++ entries
     → (turn : Turn) × (others ≡ turns ++ turn ∷ []) × (turn.piece ≡ piece) × (entries_in turn ≡ entries)
 turns-more panel before [] [] piece entries are are' pieces is = absurd cc
 turns-more panel before [] (turn ∷ []) piece entries are are' pieces is = (turn, refl, cc, sym (append-nil (entries_in turn)) ∙ is)
@@ -82,8 +82,8 @@ turns-more panel before (turn ∷ turns) [] piece entries are are' pieces is = a
 turns-more panel before (turn ∷ turns) (other ∷ others) piece entries are are' pieces is =
     let same : other.piece ≡ turn.piece = cc in
     let tail : map (λ (turn : Turn). turn.piece) others ≡ map (λ (turn : Turn). turn.piece) turns ++ piece ∷ [] = cc in
-    let first = turn-front panel before other turn (entries_of others) (entries_of turns ++ entries) (are' before others other refl) (are before turns turn refl) same
-    (is ∙ append_assoc (entries_in turn) (entries_of turns) entries) in
+    let first = turn-front panel before other turn (entries_of_turns others) (entries_of_turns turns ++ entries) (are' before others other refl) (are before turns turn refl) same
+    (is ∙ append_assoc (entries_in turn) (entries_of_turns turns) entries) in
     let Are : List Turn → Type 0 = λ turns. AreTurns panel turns in
     let Behind : Turn → Type 0 = λ turn. AreTurns panel ((before ++ turn ∷ []) ++ others) in
     let rest = turns-more panel (before ++ turn ∷ []) turns others piece entries
@@ -92,7 +92,7 @@ turns-more panel before (turn ∷ turns) (other ∷ others) piece entries are ar
 
 -- So what comes behind a session's turns is one turn of the piece, with the entries that are left.
 pub next_turn : (panel : ℕ) (turns others : List Turn) (piece : List ℕ) (entries : List PlantEntry) → AreTurns panel turns → AreTurns panel others
-    → map (λ turn. turn.piece) others ≡ map (λ turn. turn.piece) turns ++ piece ∷ [] → entries_of others ≡ entries_of turns ++ entries
+    → map (λ turn. turn.piece) others ≡ map (λ turn. turn.piece) turns ++ piece ∷ [] → entries_of_turns others ≡ entries_of_turns turns ++ entries
     → (turn : Turn) × (turn.piece ≡ piece) × (entries_in turn ≡ entries) × IsTurn panel turns turn
 next_turn panel turns others piece entries are are' pieces is =
     let more = turns-more panel [] turns others piece entries are are' pieces is in

@@ -26,15 +26,15 @@ unfoldable pub calls_left : Session → ℕ
 calls_left session = stage_left session.stage session.polls + unsent_left session.unsent
 
 -- `Send` leaves less to do, and `Ask` no more. What `Rest` leaves is of the next turn.
-abbrev pub Leaves : Act → ℕ → ℕ → Type 0
-Leaves Send before after = after < before
-Leaves (Ask request) before after = after ≤ before
-Leaves Rest before after = Unit {0}
+abbrev pub LeavesLessToDo : Act → ℕ → ℕ → Type 0
+LeavesLessToDo Send before after = after < before
+LeavesLessToDo (Ask request) before after = after ≤ before
+LeavesLessToDo Rest before after = Unit {0}
 
 -- So many bytes of so many were used, each of which may take four calls: less is left to do, as the answer says.
 abbrev pub LeavesLess : Session → ℕ → ℕ → Act → Session → Type 0
 LeavesLess before length used act after =
-    Leaves act (4 * length + calls_left before) (4 * (length - used) + calls_left after)
+    LeavesLessToDo act (4 * length + calls_left before) (4 * (length - used) + calls_left after)
 
 -- Where a session awaited the answers to this request, fewer calls are left once it was answered.
 abbrev pub IsNearer : Session → Request → Session → Type 0

@@ -22,8 +22,8 @@ index_of plant display =
     option_map_or (λ (found : records.Display). found.index) (slice_get plant.displays display) 0
 
 -- the whole name of a source, and nothing where there is none
-abbrev pub text_of : PlantData → Option ℕ → List ℕ
-text_of plant source = unwrap_or (option_and_then (source_name_of plant) source) []
+abbrev pub umd_text : PlantData → Option ℕ → List ℕ
+umd_text plant source = unwrap_or (option_and_then (source_name_of plant) source) []
 
 -- a lamp of this colour where it is on, and off elsewhere
 abbrev pub lamp_if : Bool → Lamp → Lamp
@@ -45,7 +45,7 @@ lamp_shown plant display value = record {
   middle = text_lamp value.air value.preview;
   left = lamp_if value.preview Green;
   brightness = plant.server.brightness;
-  text = text_of plant value.source;
+  text = umd_text plant value.source;
 }
 
 -- the display that an answer shows, none where it isn't a lamp

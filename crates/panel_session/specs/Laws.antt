@@ -14,7 +14,7 @@ use Rattle.panel_session.specs.Run.{IsWorked}
 use Rattle.panel_session.specs.Session.{StandsFor, Awaits, outgoing_of}
 use Rattle.panel_session.specs.SoFar.{Past, IsSoFar, unread}
 use Rattle.panel_session.specs.Text.{IsText}
-use Rattle.panel_session.specs.Turns.{Turn, Fits, bytes_of, entries_of}
+use Rattle.panel_session.specs.Turns.{Turn, Fits, bytes_of, entries_of_turns}
 
 -- what a session stands for is what one may have done so far
 abbrev pub StandsSoFar : Type 0
@@ -40,14 +40,14 @@ TurnsAreOne {State} step Takes =
 abbrev pub TurnsFit : Type 0
 TurnsFit = (plant : PlantData) (panel : ℕ) (session : Session) (past : Past)
     → StandsFor plant panel session past
-    → Fits panel (map (λ turn. turn.piece) past.turns) (entries_of past.turns)
+    → Fits panel (map (λ turn. turn.piece) past.turns) (entries_of_turns past.turns)
 
 -- Before anything was done of a turn, the text of those that are over was sent, or is once the outgoing bytes are.
 abbrev pub TurnsAreSent : Type 0
 TurnsAreSent = (plant : PlantData) (panel : ℕ) (session : Session) (past : Past)
     → StandsFor plant panel session past → past.now ≡ unread
-    → IsText plant (items (bytes_of past.turns)) (entries_of past.turns) past.sent
-    ⊎ IsText plant (items (bytes_of past.turns)) (entries_of past.turns)
+    → IsText plant (items (bytes_of past.turns)) (entries_of_turns past.turns) past.sent
+    ⊎ IsText plant (items (bytes_of past.turns)) (entries_of_turns past.turns)
     (past.sent ++ outgoing_of session)
 
 -- In a valid state the lamps that answer a display poll are of displays and sources of the plant.

@@ -5,7 +5,7 @@ use Rattle.dle_framing.specs.Frame.{frame}
 use Rattle.swp08_messages.specs.declared.message.Message.{Message}
 use Rattle.swp08_messages.specs.declared.message.Message.TheVariants.{SourceNamesAsk, SourceNameAsk, DestNamesAsk, DestNameAsk}
 use Rattle.plant_config.specs.Plant.{PlantData}
-use Rattle.plant_names.specs.Pages.{most_names, page_names, page_text, names_of_sources, names_of_dests, source_page_command, dest_page_command}
+use Rattle.plant_names.specs.Pages.{most_names, page_names, names_text, names_of_sources, names_of_dests, source_page_command, dest_page_command}
 
 -- how many pages so many names of this size take
 abbrev pub page_count : ℕ → ℕ → ℕ
@@ -18,7 +18,7 @@ page_first size page = page * most_names size
 -- the DATA of the page of names that begins at this number
 abbrev pub page_from : ℕ → ℕ → ℕ → ℕ → List (List ℕ) → ℕ → List ℕ
 page_from command matrix level size names first =
-    page_text command matrix level size first (page_names false size first names)
+    names_text command matrix level size first (page_names false size first names)
 
 -- The DATA of all pages of names, in order: each but the last has the most names of a page.
 abbrev pub all_pages : ℕ → ℕ → ℕ → ℕ → Option (List (List ℕ)) → List (List ℕ)
@@ -33,7 +33,7 @@ abbrev pub one_page : ℕ → ℕ → ℕ → ℕ → ℕ → Option (List (List
 one_page command matrix level size number None = []
 one_page command matrix level size number (Some names) =
     if nat_lt number (length names)
-    then page_text command matrix level size number (page_names true size number names) ∷ []
+    then names_text command matrix level size number (page_names true size number names) ∷ []
     else []
 
 -- The DATA of the pages of the plant's names that a message asks for, in order: all pages of a level's sources or of a

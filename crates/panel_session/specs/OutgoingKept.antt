@@ -11,8 +11,8 @@ use Rattle.panel_session.specs.declared.outgoing.Outgoing.TheInside.{Inside}
 abbrev pub most_message_frame : ℕ
 most_message_frame = 24
 
-abbrev pub most_frame : ℕ
-most_frame = 276
+abbrev pub most_answer_frame : ℕ
+most_answer_frame = 276
 
 -- the bytes that so many answers may take
 abbrev pub answer_bytes : ℕ → ℕ
@@ -35,8 +35,8 @@ sent_as Ack bytes = ack
 sent_as Nak bytes = nak
 sent_as Bytes bytes = bytes
 
-abbrev pub output_of : Inside → Output
-output_of outgoing =
+abbrev pub kept_output : Inside → Output
+kept_output outgoing =
     record {
       bytes = sent_as outgoing.sending outgoing.bytes.items;
       last = some_frame (drop outgoing.last_from outgoing.bytes.items);
@@ -45,7 +45,7 @@ output_of outgoing =
 
 abbrev pub buffer_of : Inside → Buffer
 buffer_of outgoing =
-    record { output = output_of outgoing; room = vec_capacity outgoing.bytes }
+    record { output = kept_output outgoing; room = vec_capacity outgoing.bytes }
 
 -- There is room for an ACK or a NAK, and for the DATA of a page.
 pub record IsKept (outgoing : Inside) : Type 0 where

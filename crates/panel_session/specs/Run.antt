@@ -14,7 +14,7 @@ use Rattle.panel_session.specs.Entry.{PlantEntry}
 use Rattle.panel_session.specs.Session.{StandsFor}
 use Rattle.panel_session.specs.SoFar.{Past, unread}
 use Rattle.panel_session.specs.Text.{IsText}
-use Rattle.panel_session.specs.Turns.{Turn, bytes_of, entries_in, entries_of, IsTurn}
+use Rattle.panel_session.specs.Turns.{Turn, bytes_of, entries_in, entries_of_turns, IsTurn}
 
 -- the past with one turn more, in which these bytes were sent
 abbrev pub turned : Turn → List ℕ → Past → Past
@@ -26,7 +26,7 @@ turned turn more past =
 abbrev pub CompletesText : PlantData → Past → Turn → List ℕ → Type 0
 CompletesText plant past turn more =
     IsText plant (items (bytes_of past.turns ++ turn.piece))
-    (entries_of past.turns ++ entries_in turn) (past.sent ++ more)
+    (entries_of_turns past.turns ++ entries_in turn) (past.sent ++ more)
 
 -- A turn of a panel's session is worked behind a past, by a machine from this state on, and these bytes are sent in it: it
 -- is a turn, its entries are the panel's, each is answered as the machine answers it in its place, and all that was sent so

@@ -5,18 +5,18 @@ use Rattle.panel_session.specs.RoomsInside.{most_named, room_to_send}
 use Rattle.panel_session.specs.Text.{Output}
 use Rattle.panel_session.specs.declared.sender.Sender.TheInside.{Inside}
 
-pub record Sends : Type 0 where
+pub record SenderData : Type 0 where
   pub names : PlantData
   pub output : Output
 
-abbrev pub sends_of : Inside → Sends
+abbrev pub sends_of : Inside → SenderData
 sends_of sender = record { names = sender.names.now; output = sender.outgoing.output }
 
 -- There is room for all pages of names.
-pub record HasRoom (sender : Inside) : Type 0 where
+pub record HasPageRoom (sender : Inside) : Type 0 where
   pub room : room_to_send sender.names.now ≤ sender.outgoing.room
   pub most : sender.most ≡ most_named sender.names.now
 
 -- the same names, and this is sent next
-abbrev pub sending : Output → Sends → Sends
+abbrev pub sending : Output → SenderData → SenderData
 sending output sends = record sends { output = output }

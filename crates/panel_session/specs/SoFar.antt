@@ -9,7 +9,7 @@ use Rattle.plant_core.specs.declared.request.Request.TheVariants.{Told, Poll, Le
 use Rattle.panel_session.specs.Entry.{PlantEntry}
 use Rattle.panel_session.specs.declared.asked.Asked.{Asked}
 use Rattle.panel_session.specs.Asked.{AllAsk, sent_to_plant}
-use Rattle.panel_session.specs.Turns.{Turn, bytes_of, entries_of, requests, item_count, poll_behind, EndIn, AreTurns, IsTurn}
+use Rattle.panel_session.specs.Turns.{Turn, bytes_of, entries_of_turns, requests, item_count, poll_behind, EndIn, AreTurns, IsTurn}
 use Rattle.panel_session.specs.Text.{IsText}
 
 -- The turns that are over, the present one so far (the bytes of its piece that were used, and its entries), and the bytes
@@ -51,7 +51,7 @@ abbrev pub read_so_far : Past → List ℕ
 read_so_far past = bytes_of past.turns ++ past.now.piece
 
 abbrev pub entries_so_far : Past → List PlantEntry
-entries_so_far past = entries_of past.turns ++ (past.now.told ++ past.now.polls)
+entries_so_far past = entries_of_turns past.turns ++ (past.now.told ++ past.now.polls)
 
 -- the poll that the present turn makes
 abbrev pub poll_now : ℕ → Past → Request

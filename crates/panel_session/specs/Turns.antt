@@ -24,8 +24,8 @@ bytes_of turns = flat_map (λ turn. turn.piece) turns
 abbrev pub entries_in : Turn → List PlantEntry
 entries_in turn = turn.told ++ turn.polls
 
-abbrev pub entries_of : List Turn → List PlantEntry
-entries_of turns = flat_map entries_in turns
+abbrev pub entries_of_turns : List Turn → List PlantEntry
+entries_of_turns turns = flat_map entries_in turns
 
 -- what entries asked of the plant
 abbrev pub requests : List PlantEntry → List Request
@@ -74,4 +74,4 @@ pub record Fits (panel : ℕ) (reads : List (List ℕ)) (entries : List PlantEnt
   pub turns : List Turn
   pub are_turns : AreTurns panel turns
   pub pieces : map (λ turn. turn.piece) turns ≡ reads
-  pub entries_are : entries_of turns ≡ entries
+  pub entries_are : entries_of_turns turns ≡ entries

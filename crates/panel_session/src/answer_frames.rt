@@ -31,7 +31,7 @@ impl Outgoing {
         !self.as_slice().is_empty()
     }
 
-    // The frames of these answers are to be sent too, in order. Nearly every request has one answer or none.
+    // The frames of these answers are to be sent too, in order. Short way: nearly every request has one answer or none.
     #[inline(always)]
     pub(crate) fn answer_too(&mut self, answers: &[Answer])
         requires sayable { All IsSayable answers.now }

@@ -13,7 +13,7 @@ ghost use Rattle.panel_session.specs.NamePagesInside.{data_of, end_of};
 ghost use Rattle.plant_names.specs.Pages.{AreFew};
 ghost use Rattle.plant_names.specs.declared.paged.Paged.TheVariants.{Nothing};
 ghost use Rattle.panel_session.specs.OutgoingInside.{emptied};
-ghost use Rattle.panel_session.specs.OutgoingKept.{most_message_frame, most_frame};
+ghost use Rattle.panel_session.specs.OutgoingKept.{most_message_frame, most_answer_frame};
 ghost use Rattle.panel_session.specs.OutgoingKept.{answer_bytes};
 ghost use Rattle.panel_session.specs.RoomsInside.{room_to_send};
 
@@ -191,7 +191,7 @@ impl Outgoing {
             → self.new.output ≡ with_frame (frame (data_of names.now page)) self.old.output }
         ensures room { self.new.room ≡ self.old.room }
         ensures most { length self.new.output.bytes
-            ≤ length self.old.output.bytes + most_frame }
+            ≤ length self.old.output.bytes + most_answer_frame }
     {
         let Outgoing {
             sending,

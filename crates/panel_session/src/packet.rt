@@ -7,7 +7,7 @@ ghost use Rattle.tsl_umd5.specs.Layout.{max_brightness, max_packet};
 ghost use Rattle.tsl_umd5.specs.Packet.{view, IsPacketText, IsPrintable};
 ghost use Rattle.plant_config.specs.Plant.{sources_of};
 ghost use Rattle.plant_core.specs.Displays.{lamp_limit};
-ghost use Rattle.panel_session.specs.DisplayPacket.{longest_packet, text_of, lamp_if};
+ghost use Rattle.panel_session.specs.DisplayPacket.{longest_packet, umd_text, lamp_if};
 ghost use Rattle.panel_session.specs.DisplayPacket.{text_lamp, lamp_shown, packet_of};
 ghost use Rattle.panel_session.specs.DisplayPacket.{IsLamp, MayShow, AreLamps};
 ghost use Rattle.panel_session.specs.DisplayPacketInside.{AddsShown};
@@ -95,7 +95,7 @@ fn text_lamp(air: bool, preview: bool) -> Lamp
 // The name of a source, and nothing where there is none.
 fn text_of(plant: &Plant, source: Option<SourceId>) -> &[u8]
     requires { IfSome source (λ source. source < sources_of plant.now) }
-    ensures text { result.now ≡ text_of plant.now source }
+    ensures text { result.now ≡ umd_text plant.now source }
     ensures printable { AllByRecursion IsPrintable result.now }
     ensures most { length result.now ≤ 12 }
 {

@@ -38,13 +38,13 @@ pub(crate) struct Sender<'p> {
 }
 
 impl<'p> Model for Sender<'p> {
-    ghost use Rattle.panel_session.specs.SenderKept.{Sends, sends_of, HasRoom};
+    ghost use Rattle.panel_session.specs.SenderKept.{SenderData, sends_of, HasPageRoom};
 
-    ghost Value = { Sends };
+    ghost Value = { SenderData };
 
     ghost view = { λ sender. sends_of sender };
 
-    ghost invariant = { λ sender. HasRoom sender };
+    ghost invariant = { λ sender. HasPageRoom sender };
 }
 
 impl<'p> Sender<'p> {

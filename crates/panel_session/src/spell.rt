@@ -15,8 +15,8 @@ use dle_framing::encode_frame;
 use plant_names::{Names, Paged};
 use swp08_messages::Message;
 
-// Appends the frame of a message. Most tell a crosspoint, and have DATA of one length; those of any other stand in place of
-// what was spelled.
+// Appends the frame of a message. Short way: most tell a crosspoint, and have DATA of one length; those of any other stand in
+// place of what was spelled.
 #[inline(always)]
 pub(crate) fn spell_frame(message: &Message, spelled: &mut Vec<u8>, out: &mut Vec<u8>)
     requires in_range { InRange message.now }

@@ -35,7 +35,7 @@ use Rattle.plant_core.specs.State.{State, IsValid, Fits, standing, owner_at, dev
 use Rattle.plant_core.specs.Connects.{says, says_nothing, change_of, connected}
 use Rattle.plant_core.specs.Protecting.{owner_told, with_owners, protected, unprotected}
 use Rattle.plant_core.specs.Salvos.{stored_in, taken_whole, cleared, message_place, no_place, told_place, entry_told, entry_answer}
-use Rattle.plant_core.specs.Step.{step, dest_of, dest_count, dumped_at, told_at, told_owner, notice_of}
+use Rattle.plant_core.specs.Step.{step, dest_of, dest_count, dumped_at, told_source, told_owner, notice_of}
 use Rattle.plant_core.proofs.Validity.{device-within}
 use Rattle.plant_core.proofs.CountLemmas.{room_within, dest_count_within}
 use Rattle.plant_core.specs.Answer.{IsSayable}
@@ -110,7 +110,7 @@ sayable-notice : (state : State) (notice : Option (ℕ × Sort)) → IsValid sta
 sayable-notice state None valid = All-nil IsSayable
 sayable-notice state (Some (dest, Source)) valid =
     let at : Point = told_place state.plant dest in
-    All-one (told_at state at) (InRange-crosspoint at (standing state at) (told_place-IsPoint state.plant dest valid.is_plant) (standing-IsSource state at valid.is_plant))
+    All-one (told_source state at) (InRange-crosspoint at (standing state at) (told_place-IsPoint state.plant dest valid.is_plant) (standing-IsSource state at valid.is_plant))
 sayable-notice state (Some (dest, Protect)) valid =
     All-one (told_owner (told_place state.plant dest) (finite.get state.owners dest))
     (sayable-owner (told_place state.plant dest) (finite.get state.owners dest) (told_place-IsPoint state.plant dest valid.is_plant) (owner-of state dest valid))

@@ -11,7 +11,7 @@ use Rattle.change_boards.specs.Screens.{displays_of}
 use Rattle.plant_core.specs.declared.answer.Answer.TheVariants.{Finished}
 use Rattle.plant_core.specs.State.{State, IsValid}
 use Rattle.plant_core.specs.Displays as displays
-use Rattle.plant_core.specs.Displays.{lamp_limit, differing, is_finished, taken, taken_first}
+use Rattle.plant_core.specs.Displays.{lamp_limit, differing, is_finished, told_displays, taken_first}
 use Rattle.plant_core.specs.DisplayLaws.{AllIsFinished, lamps_for}
 use Rattle.plant_core.proofs.DisplayLemmas.{none_more, some_at}
 use Rattle.plant_core.proofs.ScreenLemmas.{displays-below}
@@ -62,7 +62,7 @@ finished-told state screen valid all =
     let none : differing state screen ≡ [] =
     none-pass (displays.differs state) (displays_of state.plant screen)
     (All-weaker (λ display. display < length state.plant.displays) (λ display. displays.differs state display ≡ false) (λ display below. all.shown display below) (displays_of state.plant screen) (displays-below state.plant screen)) in
-    ap (λ list. (taken state (take lamp_limit list)).answers) none ∙ ap (λ b. cond b (Finished ∷ []) []) (is-finished state valid all)
+    ap (λ list. (told_displays state (take lamp_limit list)).answers) none ∙ ap (λ b. cond b (Finished ∷ []) []) (is-finished state valid all)
 
 -- and is told nowhere else
 no_lamp : (state : State) (list : List ℕ) (k : ℕ) → k < length (lamps_for state list) → get_or (lamps_for state list) k Finished ≡ Finished → ⊥
@@ -77,6 +77,6 @@ finished-true state screen valid among = told (take lamp_limit (differing state 
     quiet true is among = (finished-is state valid is, refl)
     quiet false is among = absurd (omega (arith, among.1))
 
-    told : (list : List ℕ) → Contains (taken state list).answers Finished → AllIsFinished state × ((taken state list).answers ≡ Finished ∷ [])
+    told : (list : List ℕ) → Contains (told_displays state list).answers Finished → AllIsFinished state × ((told_displays state list).answers ≡ Finished ∷ [])
     told [] among = quiet (is_finished state) refl among
     told (display ∷ list) among = absurd (no_lamp state (display ∷ list) among.0 among.1 among.2)

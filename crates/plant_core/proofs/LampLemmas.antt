@@ -16,7 +16,7 @@ use Rattle.plant_core.specs.declared.answer.Answer.TheVariants.{Lamp, Finished}
 use Rattle.plant_core.specs.declared.request.Request.TheVariants.{DisplayPoll}
 use Rattle.plant_core.specs.State.{State, IsValid}
 use Rattle.plant_core.specs.Displays as displays
-use Rattle.plant_core.specs.Displays.{lamp_limit, value_of, differing, refreshed, is_finished, taken, taken_first, all_shown}
+use Rattle.plant_core.specs.Displays.{lamp_limit, value_of, differing, refreshed, is_finished, told_displays, taken_first, all_shown}
 use Rattle.plant_core.specs.DisplaysInside.{differing_of, shown_all}
 use Rattle.plant_core.specs.Step.{step}
 use Rattle.plant_core.specs.Laws.{after}
@@ -94,7 +94,7 @@ rest-differs (first ∷ list) values (suc n) shown count once long below =
     ] refl
 
 -- what a poll leaves: the state in which those that it took were shown their values
-pub taken-state : (state : State) (list : List ℕ) → (taken state list).state ≡ record state { shown = shown_all (value_of state) list state.shown }
+pub taken-state : (state : State) (list : List ℕ) → (told_displays state list).state ≡ record state { shown = shown_all (value_of state) list state.shown }
 taken-state state [] = refl
 taken-state state (display ∷ list) = ap (λ (shown : Shown). record state { shown = shown }) (all_shown-are (display ∷ list) state state.shown)
 
@@ -127,7 +127,7 @@ only-lamps : (state : State) (list : List ℕ) → lamps_among (lamps_for state 
 only-lamps state [] = refl
 only-lamps state (display ∷ list) = ap (λ (lamps : List Answer). Lamp display (value_of state display) ∷ lamps) (only-lamps state list)
 
-taken-lamps : (state : State) (list : List ℕ) → lamps_among (taken state list).answers ≡ lamps_for state list
+taken-lamps : (state : State) (list : List ℕ) → lamps_among (told_displays state list).answers ≡ lamps_for state list
 taken-lamps state [] = elim (is_finished state) as (λ b. lamps_among (cond b (Finished ∷ []) []) ≡ []) [ true ↦ refl | false ↦ refl ]
 taken-lamps state (display ∷ list) = only-lamps state (display ∷ list)
 
@@ -180,11 +180,11 @@ each-fails test (first ∷ list) none =
       | false ↦ λ is none. All-cons (λ x. test x ≡ false) first list is (each-fails test list none)
     ] refl none
 
-quiet-none : (state : State) (list : List ℕ) → All IsNoLamp (taken state (take lamp_limit list)).answers → list ≡ []
+quiet-none : (state : State) (list : List ℕ) → All IsNoLamp (told_displays state (take lamp_limit list)).answers → list ≡ []
 quiet-none state [] all = refl
 quiet-none state (display ∷ list) all = absurd (all 0 Finished (omega arith))
 
-none-quiet : (state : State) → All IsNoLamp (taken state []).answers
+none-quiet : (state : State) → All IsNoLamp (told_displays state []).answers
 none-quiet state =
     elim (is_finished state) as (λ b. All IsNoLamp (cond b (Finished ∷ []) [])) [ true ↦ All-push IsNoLamp [] Finished (All-nil IsNoLamp) tt | false ↦ All-nil IsNoLamp ]
 
@@ -194,18 +194,18 @@ quiet-taken state screen all = each-fails (displays.differs state) (displays_of 
 
 pub taken-quiet : (state : State) (screen : ℕ) → NoneDiffers state screen → All IsNoLamp (taken_first state screen).answers
 taken-quiet state screen none =
-    subst (λ list. All IsNoLamp (taken state (take lamp_limit list)).answers) (sym (none-pass (displays.differs state) (displays_of state.plant screen) none)) (none-quiet state)
+    subst (λ list. All IsNoLamp (told_displays state (take lamp_limit list)).answers) (sym (none-pass (displays.differs state) (displays_of state.plant screen) none)) (none-quiet state)
 
--- each that is taken is of the screen and differed, and doesn't differ any more
+-- each that is told_displays is of the screen and differed, and doesn't differ any more
 lit-each : (state : State) (screen : ℕ) (list : List ℕ) → All (Contains (displays_of state.plant screen)) list → All (λ display. displays.differs state display ≡ true) list →
-    All (λ display. displays.differs (taken state list).state display ≡ false) list → All (IsOfLit state (taken state list).state screen) (taken state list).answers
+    All (λ display. displays.differs (told_displays state list).state display ≡ false) list → All (IsOfLit state (told_displays state list).state screen) (told_displays state list).answers
 lit-each state screen [] on differed shown =
     elim (is_finished state) as (λ b. All (IsOfLit state state screen) (cond b (Finished ∷ []) [])) [
       | true ↦ All-push (IsOfLit state state screen) [] Finished (All-nil (IsOfLit state state screen)) tt
       | false ↦ All-nil (IsOfLit state state screen)
     ]
 lit-each state screen (display ∷ list) on differed shown =
-    All-map (IsOfLit state (taken state (display ∷ list)).state screen) (λ (display : ℕ). Lamp display (value_of state display)) (display ∷ list)
+    All-map (IsOfLit state (told_displays state (display ∷ list)).state screen) (λ (display : ℕ). Lamp display (value_of state display)) (display ∷ list)
     (λ k d below. record { on = on k d below; differed = differed k d below; told = refl; shown = shown k d below })
 
 pub taken-lit : (state : State) (screen : ℕ) → IsValid state → All (IsOfLit state (taken_first state screen).state screen) (taken_first state screen).answers

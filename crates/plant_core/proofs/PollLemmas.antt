@@ -8,12 +8,12 @@ use Rattle.swp08_messages.specs.declared.message.Message.TheVariants.{Interrogat
 use Rattle.plant_config.specs.declared.records.Change.{Change}
 use Rattle.plant_config.specs.Plant.{destinations_of}
 use Rattle.crosspoint_state.specs.Crosspoints.{is_idle}
-use Rattle.protects.specs.Owners.{allows, may_lift, taken as taken_owner, lifted}
+use Rattle.protects.specs.Owners.{allows, may_lift, without_next as taken_owner, lifted}
 use Rattle.salvo_groups.specs.Groups.{Group, group_of}
 use Rattle.change_boards.specs.declared.sort.Sort.{Sort}
 use Rattle.change_boards.specs.declared.sort.Sort.TheVariants.{Source, Protect}
 use Rattle.std.specs.FinMap as finite
-use Rattle.change_boards.specs.Board.{Board, IsEmpty, blank, abandoned, next, without, taken}
+use Rattle.change_boards.specs.Board.{Board, IsEmpty, blank, abandoned, next, without, without_next}
 use Rattle.change_boards.specs.Notices.{board_of, has_left, with_leave}
 use Rattle.change_boards.specs.Laws.{Leaves, TakesInOrder, notices_below}
 use Rattle.change_boards.proofs.OneNotice.{board_same, board_other, same_left}
@@ -44,7 +44,7 @@ in_order state panel takes valid = takes_in_order takes (board_of state.boards p
 -- a poll takes the first notice
 poll-left : (state : State) (panel item turn : ℕ) → IsValid state → panel < length state.plant.panels → notices_of (step state (Poll panel item turn)).state panel ≡ drop 1 (notices_of state panel)
 poll-left state panel item turn valid within =
-    ap (notices_below (destinations_of state.plant)) (board_same state.boards panel (taken (board_of state.boards panel)) (omega (arith, within, valid.boards.count)))
+    ap (notices_below (destinations_of state.plant)) (board_same state.boards panel (without_next (board_of state.boards panel)) (omega (arith, within, valid.boards.count)))
     ∙ (in_order state panel 1 valid).left
 
 drop-suc : (n : ℕ) (notices : List (ℕ × Sort)) → drop n (drop 1 notices) ≡ drop (suc n) notices
@@ -98,7 +98,7 @@ left_set boards p panel board new left = elim (cases_eq panel p) [
   | inr other ↦ ap (λ (b : Board). b.left) (board_other boards p panel board other) ∙ left
 ]
 
-taken_left : (board : Board) → (taken board).left ≡ board.left
+taken_left : (board : Board) → (without_next board).left ≡ board.left
 taken_left board = go (next board)
   where
     go : (notice : Option (ℕ × Sort)) → (without board notice).left ≡ board.left
@@ -157,7 +157,7 @@ module _ (state : State) (panel : ℕ) (left : has_left state.boards panel ≡ t
 left-step : (state : State) (panel : ℕ) (request : Request) → has_left state.boards panel ≡ true → has_left (step state request).state.boards panel ≡ true
 left-step state panel (Told p item message) left = told_left state panel left p item message
 left-step state panel (Poll p item turn) left =
-    left_set state.boards p panel (taken (board_of state.boards p)) (λ here. taken_left (board_of state.boards p) ∙ ap (has_left state.boards) (sym here) ∙ left) left
+    left_set state.boards p panel (without_next (board_of state.boards p)) (λ here. taken_left (board_of state.boards p) ∙ ap (has_left state.boards) (sym here) ∙ left) left
 left-step state panel (Leave p) left = left_set state.boards p panel abandoned (λ here. refl) left
 left-step state panel (DisplayPoll screen refresh) left = ap (λ (state : State). has_left state.boards panel) (display_polled-is state screen refresh) ∙ left
 

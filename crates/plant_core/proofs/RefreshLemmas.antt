@@ -12,7 +12,7 @@ use Rattle.change_boards.specs.Shown.{Shown, is_same, last, with_shown, with_for
 use Rattle.plant_core.specs.declared.request.Request.TheVariants.{DisplayPoll}
 use Rattle.plant_core.specs.State.{State, IsValid}
 use Rattle.plant_core.specs.Displays as displays
-use Rattle.plant_core.specs.Displays.{lamp_limit, value_of, differing, refreshed, is_finished, taken, taken_first, all_shown}
+use Rattle.plant_core.specs.Displays.{lamp_limit, value_of, differing, refreshed, is_finished, told_displays, taken_first, all_shown}
 use Rattle.plant_core.specs.DisplaysInside.{shown_all}
 use Rattle.plant_core.specs.Step.{step}
 use Rattle.plant_core.specs.DisplayLaws.{lamps_for}
@@ -57,13 +57,13 @@ refreshed-differ state screen =
     (All-weaker (λ display. last fresh.shown display ≡ None) (λ display. displays.differs fresh display ≡ true) (λ display none. ap (λ o. not (option_eq is_same o (Some (value_of fresh display)))) none) all (all-none all state.shown))
 
 -- so that a poll with a refresh tells the first of them
-all-told_first : (state : State) (list : List ℕ) → not (length list == 0) ≡ true → (taken state (take lamp_limit list)).answers ≡ lamps_for state (take lamp_limit list)
+all-told_first : (state : State) (list : List ℕ) → not (length list == 0) ≡ true → (told_displays state (take lamp_limit list)).answers ≡ lamps_for state (take lamp_limit list)
 all-told_first state [] some = absurd (both_ways _ (ap not (eq-eqb 0 0 refl)) some)
 all-told_first state (display ∷ list) some = refl
 
 pub refresh-told : (state : State) (screen : ℕ) → has_screen state.plant screen ≡ true → (step state (DisplayPoll screen true)).answers ≡ lamps_for state (take lamp_limit (displays_of state.plant screen))
 refresh-told state screen has =
-    ap (λ list. (taken (refreshed state screen true) (take lamp_limit list)).answers) (refreshed-differ state screen)
+    ap (λ list. (told_displays (refreshed state screen true) (take lamp_limit list)).answers) (refreshed-differ state screen)
     ∙ all-told_first (refreshed state screen true) (displays_of state.plant screen) (displays-some state.plant screen ∙ has)
 
 pub IsValid-refreshed : (state : State) (screen : ℕ) (refresh : Bool) → IsValid state → IsValid (refreshed state screen refresh)

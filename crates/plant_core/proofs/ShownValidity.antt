@@ -11,7 +11,7 @@ use Rattle.change_boards.specs.declared.value.Value.{Value}
 use Rattle.change_boards.specs.Screens.{displays_of}
 use Rattle.change_boards.specs.Shown.{Shown, last, with_shown, with_forgotten}
 use Rattle.plant_core.specs.State.{State, IsCrosspoint, AreCrosspoints, CanHave, AreShown, IsValid}
-use Rattle.plant_core.specs.Displays.{dark, value_with, value_at, refreshed}
+use Rattle.plant_core.specs.Displays.{dark, value_with, display_value, refreshed}
 use Rattle.plant_core.specs.DisplaysInside.{value_in, shown_all}
 use Rattle.plant_core.proofs.Validity.{source_of-spot}
 use Rattle.plant_core.proofs.DisplayLemmas.{all_shown-are}
@@ -45,7 +45,7 @@ AreShown-forgotten [] plant shown are = are
 AreShown-forgotten (first ∷ list) plant shown are = AreShown-forgotten list plant (set shown first None) (AreShown-set plant shown first None are tt)
 
 -- the value of a destination is one that it can have
-at-can : (plant : PlantData) (crosspoints : Crosspoints) (dest : ℕ) → AreCrosspoints plant crosspoints → CanHave plant dest (value_at plant crosspoints dest)
+at-can : (plant : PlantData) (crosspoints : Crosspoints) (dest : ℕ) → AreCrosspoints plant crosspoints → CanHave plant dest (display_value plant crosspoints dest)
 at-can plant crosspoints dest are =
     elim (source_of crosspoints dest) as (λ o. source_of crosspoints dest ≡ o → CanHave plant dest (option_map_or (value_with plant crosspoints) o dark)) [
       | None ↦ λ h. record { source = tt; parked = λ none. (refl, refl) }
@@ -59,7 +59,7 @@ at-can plant crosspoints dest are =
 
 value-can : (plant : PlantData) (crosspoints : Crosspoints) (number : ℕ) → AreCrosspoints plant crosspoints → Can plant number (value_in plant crosspoints number)
 value-can plant crosspoints number are display found =
-    subst (λ o. CanHave plant display.watch (option_map_or (λ (d : Display). value_at plant crosspoints d.watch) o dark)) (sym found) (at-can plant crosspoints display.watch are)
+    subst (λ o. CanHave plant display.watch (option_map_or (λ (d : Display). display_value plant crosspoints d.watch) o dark)) (sym found) (at-can plant crosspoints display.watch are)
 
 pub AreShown-shown_all : (list : List ℕ) (plant : PlantData) (crosspoints : Crosspoints) (shown : Shown) → AreCrosspoints plant crosspoints → AreShown plant shown →
     AreShown plant (shown_all (value_in plant crosspoints) list shown)

@@ -5,15 +5,15 @@ use Rattle.std.proofs.lemmas.List.Elements.{All-nil, All-push, All-map}
 use Rattle.change_boards.specs.Shown as shown
 use Rattle.plant_core.specs.declared.answer.Answer.TheVariants.{Lamp, Finished}
 use Rattle.plant_core.specs.State.{State}
-use Rattle.plant_core.specs.Displays.{lamp_limit, value_of, differing, refreshed, all_shown, is_finished, taken, display_polled}
+use Rattle.plant_core.specs.Displays.{lamp_limit, value_of, differing, refreshed, all_shown, is_finished, told_displays, display_polled}
 use Rattle.plant_core.specs.Answer.{IsSayable}
 
--- what was shown once these were taken
+-- what was shown once these were told_displays
 abbrev pub shown_with : State → List ℕ → shown.Shown
 shown_with state [] = state.shown
 shown_with state (display ∷ displays) = all_shown state (display ∷ displays) state.shown
 
-taken-is : (state : State) (displays : List ℕ) → (taken state displays).state ≡ record state { shown = shown_with state displays }
+taken-is : (state : State) (displays : List ℕ) → (told_displays state displays).state ≡ record state { shown = shown_with state displays }
 taken-is state [] = refl
 taken-is state (display ∷ displays) = refl
 
@@ -29,8 +29,8 @@ pub display_polled-is : (state : State) (screen : ℕ) (refresh : Bool) → (dis
 display_polled-is state screen true = taken-is (refreshed state screen true) (first_of state screen true)
 display_polled-is state screen false = taken-is (refreshed state screen false) (first_of state screen false)
 
--- no more displays are taken than there may be lamps
-taken-few : (state : State) (displays : List ℕ) → length displays ≤ lamp_limit → length (taken state displays).answers ≤ lamp_limit
+-- no more displays are told_displays than there may be lamps
+taken-few : (state : State) (displays : List ℕ) → length displays ≤ lamp_limit → length (told_displays state displays).answers ≤ lamp_limit
 taken-few state [] few =
     elim (is_finished state) as (λ b. length (cond b (Finished ∷ []) []) ≤ lamp_limit) [ true ↦ omega arith | false ↦ omega arith ]
 taken-few state (display ∷ displays) few = omega (arith, few, length-map (display ∷ displays) (λ (display : ℕ). Lamp display (value_of state display)))
@@ -41,7 +41,7 @@ display_polled-few state screen refresh =
     (omega (arith, length-take lamp_limit (differing (refreshed state screen refresh) screen)))
 
 -- and what is told of displays can be spelled
-taken-sayable : (state : State) (displays : List ℕ) → All IsSayable (taken state displays).answers
+taken-sayable : (state : State) (displays : List ℕ) → All IsSayable (told_displays state displays).answers
 taken-sayable state [] =
     elim (is_finished state) as (λ b. All IsSayable (cond b (Finished ∷ []) [])) [
       | true ↦ All-push IsSayable [] Finished (All-nil IsSayable) tt

@@ -17,7 +17,7 @@ use Rattle.protects.specs.Owners.{allows}
 use Rattle.plant_core.specs.declared.request.Request.TheVariants.{Told}
 use Rattle.plant_core.specs.declared.answer.Answer.TheVariants.{Say}
 use Rattle.plant_core.specs.State.{State, IsValid, standing, owner_at, device_of}
-use Rattle.plant_core.specs.Connects.{says, wanted, change_of, changed, may_make, connected}
+use Rattle.plant_core.specs.Connects.{says, source_wanted, change_of, changed, may_make, connected}
 use Rattle.plant_core.specs.Step.{step, dest_of}
 use Rattle.plant_core.specs.Laws.{AnswersWith, IsConnectable, IsFree, MayConnect, IsMade, IsNotMade}
 use Rattle.plant_core.proofs.Validity.{change_of-is}
@@ -25,7 +25,7 @@ use Rattle.plant_core.proofs.Changes.{allows-free, free-allows, permitted-one, s
 use Rattle.plant_core.proofs.Outcomes.{by_made, may-both, made-permitted, made-enough}
 
 -- what a destination was to carry, read as a number of its level, is what was asked for
-pub wanted-number : (plant : PlantData) (at : Point) (source carried : Option ℕ) → IsPlant plant → wanted plant at source ≡ Some carried → option_and_then (source_number_of plant) carried ≡ source
+pub wanted-number : (plant : PlantData) (at : Point) (source carried : Option ℕ) → IsPlant plant → source_wanted plant at source ≡ Some carried → option_and_then (source_number_of plant) carried ≡ source
 wanted-number plant at None carried is h =
     let parked : None ≡ carried = cc in
     subst (λ carried. option_and_then (source_number_of plant) carried ≡ None) parked refl
@@ -49,7 +49,7 @@ one_place plant at place dest is first second =
 -- a place that may be given a source asks for a change, and no other does
 pub connectable-change_of : (plant : PlantData) (at : Point) (source : Option ℕ) → IsConnectable plant at source → (change : Change) × (change_of plant at source ≡ Some change)
 connectable-change_of plant at source is =
-    let Asks : Option ℕ → Type 0 = λ o. (change : Change) × (option_and_then (λ (dest : ℕ). option_map (λ (carried : Option ℕ). let c : Change = record { dest = dest; source = carried } in c) (wanted plant at source)) o ≡ Some change) in
+    let Asks : Option ℕ → Type 0 = λ o. (change : Change) × (option_and_then (λ (dest : ℕ). option_map (λ (carried : Option ℕ). let c : Change = record { dest = dest; source = carried } in c) (source_wanted plant at source)) o ≡ Some change) in
     elim (dest_at plant at.matrix at.level at.dest) as (λ o. IsSome o → Asks o) [
       | None ↦ λ e. cc
       | Some dest ↦ λ e.
@@ -57,7 +57,7 @@ connectable-change_of plant at source is =
           (record { dest = dest; source = carried.0 }, rw carried.1 refl)
     ] is.has_place
   where
-    wanted_some : (plant : PlantData) (at : Point) (source : Option ℕ) → IfSome source (λ number. IsSome (source_at plant at.matrix at.level number)) → (carried : Option ℕ) × (wanted plant at source ≡ Some carried)
+    wanted_some : (plant : PlantData) (at : Point) (source : Option ℕ) → IfSome source (λ number. IsSome (source_at plant at.matrix at.level number)) → (carried : Option ℕ) × (source_wanted plant at source ≡ Some carried)
     wanted_some plant at None has = (None, refl)
     wanted_some plant at (Some number) has =
         elim (source_at plant at.matrix at.level number) as (λ o. IsSome o → (carried : Option ℕ) × (option_map Some o ≡ Some carried)) [
@@ -70,7 +70,7 @@ change_of-connectable plant at source change h =
     let parts = change_of-is plant at source change h in
     record { has_place = rw parts.0 refl; has_source = has plant at source change.source parts.1 }
   where
-    has : (plant : PlantData) (at : Point) (source carried : Option ℕ) → wanted plant at source ≡ Some carried → IfSome source (λ number. IsSome (source_at plant at.matrix at.level number))
+    has : (plant : PlantData) (at : Point) (source carried : Option ℕ) → source_wanted plant at source ≡ Some carried → IfSome source (λ number. IsSome (source_at plant at.matrix at.level number))
     has plant at None carried h = tt
     has plant at (Some number) carried h =
         elim (source_at plant at.matrix at.level number) as (λ o. option_map Some o ≡ Some carried → IsSome o) [

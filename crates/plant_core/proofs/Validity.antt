@@ -36,7 +36,7 @@ use Rattle.change_boards.specs.declared.sort.Sort.{Sort}
 use Rattle.change_boards.proofs.StayBoards.{AreBoards-start, AreBoards-take, AreBoards-leave}
 use Rattle.plant_core.specs.State.{State, IsCrosspoint, AreCrosspoints, AreOwners, IsChangeOf, AreShown, IsValid, start, device_of}
 use Rattle.plant_core.specs.Noticed.{marked_for_others, all_marked}
-use Rattle.plant_core.specs.Connects.{wanted, change_of}
+use Rattle.plant_core.specs.Connects.{source_wanted, change_of}
 use Rattle.plant_core.proofs.Noticed.{AreBoards-others, AreBoards-marked}
 
 pub IsValid-start : (plant : PlantData) → IsPlant plant → IsValid (start plant)
@@ -239,7 +239,7 @@ AreOwners-lifted plant owners device master dest are =
     ]
 
 -- what a connect asks for is of the level of its destination
-wanted-IfSome : (plant : PlantData) (at : Point) (source carried : Option ℕ) (dest : ℕ) → dest_at plant at.matrix at.level at.dest ≡ Some dest → wanted plant at source ≡ Some carried → IfSome carried (IsCrosspoint plant dest)
+wanted-IfSome : (plant : PlantData) (at : Point) (source carried : Option ℕ) (dest : ℕ) → dest_at plant at.matrix at.level at.dest ≡ Some dest → source_wanted plant at source ≡ Some carried → IfSome carried (IsCrosspoint plant dest)
 wanted-IfSome plant at None carried dest found h =
     let parked : None ≡ carried = cc in
     subst (λ carried. IfSome carried (IsCrosspoint plant dest)) parked tt
@@ -260,12 +260,12 @@ wanted-IfSome plant at (Some number) carried dest found h =
 
 -- where a connect asks for a change, its destination is in the plant and its source is of that level
 pub change_of-is : (plant : PlantData) (at : Point) (source : Option ℕ) (change : Change) → change_of plant at source ≡ Some change →
-    (dest_at plant at.matrix at.level at.dest ≡ Some change.dest) × (wanted plant at source ≡ Some change.source)
+    (dest_at plant at.matrix at.level at.dest ≡ Some change.dest) × (source_wanted plant at source ≡ Some change.source)
 change_of-is plant at source change h =
-    elim (dest_at plant at.matrix at.level at.dest) as (λ o. option_and_then (λ (dest : ℕ). option_map (λ (carried : Option ℕ). let c : Change = record { dest = dest; source = carried } in c) (wanted plant at source)) o ≡ Some change → (o ≡ Some change.dest) × (wanted plant at source ≡ Some change.source)) [
+    elim (dest_at plant at.matrix at.level at.dest) as (λ o. option_and_then (λ (dest : ℕ). option_map (λ (carried : Option ℕ). let c : Change = record { dest = dest; source = carried } in c) (source_wanted plant at source)) o ≡ Some change → (o ≡ Some change.dest) × (source_wanted plant at source ≡ Some change.source)) [
       | None ↦ λ e. cc
       | Some dest ↦ λ e.
-          elim (wanted plant at source) as (λ o. option_map (λ (carried : Option ℕ). let c : Change = record { dest = dest; source = carried } in c) o ≡ Some change → (Some dest ≡ Some change.dest) × (o ≡ Some change.source)) [
+          elim (source_wanted plant at source) as (λ o. option_map (λ (carried : Option ℕ). let c : Change = record { dest = dest; source = carried } in c) o ≡ Some change → (Some dest ≡ Some change.dest) × (o ≡ Some change.source)) [
             | None ↦ λ e. cc
             | Some carried ↦ λ e.
                 let made : Change = record { dest = dest; source = carried } in

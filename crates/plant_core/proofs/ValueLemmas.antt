@@ -14,7 +14,7 @@ use Rattle.mixer_effects.specs.Live.{carries, is_fed_by, buses_behind, reach, is
 use Rattle.plant_core.specs.declared.request.Request.{Request}
 use Rattle.plant_core.specs.declared.request.Request.TheVariants.{Told, Poll, Leave, DisplayPoll}
 use Rattle.plant_core.specs.State.{State}
-use Rattle.plant_core.specs.Displays.{dark, value_with, value_at}
+use Rattle.plant_core.specs.Displays.{dark, value_with, display_value}
 use Rattle.plant_core.specs.DisplaysInside.{value_in}
 use Rattle.plant_core.specs.Step.{step}
 use Rattle.plant_core.specs.Laws.{CarryAsBefore}
@@ -56,7 +56,7 @@ module _ (plant : PlantData) (old new : Crosspoints) (same : (dest : ℕ) → so
   with-same : (source : ℕ) → value_with plant new source ≡ value_with plant old source
   with-same source = λ i. record { source = Some source; air = seen-same plant.air source i; preview = seen-same plant.preview source i }
 
-  at-same : (dest : ℕ) → value_at plant new dest ≡ value_at plant old dest
+  at-same : (dest : ℕ) → display_value plant new dest ≡ display_value plant old dest
   at-same dest = λ i. option_map_or (λ source. with-same source i) (same dest i) dark
 
   values-same : (display : ℕ) → value_in plant new display ≡ value_in plant old display

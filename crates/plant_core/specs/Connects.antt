@@ -27,16 +27,16 @@ abbrev pub says_nothing : State → Stepped State Answer
 says_nothing state = record { state = state; answers = [] }
 
 -- What a destination is to carry: parked, or a source of its own level. `None` where the level has no such source.
-abbrev pub wanted : PlantData → Point → Option ℕ → Option (Option ℕ)
-wanted plant at None = Some None
-wanted plant at (Some number) = option_map Some (source_at plant at.matrix at.level number)
+abbrev pub source_wanted : PlantData → Point → Option ℕ → Option (Option ℕ)
+source_wanted plant at None = Some None
+source_wanted plant at (Some number) = option_map Some (source_at plant at.matrix at.level number)
 
 -- The change that a connect, or the store of an entry, asks for, `None` where the destination or the source is out of range.
 abbrev pub change_of : PlantData → Point → Option ℕ → Option Change
 change_of plant at source =
     option_and_then
     (λ dest. option_map (λ carried. record { dest = dest; source = carried })
-    (wanted plant at source))
+    (source_wanted plant at source))
     (dest_at plant at.matrix at.level at.dest)
 
 -- Changes are permitted to a device where no other device protects one of their destinations.

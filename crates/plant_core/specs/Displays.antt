@@ -31,15 +31,15 @@ value_with plant crosspoints source = record {
 }
 
 -- the value of a destination: the source there, and whether that is on air and on preview
-abbrev pub value_at : PlantData → Crosspoints → ℕ → Value
-value_at plant crosspoints dest =
+abbrev pub display_value : PlantData → Crosspoints → ℕ → Value
+display_value plant crosspoints dest =
     option_map_or (value_with plant crosspoints) (source_of crosspoints dest) dark
 
 -- the value of a display: that of the destination that it watches
 abbrev pub value_of : State → ℕ → Value
 value_of state display =
     option_map_or
-    (λ (found : Display). value_at state.plant state.crosspoints found.watch)
+    (λ (found : Display). display_value state.plant state.crosspoints found.watch)
     (slice_get state.plant.displays display) dark
 
 -- A display differs where its value isn't the one that it was last shown, or where it was shown none.
@@ -80,13 +80,13 @@ lit state displays = record {
   answers = map (λ display. Lamp display (value_of state display)) displays;
 }
 
-abbrev pub taken : State → List ℕ → Stepped State Answer
-taken state [] = quiet state
-taken state (display ∷ displays) = lit state (display ∷ displays)
+abbrev pub told_displays : State → List ℕ → Stepped State Answer
+told_displays state [] = quiet state
+told_displays state (display ∷ displays) = lit state (display ∷ displays)
 
 -- A poll takes the first displays of the screen that differ, at most 64.
 abbrev pub taken_first : State → ℕ → Stepped State Answer
-taken_first state screen = taken state (take lamp_limit (differing state screen))
+taken_first state screen = told_displays state (take lamp_limit (differing state screen))
 
 -- what a display poll does, and how it is answered
 abbrev pub display_polled : State → ℕ → Bool → Stepped State Answer

@@ -10,12 +10,12 @@ use Rattle.plant_core.specs.declared.answer.Answer.{Answer}
 use Rattle.plant_core.specs.declared.answer.Answer.TheVariants.{Lamp}
 use Rattle.history_lock.specs.Step.{Stepped}
 use Rattle.plant_core.specs.State.{State}
-use Rattle.plant_core.specs.Displays.{lamp_limit, dark, value_at, differing, lit}
+use Rattle.plant_core.specs.Displays.{lamp_limit, dark, display_value, differing, lit}
 
 -- the value of a display of a plant
 abbrev pub value_in : PlantData → Crosspoints → ℕ → Value
 value_in plant crosspoints display =
-    option_map_or (λ (found : Display). value_at plant crosspoints found.watch)
+    option_map_or (λ (found : Display). display_value plant crosspoints found.watch)
     (slice_get plant.displays display) dark
 
 -- those of these displays that differ, by the values of all displays

@@ -17,7 +17,7 @@ use Rattle.plant_core.specs.declared.request.Request.TheVariants.{Told, Poll, Le
 use Rattle.plant_core.specs.declared.answer.Answer.{Answer}
 use Rattle.crosspoint_state.specs.Crosspoints.{source_of}
 use Rattle.plant_core.specs.State.{State, IsValid, owner_at}
-use Rattle.plant_core.specs.Step.{step, notice_of, told_at, told_owner}
+use Rattle.plant_core.specs.Step.{step, notice_of, told_source, told_owner}
 use Rattle.plant_core.specs.Laws.{CarryAsBefore, after}
 
 -- Each panel but the asker that hasn't left has this notice of a destination.
@@ -79,7 +79,7 @@ pub record AreHeardByAll (old new : State) : Type 0 where
 
 -- What is told of a place for a notice: the source that stands there, or its owner.
 abbrev pub Tells : State → Point → Sort → Answer → Type 0
-Tells state at Source answer = answer ≡ told_at state at
+Tells state at Source answer = answer ≡ told_source state at
 Tells state at Protect answer = answer ≡ told_owner at (owner_at state at)
 
 -- A panel is told of a destination. It had this notice of it and none before that, and the answer is the source that stands

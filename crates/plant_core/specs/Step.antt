@@ -60,8 +60,8 @@ answered state panel (EntryAsk salvo index) = says state (entry_answer state sal
 answered state panel message = says_nothing state
 
 -- a place and the source that stands there, told as a connect that was made
-abbrev pub told_at : State → Point → Answer
-told_at state at = Say (Connected at (standing state at))
+abbrev pub told_source : State → Point → Answer
+told_source state at = Say (Connected at (standing state at))
 
 -- a place and its owner, told as a protect that was made where it has one, else as one that was lifted
 abbrev pub told_owner : Point → Option ℕ → Answer
@@ -70,7 +70,7 @@ told_owner at None = Say (owner_told ProtectDisconnected at None)
 
 -- What a panel is told for a notice: which source stands at the destination by now, or which device protects it.
 abbrev pub told_for : State → ℕ → Sort → Answer
-told_for state dest Source = told_at state (told_place state.plant dest)
+told_for state dest Source = told_source state (told_place state.plant dest)
 told_for state dest Protect = told_owner (told_place state.plant dest) (get state.owners dest)
 
 abbrev pub notice_of : State → Option (ℕ × Sort) → List Answer

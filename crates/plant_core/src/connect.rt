@@ -6,7 +6,7 @@ ghost use Rattle.crosspoint_state.specs.Applied.{applied, are_enough};
 ghost use Rattle.protects.specs.Owners.{allows};
 ghost use Rattle.swp08_messages.specs.declared.message.Message.TheVariants.{Connect};
 ghost use Rattle.plant_core.specs.State.{IsValid, IsChangeOf, device_of};
-ghost use Rattle.plant_core.specs.Connects.{wanted, change_of, are_permitted, changed};
+ghost use Rattle.plant_core.specs.Connects.{source_wanted, change_of, are_permitted, changed};
 ghost use Rattle.plant_core.specs.Step.{answered};
 ghost use Rattle.plant_core.specs.AnswerInside.{SaysJust};
 
@@ -62,7 +62,7 @@ impl PlantState {
 
     // What the destination of a connect is to carry, `None` where the source is out of range.
     fn wanted(&self, at: Point, source: Option<u16>) -> Option<Option<SourceId>>
-        ensures { result ≡ wanted self.now.plant at source }
+        ensures { result ≡ source_wanted self.now.plant at source }
     {
         match source {
             Some(number) => Some(Some(self.plant.source(at.matrix, at.level, number)?)),

@@ -8,7 +8,7 @@ ghost use Rattle.change_boards.specs.Shown.{differs as is_news, with_shown};
 ghost use Rattle.tally.specs.Tally.{IsTallyOf, CarrySources};
 ghost use Rattle.plant_core.specs.declared.answer.Answer.TheVariants.{Lamp};
 ghost use Rattle.plant_core.specs.State.{IsValid};
-ghost use Rattle.plant_core.specs.Displays.{lamp_limit, value_at, differs, differing, refreshed};
+ghost use Rattle.plant_core.specs.Displays.{lamp_limit, display_value, differs, differing, refreshed};
 ghost use Rattle.plant_core.specs.Displays.{is_finished, display_polled};
 ghost use Rattle.plant_core.specs.DisplaysInside.{value_in, first_differing, shown_all};
 ghost use Rattle.plant_core.specs.DisplaysInside.{lamps_of, AreBelow, lit_first};
@@ -39,7 +39,7 @@ impl Picture<'_> {
         requires found { IsTallyOf self.now.plant.now self.now.points.now.entries
             self.now.tally.now }
         requires carried { CarrySources self.now.plant.now self.now.points.now.entries }
-        ensures { result ≡ value_at self.now.plant.now self.now.points.now.entries dest }
+        ensures { result ≡ display_value self.now.plant.now self.now.points.now.entries dest }
     {
         match self.points.source_at(dest) {
             Some(source) => Value {

@@ -14,7 +14,7 @@ use Rattle.plant_config.specs.Plant.{PlantData, Numbering, source_numbers, dest_
 use Rattle.plant_config.specs.IsPlant.{IsPlant}
 use Rattle.plant_config.specs.Sites.{level_at}
 use Rattle.plant_config.specs.NamesOfLevel.{source_names}
-use Rattle.plant_names.specs.Lookup.{place_of}
+use Rattle.plant_names.specs.Lookup.{place_among}
 use Rattle.plant_names.specs.Laws.{SourcesAreNamed, DestsAreNamed}
 use Rattle.plant_names.proofs.NameLists.{place_of-at}
 use Rattle.plant_names.proofs.LevelLemmas.{told}
@@ -38,7 +38,7 @@ module _ (numbers : Numbering) (plant : PlantData) (all : List (List ℕ)) where
 
   -- what a name leads to
   abbrev found : Option Level → List ℕ → Option ℕ
-  found level name = option_and_then (λ at. option_map (λ place. numbers.first at + place) (place_of name (part at))) level
+  found level name = option_and_then (λ at. option_map (λ place. numbers.first at + place) (place_among name (part at))) level
 
   abbrev numbered : Option Level → ℕ → Option ℕ
   numbered level number = option_and_then (λ at. if nat_lt number (numbers.count at) then Some (numbers.first at + number) else None) level
@@ -58,7 +58,7 @@ module _ (numbers : Numbering) (plant : PlantData) (all : List (List ℕ)) where
   number_of : (level : Option Level) (thing : ℕ) (name : List ℕ) → found level name ≡ Some thing → (number : ℕ) × (numbered level number ≡ Some thing) × (slice_get all thing ≡ Some name)
   number_of None thing name h = cc
   number_of (Some at) thing name h =
-      elim (place_of name (part at)) as (λ (place : Option ℕ). place_of name (part at) ≡ place → option_map (λ place. numbers.first at + place) place ≡ Some thing → (number : ℕ) × (numbered (Some at) number ≡ Some thing) × (slice_get all thing ≡ Some name)) [
+      elim (place_among name (part at)) as (λ (place : Option ℕ). place_among name (part at) ≡ place → option_map (λ place. numbers.first at + place) place ≡ Some thing → (number : ℕ) × (numbered (Some at) number ≡ Some thing) × (slice_get all thing ≡ Some name)) [
         | None ↦ λ e none. cc
         | Some number ↦ λ e some.
             let is : numbers.first at + number ≡ thing = cc in
@@ -88,9 +88,9 @@ source_names-part : (plant : PlantData) (at : Level) → source_names plant at �
 source_names-part plant at = sym (ap (take at.sources) (drop-map (λ (source : Source). source.name) at.first_source plant.sources) ∙ take-map (λ (source : Source). source.name) at.sources (drop at.first_source plant.sources))
 
 source_found : (plant : PlantData) (level : Option Level) (name : List ℕ) →
-    option_and_then (λ (at : Level). option_map (λ place. at.first_source + place) (place_of name (source_names plant at))) level ≡ found source_numbers plant (names_of_all plant) level name
+    option_and_then (λ (at : Level). option_map (λ place. at.first_source + place) (place_among name (source_names plant at))) level ≡ found source_numbers plant (names_of_all plant) level name
 source_found plant None name = refl
-source_found plant (Some at) name = ap (λ names. option_map (λ place. at.first_source + place) (place_of name names)) (source_names-part plant at)
+source_found plant (Some at) name = ap (λ names. option_map (λ place. at.first_source + place) (place_among name names)) (source_names-part plant at)
 
 pub sources_are_named : (plant : PlantData) → IsPlant plant → SourcesAreNamed plant
 sources_are_named plant is =

@@ -11,7 +11,7 @@ use Rattle.std.proofs.lemmas.Option.{slice_get-get_or, slice_get_within, get_or_
 use Rattle.std.proofs.lemmas.Slice.Eq.{bytes_eq-Decides}
 use Rattle.indexmap.specs.IndexSet.{insert_key}
 use Rattle.plant_file.specs.Ranges.{IsName}
-use Rattle.plant_names.specs.Lookup.{place_of}
+use Rattle.plant_names.specs.Lookup.{place_among}
 
 bytes_eq-differ : (name other : List ℕ) → name ≢ other → bytes_eq name other ≡ false
 bytes_eq-differ name other differ = same_from_decides (bytes_eq name other) false (bytes_eq-Decides name other) ((λ (e : false ≡ true). absurd (differ (cc))), (λ e. absurd (differ e)))
@@ -30,7 +30,7 @@ insert_key-take names i name differ within same =
     ap (λ (b : Bool). cond b (take i names) (take i names ++ name ∷ [])) new ∙ cc
 
 -- a name that is longer than any is not among them
-pub place_of-long : (name : List ℕ) (names : List (List ℕ)) → All IsName names → 12 < length name → None ≡ place_of name names
+pub place_of-long : (name : List ℕ) (names : List (List ℕ)) → All IsName names → 12 < length name → None ≡ place_among name names
 place_of-long name names are long =
     let at : position_or_len (bytes_eq name) names ≡ length names = position_or_len_is (bytes_eq name) names (length names) [] (omega arith)
     (λ k below. let short = (are k [] below).0.1 in bytes_eq-differ name (get_or names k []) (λ e. omega (arith, ap length e)))
@@ -38,7 +38,7 @@ place_of-long name names are long =
     grind (arith, common_steps)
 
 -- of names that differ each is at its number alone
-pub place_of-at : (names : List (List ℕ)) (number : ℕ) (name : List ℕ) → IsDistinct bytes_eq names → slice_get names number ≡ Some name → place_of name names ≡ Some number
+pub place_of-at : (names : List (List ℕ)) (number : ℕ) (name : List ℕ) → IsDistinct bytes_eq names → slice_get names number ≡ Some name → place_among name names ≡ Some number
 place_of-at names number name differ found =
     let apart = AllPairs-from_IsDistinct bytes_eq-Decides names differ in
     let within = slice_get_within names number name found in

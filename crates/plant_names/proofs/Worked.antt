@@ -4,14 +4,14 @@ use Rattle.plant_config.specs.Plant.{PlantData}
 use Rattle.plant_config.specs.Bench.{bench}
 use Rattle.plant_names.specs.declared.paged.Paged.TheVariants.{Nothing, Last, More}
 use Rattle.plant_names.specs.Lookup.{source_named, dest_named}
-use Rattle.plant_names.specs.Pages.{page_text, page_data, page_end, source_page_data, dest_page_data}
+use Rattle.plant_names.specs.Pages.{names_text, page_data, page_end, source_page_data, dest_page_data}
 
 -- one name of 8 bytes, which is padded
-padded : page_text 106 0 0 1 3 (codes "CAM3" ∷ []) ≡ 106 ∷ 0 ∷ 1 ∷ 0 ∷ 3 ∷ 1 ∷ 67 ∷ 65 ∷ 77 ∷ 51 ∷ 32 ∷ 32 ∷ 32 ∷ 32 ∷ []
+padded : names_text 106 0 0 1 3 (codes "CAM3" ∷ []) ≡ 106 ∷ 0 ∷ 1 ∷ 0 ∷ 3 ∷ 1 ∷ 67 ∷ 65 ∷ 77 ∷ 51 ∷ 32 ∷ 32 ∷ 32 ∷ 32 ∷ []
 padded = refl
 
 -- one of 4 bytes, which is cut, at the last level of the last matrix
-cut : page_text 106 15 15 0 300 (codes "CAMERA" ∷ []) ≡ 106 ∷ 255 ∷ 0 ∷ 1 ∷ 44 ∷ 1 ∷ 67 ∷ 65 ∷ 77 ∷ 69 ∷ []
+cut : names_text 106 15 15 0 300 (codes "CAMERA" ∷ []) ≡ 106 ∷ 255 ∷ 0 ∷ 1 ∷ 44 ∷ 1 ∷ 67 ∷ 65 ∷ 77 ∷ 69 ∷ []
 cut = refl
 
 -- how pages of 33 names end, at each limit of a page

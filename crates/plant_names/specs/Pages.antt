@@ -31,8 +31,8 @@ abbrev pub two_bytes : ℕ → List ℕ
 two_bytes number = number / 256 ∷ number % 256 ∷ []
 
 -- the DATA of a page: the command, matrix and level, the size, the number of the first name, how many names, and the names
-abbrev pub page_text : ℕ → ℕ → ℕ → ℕ → ℕ → List (List ℕ) → List ℕ
-page_text command matrix level size first names =
+abbrev pub names_text : ℕ → ℕ → ℕ → ℕ → ℕ → List (List ℕ) → List ℕ
+names_text command matrix level size first names =
     command ∷ (matrix * 16 + level) ∷ size
     ∷ (two_bytes first ++ length names ∷ flat_map (fitted (bytes_of_size size)) names)
 
@@ -67,7 +67,7 @@ abbrev pub page_data : ℕ → ℕ → ℕ → Bool → ℕ → ℕ → Option (
 page_data command matrix level one size first None = []
 page_data command matrix level one size first (Some names) =
     if nat_lt first (length names)
-    then page_text command matrix level size first (page_names one size first names) else []
+    then names_text command matrix level size first (page_names one size first names) else []
 
 -- the level whose names the destinations of a matrix have: its lowest one in the plant
 abbrev pub lowest_level : PlantData → ℕ → Option Level

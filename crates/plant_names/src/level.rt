@@ -3,7 +3,7 @@
 ghost use Rattle.std.specs.Prelude.{◌≡◌, ◌<◌, bytes_eq, length, All, IfOk, IfSome};
 ghost use Rattle.std.specs.List.{IsDistinct};
 ghost use Rattle.plant_file.specs.Ranges.{IsName};
-ghost use Rattle.plant_names.specs.Lookup.{place_of};
+ghost use Rattle.plant_names.specs.Lookup.{place_among};
 
 use indexmap::IndexSet;
 use plant_config::{Level, Name};
@@ -46,7 +46,7 @@ pub(crate) fn index_of(alloc: Global, names: &[Name]) -> Result<IndexSet<Name>, 
 /// The number of a name, `None` where no such name is among them.
 pub(crate) fn number_of(names: &IndexSet<Name>, name: &[u8]) -> Option<usize>
     requires { All IsName names.now.keys }
-    ensures place { result ≡ place_of name.now names.now.keys }
+    ensures place { result ≡ place_among name.now names.now.keys }
     ensures below { IfSome result (λ number. number < length names.now.keys) }
 {
     if name.len() > MAX_NAME {

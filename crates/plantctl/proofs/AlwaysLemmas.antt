@@ -1,7 +1,7 @@
 -- Which status each cause leads to.
 use Rattle.std.proofs.Common.{◌≡◌, ◌⊎◌, inl, inr, ℕ, ◌≤◌, Bool, true, false, List, length, Ok, Err, refl, sym, ◌∙◌, ap, subst, arith}
 use Rattle.std.specs.Prelude.{MatchBool}
-use Rattle.ctl_io.specs.Faults.{counted}
+use Rattle.ctl_io.specs.Faults.{count_after}
 use Rattle.ctl_io.specs.Held.{Held, Unshown, NoFile, Holds}
 use Rattle.plant_config.specs.Plant.{PlantData}
 use Rattle.plant_config.specs.Bench.{bench}
@@ -61,7 +61,7 @@ no_plant words before now status name asks is run = elim (status_or_7 run.end be
 
 -- a plant file that is refused
 
-refused_file : (name text : List ℕ) (before now : World) (end : End) → IsRefusedPlant text → now.file_faults ≡ counted (is_file_fault end) before.file_faults → OpensFile name (Holds text) (Err end)
+refused_file : (name text : List ℕ) (before now : World) (end : End) → IsRefusedPlant text → now.file_faults ≡ count_after (is_file_fault end) before.file_faults → OpensFile name (Holds text) (Err end)
     → IsOrKept 4 before now end
 refused_file name text before now NoMemory refused count opens = inr (inl refl)
 refused_file name text before now (FileFault failed) refused count opens = inr (inr (inl (refl, count)))
@@ -79,7 +79,7 @@ no_plant_of : (text : List ℕ) (plant : PlantData) → IsRefusedPlant text → 
 no_plant_of text plant (inl long) within is = omega arith
 no_plant_of text plant (inr fault) within is = let clash = sym fault.1 ∙ is in cc
 
-refused_or : (name text : List ℕ) (before now : World) (end : End) → IsRefusedPlant text → now.file_faults ≡ counted (is_file_fault end) before.file_faults
+refused_or : (name text : List ℕ) (before now : World) (end : End) → IsRefusedPlant text → now.file_faults ≡ count_after (is_file_fault end) before.file_faults
     → OpensFile name (Holds text) (Err end) ⊎ ((plant : PlantData) × OpensFile name (Holds text) (Ok plant)) → IsOrKept 4 before now end
 refused_or name text before now end refused count (inl opens) = refused_file name text before now end refused count opens
 refused_or name text before now end refused count (inr led) = absurd (no_plant_of text led.0 refused led.1.0 led.1.1)
@@ -92,7 +92,7 @@ refused_plant words before now status name text asks is refused run =
 
 -- a plant that the files show
 
-kept_file : (name : List ℕ) (held : Held) (plant : PlantData) (before now : World) (end : End) → ShowsFile held plant → now.file_faults ≡ counted (is_file_fault end) before.file_faults → OpensFile name held (Err end)
+kept_file : (name : List ℕ) (held : Held) (plant : PlantData) (before now : World) (end : End) → ShowsFile held plant → now.file_faults ≡ count_after (is_file_fault end) before.file_faults → OpensFile name held (Err end)
     → WasKept before now (status_of end)
 kept_file name Unshown plant before now end shows count opens = absurd shows
 kept_file name NoFile plant before now end shows count opens = absurd shows
@@ -122,13 +122,13 @@ kept_bench before now (Audited verdict) opens = absurd opens
 kept_bench before now TraceTooLong opens = absurd opens
 
 kept_by : (bench_word : Bool) (name : List ℕ) (held : Held) (plant : PlantData) (before now : World) (end : End) → MatchBool bench_word (plant ≡ bench) (ShowsFile held plant)
-    → now.file_faults ≡ counted (is_file_fault end) before.file_faults → MatchBool bench_word (OpensBench (Err end)) (OpensFile name held (Err end)) → WasKept before now (status_of end)
+    → now.file_faults ≡ count_after (is_file_fault end) before.file_faults → MatchBool bench_word (OpensBench (Err end)) (OpensFile name held (Err end)) → WasKept before now (status_of end)
 kept_by true name held plant before now end shows count opens = kept_bench before now end opens
 kept_by false name held plant before now end shows count opens = kept_file name held plant before now end shows count opens
 
 -- a run whose plant is shown isn't stopped at its word, unless it is kept
 pub kept_at_word : (words : List (List ℕ)) (before now : World) (end : End) (word : List ℕ) (plant : PlantData) (command command' : Command) → word ≡ plant_word command → Ask words command → Ask words command'
-    → ShowsPlant word before plant → now.file_faults ≡ counted (is_file_fault end) before.file_faults → OpensPlant (plant_word command') (before.held (plant_word command') 0) (Err end) → WasKept before now (status_of end)
+    → ShowsPlant word before plant → now.file_faults ≡ count_after (is_file_fault end) before.file_faults → OpensPlant (plant_word command') (before.held (plant_word command') 0) (Err end) → WasKept before now (status_of end)
 kept_at_word words before now end word plant command command' is ask ask' shows count opens =
     let same : plant_word command' ≡ word = ap plant_word (same_command words command' command ask' ask) ∙ sym is in
     kept_by (is_bench word) word (before.held word 0) plant before now end shows count (subst (λ (n : List ℕ). OpensPlant n (before.held n 0) (Err end)) same opens)
@@ -164,7 +164,7 @@ checked plant before now (Audited verdict) ends = absurd ends
 checked plant before now TraceTooLong ends = absurd ends
 
 checked_of : (words : List (List ℕ)) (before now : World) (end : End) (word : List ℕ) (plant : PlantData) → Ask words (Check word) → ShowsPlant word before plant
-    → now.file_faults ≡ counted (is_file_fault end) before.file_faults → Came words before end → IsOrKept 0 before now end
+    → now.file_faults ≡ count_after (is_file_fault end) before.file_faults → Came words before end → IsOrKept 0 before now end
 checked_of words before now end word plant ask shows count (at_words none is) = absurd (none (Check word) ask)
 checked_of words before now end word plant ask shows count (at_plant command ask' opens) =
     inr (kept_at_word words before now end word plant (Check word) command refl ask ask' shows count opens)
@@ -181,7 +181,7 @@ check_always words before now status word plant ask shows run =
 
 -- how a run ends whose words ask to replay a script on a plant that the files show, unless it is kept from that
 pub replayed_of : (words : List (List ℕ)) (before now : World) (end : End) (plant : PlantData) (name : List ℕ) (held : Held) → AskHeld words before plant name held
-    → now.file_faults ≡ counted (is_file_fault end) before.file_faults → Came words before end → ReplayEnds plant name held end ⊎ WasKept before now (status_of end)
+    → now.file_faults ≡ count_after (is_file_fault end) before.file_faults → Came words before end → ReplayEnds plant name held end ⊎ WasKept before now (status_of end)
 replayed_of words before now end plant name held asks count (at_words none is) = absurd (none (Replay asks.word name) asks.ask)
 replayed_of words before now end plant name held asks count (at_plant command ask opens) =
     inr (kept_at_word words before now end asks.word plant (Replay asks.word name) command refl asks.ask ask asks.shows count opens)
@@ -216,7 +216,7 @@ no_script words before now status plant name asks run =
     by_end 3 words before now status run
     (missing_script plant name before now run.end (replayed_of words before now run.end plant name NoFile asks run.file_faults (came words before now run.end run.cause)))
 
-accepted_of : (plant : PlantData) (name script : List ℕ) (before now : World) (end : End) → IsAccepted plant script → now.file_faults ≡ counted (is_file_fault end) before.file_faults
+accepted_of : (plant : PlantData) (name script : List ℕ) (before now : World) (end : End) → IsAccepted plant script → now.file_faults ≡ count_after (is_file_fault end) before.file_faults
     → ReplayEnds plant name (Holds script) end ⊎ WasKept before now (status_of end) → IsOrKept 0 before now end
 accepted_of plant name script before now end accepted count (inr kept) = inr kept
 accepted_of plant name script before now (Done output) accepted count (inl ends) = inl refl
@@ -242,7 +242,7 @@ refused_script : (plant : PlantData) (script output : List ℕ) → IsRefused pl
 refused_script plant script output (inl long) fits = omega (arith, fits.0)
 refused_script plant script output (inr bad) fits = apart plant script output bad.0 fits.1.replay bad.1
 
-refused_of : (plant : PlantData) (name script : List ℕ) (before now : World) (end : End) → IsRefused plant script → now.file_faults ≡ counted (is_file_fault end) before.file_faults
+refused_of : (plant : PlantData) (name script : List ℕ) (before now : World) (end : End) → IsRefused plant script → now.file_faults ≡ count_after (is_file_fault end) before.file_faults
     → ReplayEnds plant name (Holds script) end ⊎ WasKept before now (status_of end) → IsOrKept 5 before now end
 refused_of plant name script before now end refused count (inr kept) = inr kept
 refused_of plant name script before now (Done output) refused count (inl ends) = absurd (refused_script plant script output refused ends)

@@ -1,7 +1,7 @@
 -- How a command comes to its report.
 use Rattle.std.proofs.Common.{◌≡◌, ℕ, ◌+◌, inr, Bool, false, List, [], ◌∷◌, Option, Result, Ok, Err, refl, sym, ◌∙◌, ap, subst, add-zero, arith}
 use Rattle.std.proofs.lemmas.List.{append-nil}
-use Rattle.ctl_io.specs.Faults.{counted}
+use Rattle.ctl_io.specs.Faults.{count_after}
 use Rattle.ctl_io.specs.Held.{Held}
 use Rattle.plant_config.specs.Plant.{PlantData}
 use Rattle.plantctl.specs.declared.stop.Stop.{Stop}
@@ -36,7 +36,7 @@ left_plant command before now end left = record {
 
 -- the run stopped at the plant's word
 pub at_plant : {T : Type 0} (command : Command) (before now : World) (stop : Stop) → (opens : OpensAs (Opens (plant_word command) (snapshot before) (snapshot now)) (Err stop)) → CommandEnds command before opens.0
-    → now.written ≡ before.written → now.file_faults ≡ counted (is_by_files stop) before.file_faults → now.output_faults ≡ before.output_faults → CommandStops {T = T} command before now (Err stop)
+    → now.written ≡ before.written → now.file_faults ≡ count_after (is_by_files stop) before.file_faults → now.output_faults ≡ before.output_faults → CommandStops {T = T} command before now (Err stop)
 at_plant command before now stop opens ends same count kept = record {
   end = opens.0;
   ends = ends;
@@ -44,7 +44,7 @@ at_plant command before now stop opens ends same count kept = record {
   comes = stopped_comes stop opens.0 before.written now.written opens.2 same;
   fault = opens.2.fault;
   file_faults = count;
-  output_faults = kept ∙ ap (λ (b : Bool). counted b before.output_faults) (sym opens.2.output);
+  output_faults = kept ∙ ap (λ (b : Bool). count_after b before.output_faults) (sym opens.2.output);
 }
 
 -- a check tells of no file
@@ -64,14 +64,14 @@ check_left plant TraceTooLong opened before now ends well = well
 -- the plant was checked, or memory or the output failed
 pub check_went : {T : Type 0} (word : List ℕ) (before now : World) (plant : PlantData) (result : Result T Stop) → Opens word (snapshot before) (snapshot now) (Ok plant)
     → StopsFor result (CheckEnds plant) before.written now.written → now.file_faults ≡ before.file_faults → stopped_by_files result ≡ false
-    → now.output_faults ≡ counted (stopped_by_output result) before.output_faults → CommandStops (Check word) before now result
+    → now.output_faults ≡ count_after (stopped_by_output result) before.output_faults → CommandStops (Check word) before now result
 check_went word before now plant result opens stops same no_file count = record {
   end = stops.end;
   ends = (Ok plant, opens.0, stops.cause);
   files = left_plant (Check word) (snapshot before) (snapshot now) stops.end (check_left plant stops.end (opened_for word) (snapshot before) (snapshot now) stops.cause opens.1);
   comes = stops.comes;
   fault = stops.fault;
-  file_faults = same ∙ ap (λ (b : Bool). counted b before.file_faults) (sym no_file);
+  file_faults = same ∙ ap (λ (b : Bool). count_after b before.file_faults) (sym no_file);
   output_faults = count;
 }
 
@@ -92,7 +92,7 @@ not_4 plant name held TraceTooLong ends four = ends
 -- the script was replayed, or stopped the run
 pub replay_went : {T : Type 0} (word name : List ℕ) (before now : World) (between : Snapshot) (plant : PlantData) (result : Result T Stop) → Opens word (snapshot before) between (Ok plant)
     → AreNext word before.held between.held → StopsFor result (Replays plant name between (snapshot now)) before.written now.written
-    → now.file_faults ≡ counted (stopped_by_files result) before.file_faults → now.output_faults ≡ counted (stopped_by_output result) before.output_faults → CommandStops (Replay word name) before now result
+    → now.file_faults ≡ count_after (stopped_by_files result) before.file_faults → now.output_faults ≡ count_after (stopped_by_output result) before.output_faults → CommandStops (Replay word name) before now result
 replay_went word name before now between plant result opens next stops count output = record {
   end = stops.end;
   ends = (Ok plant, opens.0, subst (λ (h : Held). ReplayEnds plant name h stops.end) (next name 0 ∙ ap (before.held name) (add-zero (next_opening word name))) stops.cause.0);
@@ -133,7 +133,7 @@ files_next word traces before now next =
 -- the traces were audited, or stopped the run
 pub audit_went : {T : Type 0} (word : List ℕ) (traces : List (List ℕ)) (before now : World) (between : Snapshot) (plant : PlantData) (result : Result T Stop) → Opens word (snapshot before) between (Ok plant)
     → AreNext word before.held between.held → StopsFor result (Audits plant traces between (snapshot now)) before.written now.written
-    → now.file_faults ≡ counted (stopped_by_files result) before.file_faults → now.output_faults ≡ counted (stopped_by_output result) before.output_faults
+    → now.file_faults ≡ count_after (stopped_by_files result) before.file_faults → now.output_faults ≡ count_after (stopped_by_output result) before.output_faults
     → CommandStops (Audit word traces) before now result
 audit_went word traces before now between plant result opens next stops count output =
     let read = stops.cause.1 in

@@ -1,8 +1,8 @@
 -- What a run that ends with 3 tells of its files.
 use Rattle.std.proofs.Common.{◌≡◌, ◌⊎◌, inl, inr, ℕ, List, ◌++◌, refl, sym, ◌∙◌, ap, subst, append_assoc, arith}
 use Rattle.ctl_io.specs.Sink.{appended}
-use Rattle.ctl_io.specs.Faults.{one_more, counted}
-use Rattle.ctl_io.specs.WholeFile.{Reading, Missing, Failed}
+use Rattle.ctl_io.specs.Faults.{one_more, count_after}
+use Rattle.ctl_io.specs.WholeFile.{FileReading, Missing, Failed}
 use Rattle.plantctl.specs.World.{World, snapshot}
 use Rattle.plantctl.specs.End.{End, Done, NoMemory, Usage, FileMissing, FileFault, PlantRefused, PlantTooLong, LineRefused, ScriptTooLong, Audited, TraceTooLong, is_file_fault}
 use Rattle.plantctl.specs.Lines.{file_missing, file_fault}
@@ -16,7 +16,7 @@ use Rattle.plantctl.proofs.StatusesLemmas.{file_asked}
 use Rattle.plantctl.proofs.VerdictLemmas.{other_status}
 
 -- the file that a run stopped at
-stops_by : (reading : Reading) (words : List (List ℕ)) (before now : World) (name : List ℕ) (command : Command) → Ask words command → (opened unopened : List (List ℕ)) → other_files command ≡ opened ++ unopened
+stops_by : (reading : FileReading) (words : List (List ℕ)) (before now : World) (name : List ℕ) (command : Command) → Ask words command → (opened unopened : List (List ℕ)) → other_files command ≡ opened ++ unopened
     → EndsReading reading name (opened_for (plant_word command) ++ opened) (snapshot before) (snapshot now) → StopsAtFile reading words before now name
 stops_by reading words before now name command ask opened unopened front ended = record {
   command = command;
@@ -100,7 +100,7 @@ fault_at words before now name (in_audit plant files asks ends) stops count appe
   appends = appends ∙ ap (λ (n : List ℕ). appended before.written (file_fault n)) ends.2;
 }
 
-file_of : (words : List (List ℕ)) (before now : World) (end : End) → Cause words before now end → IsWritten end before now 3 → now.file_faults ≡ counted (is_file_fault end) before.file_faults
+file_of : (words : List (List ℕ)) (before now : World) (end : End) → Cause words before now end → IsWritten end before now 3 → now.file_faults ≡ count_after (is_file_fault end) before.file_faults
     → WasMissing words before now ⊎ HadFileFault words before now
 file_of words before now (FileMissing name) from written count = inl (missing_at words before now name (came words before now (FileMissing name) from) (stops_missing words before now name from) count written.appends)
 file_of words before now (FileFault name) from written count = inr (fault_at words before now name (came words before now (FileFault name) from) (stops_failed words before now name from) count written.appends)

@@ -3,9 +3,9 @@ use Rattle.std.proofs.Common.{◌≡◌, ◌≢◌, ◌⊎◌, inl, inr, ℕ, �
 use Rattle.std.specs.Prelude.{Contains, if◌then◌else◌}
 use Rattle.std.proofs.lemmas.List.Elements.{Contains-append_left, Contains-append_right, Contains-push, Contains-push_cases}
 use Rattle.ctl_io.specs.Custody.{Custody, FilesCustody, SourceEnd}
-use Rattle.ctl_io.specs.Faults.{one_more, counted}
+use Rattle.ctl_io.specs.Faults.{one_more, count_after}
 use Rattle.ctl_io.specs.Held.{Held, Stays}
-use Rattle.ctl_io.specs.WholeFile.{Reading, Well, Missing, Failed, CameBack, GivenBack}
+use Rattle.ctl_io.specs.WholeFile.{FileReading, Well, Missing, Failed, CameBack, GivenBack}
 use Rattle.plantctl.specs.World.{World, Snapshot, snapshot}
 use Rattle.plantctl.specs.End.{End, Done, NoMemory, Usage, FileMissing, FileFault, PlantRefused, PlantTooLong, LineRefused, ScriptTooLong, Audited, TraceTooLong, status_of, is_file_fault}
 use Rattle.plantctl.specs.Words.{Command, plant_word, other_files, Ask}
@@ -31,13 +31,13 @@ came_even name faulty before now back =
     let out : now.out ≡ before.out + 1 - 1 = ap (λ (c : Custody SourceEnd). c.out) back.custody in
     omega (arith, out)
 
-given_even : (reading : Reading) (name : List ℕ) (before now : Custody SourceEnd) → GivenBack reading name before now → now.out ≡ before.out
+given_even : (reading : FileReading) (name : List ℕ) (before now : Custody SourceEnd) → GivenBack reading name before now → now.out ≡ before.out
 given_even Well name before now back = came_even name false before now back
 given_even Missing name before now back = ap (λ (c : Custody SourceEnd). c.out) back
 given_even Failed name before now (inl none) = ap (λ (c : Custody SourceEnd). c.out) none
 given_even Failed name before now (inr back) = came_even name true before now back
 
-even_read : (reading : Reading) (name : List ℕ) (before now : Snapshot) → ReadsFile reading name before now → IsEven before.custody now.custody
+even_read : (reading : FileReading) (name : List ℕ) (before now : Snapshot) → ReadsFile reading name before now → IsEven before.custody now.custody
 even_read reading name before now read =
     record { sources = given_even reading name before.custody.sources now.custody.sources read.given_back.sources; sinks = read.given_back.sinks }
 
@@ -160,9 +160,9 @@ no_file_fault TraceTooLong other = refl
 pub faults_stay : (words : List (List ℕ)) (before now : World) (status : ℕ) → RunEnds words before now status → status ≢ 3 → status ≢ 7 → now.file_faults ≡ before.file_faults
 faults_stay words before now status run not_3 not_7 =
     let written = is_written run.end before now status not_7 run.output in
-    run.file_faults ∙ ap (λ (f : Bool). counted f before.file_faults) (no_file_fault run.end (λ is. not_3 (written.status_is ∙ is)))
+    run.file_faults ∙ ap (λ (f : Bool). count_after f before.file_faults) (no_file_fault run.end (λ is. not_3 (written.status_is ∙ is)))
 
-counted_either : (failed : Bool) (count now : ℕ) → now ≡ counted failed count → (now ≡ count) ⊎ (now ≡ one_more count)
+counted_either : (failed : Bool) (count now : ℕ) → now ≡ count_after failed count → (now ≡ count) ⊎ (now ≡ one_more count)
 counted_either true count now is = inr is
 counted_either false count now is = inl is
 

@@ -2,7 +2,7 @@
 use Rattle.std.proofs.Common.{◌≡◌, ◌⊎◌, inl, inr, ℕ, List, [], ◌∷◌, ◌++◌, length, refl, sym, ◌∙◌, ap, subst, append_assoc, arith}
 use Rattle.std.proofs.lemmas.List.{length-append}
 use Rattle.ctl_io.specs.Held.{Held}
-use Rattle.ctl_io.specs.WholeFile.{Reading, Well, Missing, Failed}
+use Rattle.ctl_io.specs.WholeFile.{FileReading, Well, Missing, Failed}
 use Rattle.plantctl.specs.World.{Snapshot}
 use Rattle.plantctl.specs.End.{End, FileMissing, FileFault}
 use Rattle.plantctl.specs.Audit.{OpensWithin}
@@ -12,7 +12,7 @@ use Rattle.plantctl.specs.Run.{ReadsFile, ReadsWell, EndsReading, LeavesOpened}
 pub one_well : (name : List ℕ) (before now : Snapshot) → ReadsFile Well name before now → ReadsWell (name ∷ []) before now
 one_well name before now read = (now, read, refl)
 
-pub one_last : (reading : Reading) (name : List ℕ) (before now : Snapshot) → ReadsFile reading name before now → EndsReading reading name (name ∷ []) before now
+pub one_last : (reading : FileReading) (name : List ℕ) (before now : Snapshot) → ReadsFile reading name before now → EndsReading reading name (name ∷ []) before now
 one_last reading name before now read = record { earlier = []; last = refl; between = before; well = refl; read = read }
 
 -- some files and then others
@@ -20,7 +20,7 @@ pub well-append : (one other : List (List ℕ)) (before between now : Snapshot) 
 well-append [] other before between now first second = subst (λ (s : Snapshot). ReadsWell other s now) first second
 well-append (name ∷ one) other before between now first second = (first.0, first.1, well-append one other first.0 between now first.2 second)
 
-pub ends-append : (reading : Reading) (name : List ℕ) (one other : List (List ℕ)) (before between now : Snapshot) → ReadsWell one before between → EndsReading reading name other between now
+pub ends-append : (reading : FileReading) (name : List ℕ) (one other : List (List ℕ)) (before between now : Snapshot) → ReadsWell one before between → EndsReading reading name other between now
     → EndsReading reading name (one ++ other) before now
 ends-append reading name one other before between now first second = record {
   earlier = one ++ second.earlier;
@@ -32,7 +32,7 @@ ends-append reading name one other before between now first second = record {
 
 -- Files were left by an end: all was well, or the last was read so.
 abbrev pub LeftSo : List (List ℕ) → Snapshot → Snapshot → Type 0
-LeftSo opened before now = ReadsWell opened before now ⊎ ((reading : Reading) × (name : List ℕ) × EndsReading reading name opened before now)
+LeftSo opened before now = ReadsWell opened before now ⊎ ((reading : FileReading) × (name : List ℕ) × EndsReading reading name opened before now)
 
 pub left_so : (end : End) (opened : List (List ℕ)) (before now : Snapshot) → LeavesOpened end opened before now → LeftSo opened before now
 left_so (FileMissing name) opened before now left = inr (Missing, name, left)

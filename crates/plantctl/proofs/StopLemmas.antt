@@ -5,7 +5,7 @@ use Rattle.std.specs.Fmt.{decimal}
 use Rattle.std.specs.Bool.{OnTrue, OnFalse}
 use Rattle.std.proofs.Math.Seq.{take-append-add}
 use Rattle.std.proofs.lemmas.List.{length-append}
-use Rattle.ctl_io.specs.Faults.{one_more, counted}
+use Rattle.ctl_io.specs.Faults.{one_more, count_after}
 use Rattle.ctl_io.specs.Sink.{appended, AppendsPart}
 use Rattle.ctl_io.proofs.SinkLemmas.{appended-nil, appended-appended}
 use Rattle.plantctl.specs.declared.stop.Stop.{Stop}
@@ -85,7 +85,7 @@ left_line stop end before mid now faults_before faults_mid faults_now status is 
 )
 
 output_of : {T : Type 0} (result : Result T Stop) (end : End) (before mid now : Option (List ℕ)) (faults_before faults_mid faults_now status : ℕ) → ComesTo result end before mid
-    → faults_mid ≡ counted (stopped_by_output result) faults_before → Reports result status mid now faults_mid faults_now → IsOutput end before faults_before now faults_now status
+    → faults_mid ≡ count_after (stopped_by_output result) faults_before → Reports result status mid now faults_mid faults_now → IsOutput end before faults_before now faults_now status
 output_of (Ok done) end before mid now fb fm fn status comes kept (inl reported) =
     inl (reported.0 ∙ sym comes.0, reported.1 ∙ appended-nil mid ∙ comes.1, reported.2 ∙ kept)
 output_of (Ok done) end before mid now fb fm fn status comes kept (inr failed) = no-part mid now failed.1
@@ -118,5 +118,5 @@ run_ends result words before mid status written faults stops reports = record {
       is_output stops.end before (moved mid written faults) status (
       output_of result stops.end before.written mid.written written before.output_faults mid.output_faults faults status stops.comes stops.output_faults reports
       );
-  file_faults = stops.file_faults ∙ ap (λ (f : Bool). counted f before.file_faults) (sym stops.fault);
+  file_faults = stops.file_faults ∙ ap (λ (f : Bool). count_after f before.file_faults) (sym stops.fault);
 }

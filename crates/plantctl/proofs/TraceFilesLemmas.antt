@@ -6,7 +6,7 @@ use Rattle.std.proofs.lemmas.Grind.{flat_map-append}
 use Rattle.std.proofs.lemmas.List.{append-nil}
 use Rattle.std.proofs.lemmas.List.Sums.{sum_by-append}
 use Rattle.std.proofs.lemmas.Slice.Eq.{bytes_eq-Decides}
-use Rattle.ctl_io.specs.Held.{Held, IfHeld, CountsOn, OthersStay}
+use Rattle.ctl_io.specs.Held.{Held, IfHeld, CountsOn, OtherOpeningsStay}
 use Rattle.line_text.specs.Lines.{lines}
 use Rattle.plantctl.specs.OpensPlant.{is_bench, next_opening, opened_for}
 use Rattle.plantctl.specs.Audit.{TraceFile, times_opened, trace_file, trace_files, IfAllHeld, bytes_of, all_lines}
@@ -37,13 +37,13 @@ module _ (opened : List (List ℕ)) (name : List ℕ) (before now next : List �
       subst (λ (n : List ℕ). next n opening ≡ now n (opening + 1)) here (counts opening) ∙ behind other (opening + 1)
       ∙ ap (before other) (omega (arith, count))
 
-  other_name : (other : List ℕ) (opening : ℕ) → bytes_eq name other ≡ false → OthersStay name now next → next other opening ≡ before other (times_opened other (opened ++ name ∷ []) + opening)
+  other_name : (other : List ℕ) (opening : ℕ) → bytes_eq name other ≡ false → OtherOpeningsStay name now next → next other opening ≡ before other (times_opened other (opened ++ name ∷ []) + opening)
   other_name other opening is others =
       let count : times_opened other (opened ++ name ∷ []) ≡ times_opened other opened = times-append other opened (name ∷ []) ∙ ap (λ (n : ℕ). times_opened other opened + n) (no_more (bytes_eq name other) is) ∙ add-zero (times_opened other opened) in
       others other (λ same. let clash = sym is ∙ (bytes_eq-Decides name other).1 (sym same) in cc) opening ∙ behind other opening
       ∙ ap (λ (n : ℕ). before other (n + opening)) (sym count)
 
-  pub behind-more : CountsOn (now name) (next name) → OthersStay name now next → AreBehind (opened ++ name ∷ []) before next
+  pub behind-more : CountsOn (now name) (next name) → OtherOpeningsStay name now next → AreBehind (opened ++ name ∷ []) before next
   behind-more counts others other opening = elim (cases_Bool (bytes_eq name other)) [
     | inl is ↦ same_name other opening is counts
     | inr is ↦ other_name other opening is others

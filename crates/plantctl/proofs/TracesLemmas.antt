@@ -1,7 +1,7 @@
 -- Which status traces lead to.
 use Rattle.std.proofs.Common.{◌≡◌, ◌⊎◌, inl, inr, ℕ, ◌+◌, ◌<◌, ◌≤◌, List, [], ◌∷◌, ◌++◌, length, refl, ◌∙◌, ap, subst, arith}
 use Rattle.std.proofs.lemmas.List.Sums.{sum_by-cons}
-use Rattle.ctl_io.specs.Faults.{counted}
+use Rattle.ctl_io.specs.Faults.{count_after}
 use Rattle.ctl_io.specs.Held.{Held, NoFile, IfHeld, MayBeMissing}
 use Rattle.plant_config.specs.Plant.{PlantData}
 use Rattle.plant_config.specs.IsPlant.{IsPlant}
@@ -24,7 +24,7 @@ use Rattle.plantctl.proofs.ShownLemmas.{FilesAreRight, shown}
 
 -- where a run that audits traces which the files show ended: in the audit, or it was kept from that
 audited_of : (words : List (List ℕ)) (before now : World) (end : End) (plant : PlantData) (files : List TraceFile) → AskTraces words before plant files
-    → now.file_faults ≡ counted (is_file_fault end) before.file_faults → Came words before end → AuditEnds plant files end ⊎ WasKept before now (status_of end)
+    → now.file_faults ≡ count_after (is_file_fault end) before.file_faults → Came words before end → AuditEnds plant files end ⊎ WasKept before now (status_of end)
 audited_of words before now end plant files asks count (at_words none is) = absurd (none (Audit asks.word asks.traces) asks.ask)
 audited_of words before now end plant files asks count (at_plant command ask opens) =
     inr (kept_at_word words before now end asks.word plant (Audit asks.word asks.traces) command refl asks.ask ask asks.shows count opens)
@@ -57,7 +57,7 @@ none_missing (one ∷ files) (text ∷ texts) (first ∷ earlier) later file hol
     let rest : files ≡ earlier ++ file ∷ later = cc in
     none_missing files texts earlier later file hold.1 rest missing
 
--- a text that is counted with those before it
+-- a text that is count_after with those before it
 counted_on : (files : List TraceFile) (count : ℕ) (text : List ℕ) → IfAllHeld files (λ ts. longest_traces < count + bytes_of (text ∷ ts)) → IfAllHeld files (λ ts. longest_traces < (count + length text) + bytes_of ts)
 counted_on files count text long =
     if_all files (λ ts. longest_traces < count + bytes_of (text ∷ ts)) (λ ts. longest_traces < (count + length text) + bytes_of ts) (λ ts more. omega (arith, more, sum_by-cons length text ts)) long
@@ -112,7 +112,7 @@ not_long (one ∷ earlier) later file (text ∷ texts) (first ∷ front) behind 
 -- a verdict
 
 verdict_of : (plant : PlantData) (files : List TraceFile) (texts : List (List ℕ)) (verdict : Verdict) (before now : World) (end : End) → IsPlant plant → HoldTexts files texts → bytes_of texts ≤ longest_traces
-    → IsVerdict plant (all_lines texts) verdict → now.file_faults ≡ counted (is_file_fault end) before.file_faults → AuditEnds plant files end ⊎ WasKept before now (status_of end)
+    → IsVerdict plant (all_lines texts) verdict → now.file_faults ≡ count_after (is_file_fault end) before.file_faults → AuditEnds plant files end ⊎ WasKept before now (status_of end)
     → IsOrKept (verdict_status verdict) before now end
 verdict_of plant files texts verdict before now end plant_is hold few is count (inr kept) = inr kept
 verdict_of plant files texts verdict before now NoMemory plant_is hold few is count (inl ends) = inr (inl refl)
@@ -141,7 +141,7 @@ verdict_always right words before now status plant files texts verdict asks hold
 -- traces that are too long
 
 long_of : (plant : PlantData) (files : List TraceFile) (texts : List (List ℕ)) (before now : World) (end : End) → HoldTexts files texts → longest_traces < bytes_of texts
-    → now.file_faults ≡ counted (is_file_fault end) before.file_faults → AuditEnds plant files end ⊎ WasKept before now (status_of end) → IsOrKept 5 before now end
+    → now.file_faults ≡ count_after (is_file_fault end) before.file_faults → AuditEnds plant files end ⊎ WasKept before now (status_of end) → IsOrKept 5 before now end
 long_of plant files texts before now end hold long count (inr kept) = inr kept
 long_of plant files texts before now NoMemory hold long count (inl ends) = inr (inl refl)
 long_of plant files texts before now (FileFault failed) hold long count (inl ends) = inr (inr (inl (refl, count)))

@@ -3,7 +3,7 @@ use Rattle.std.specs.Prelude.{◌≡◌, ◌⊎◌, ℕ, ◌<◌, ◌≤◌, Lis
 use Rattle.ctl_io.specs.Faults.{one_more}
 use Rattle.ctl_io.specs.Sink.{appended}
 use Rattle.ctl_io.specs.Held.{Held, IfHeld, IsLonger, MayBeMissing}
-use Rattle.ctl_io.specs.WholeFile.{Reading, Missing, Failed}
+use Rattle.ctl_io.specs.WholeFile.{FileReading, Missing, Failed}
 use Rattle.plant_file.specs.declared.fault.PlantFault.{PlantFault}
 use Rattle.plant_file.specs.PlantFile.{fault_text}
 use Rattle.plant_config.specs.Plant.{PlantData}
@@ -52,7 +52,7 @@ pub record RanOutOfMemory (words : List (List ℕ)) (before now : World) : Type 
 
 -- Of the files that the words ask for, in order, the last that was opened has this name and was read so, and with those before
 -- it all was well.
-pub record StopsAtFile (reading : Reading) (words : List (List ℕ)) (before now : World)
+pub record StopsAtFile (reading : FileReading) (words : List (List ℕ)) (before now : World)
     (name : List ℕ) : Type 0 where
   pub command : Command
   pub ask : Ask words command

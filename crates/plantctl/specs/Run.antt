@@ -1,9 +1,9 @@
 -- How a run ends: its cause, what it wrote, and what it left of the files.
 use Rattle.std.specs.Prelude.{◌≡◌, ◌⊎◌, ℕ, List, [], ◌∷◌, ◌++◌, Result}
-use Rattle.ctl_io.specs.Faults.{one_more, counted}
+use Rattle.ctl_io.specs.Faults.{one_more, count_after}
 use Rattle.ctl_io.specs.Sink.{appended, AppendsPart}
-use Rattle.ctl_io.specs.Held.{OthersStay}
-use Rattle.ctl_io.specs.WholeFile.{Reading, Well, Missing, Failed, reading_failed, AfterReading, IsGivenBack}
+use Rattle.ctl_io.specs.Held.{OtherOpeningsStay}
+use Rattle.ctl_io.specs.WholeFile.{FileReading, Well, Missing, Failed, reading_failed, AfterReading, IsGivenBack}
 use Rattle.plant_config.specs.Plant.{PlantData}
 use Rattle.plantctl.specs.World.{World, Snapshot, snapshot}
 use Rattle.plantctl.specs.End.{End, Usage, FileMissing, FileFault, status_of, output_failed, text_of, is_file_fault}
@@ -30,12 +30,12 @@ CommandEnds (Audit word traces) before end =
     opened end
 
 -- The file of this name was read so, and what the files hold of other names stays.
-pub record ReadsFile (reading : Reading) (name : List ℕ) (before now : Snapshot)
+pub record ReadsFile (reading : FileReading) (name : List ℕ) (before now : Snapshot)
     : Type 0 where
   pub openings : AfterReading reading (before.held name) (now.held name)
-  pub others : OthersStay name before.held now.held
+  pub others : OtherOpeningsStay name before.held now.held
   pub given_back : IsGivenBack reading name before.custody now.custody
-  pub faults : now.faults ≡ counted (reading_failed reading) before.faults
+  pub faults : now.faults ≡ count_after (reading_failed reading) before.faults
 
 -- The files of these names were read one after the other, in order, and all was well.
 abbrev pub ReadsWell : List (List ℕ) → Snapshot → Snapshot → Type 0
@@ -44,7 +44,7 @@ ReadsWell (name ∷ later) before now =
     (between : Snapshot) × ReadsFile Well name before between × ReadsWell later between now
 
 -- Of the files that were opened, in order, the last has this name and was read so, and with those before it all was well.
-pub record EndsReading (reading : Reading) (name : List ℕ) (opened : List (List ℕ))
+pub record EndsReading (reading : FileReading) (name : List ℕ) (opened : List (List ℕ))
     (before now : Snapshot) : Type 0 where
   pub earlier : List (List ℕ)
   pub last : opened ≡ earlier ++ name ∷ []
@@ -99,4 +99,4 @@ pub record RunEnds (words : List (List ℕ)) (before now : World) (status : ℕ)
   pub end : End
   pub cause : EndsAtWords words before now end ⊎ EndsByCommand words before now end
   pub output : IsWritten end before now status ⊎ IsCutShort end before now status
-  pub file_faults : now.file_faults ≡ counted (is_file_fault end) before.file_faults
+  pub file_faults : now.file_faults ≡ count_after (is_file_fault end) before.file_faults

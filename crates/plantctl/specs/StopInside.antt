@@ -1,7 +1,7 @@
 -- How a run stops in the code, before its end is written out.
 use Rattle.std.specs.Prelude.{◌≡◌, ◌≢◌, ◌⊎◌, ℕ, Bool, true, false, List, [], ◌∷◌, ◌++◌, ◌+◌, codes, string_bytes, Option, Result, Ok, Err}
 use Rattle.std.specs.Borrow.{Bor}
-use Rattle.ctl_io.specs.Faults.{one_more, counted}
+use Rattle.ctl_io.specs.Faults.{one_more, count_after}
 use Rattle.ctl_io.specs.Held.{Held}
 use Rattle.ctl_io.specs.declared.whole_file.FileFault.{FileFault}
 use Rattle.ctl_io.specs.declared.whole_file.FileFault.TheVariants as files
@@ -201,8 +201,8 @@ pub record CommandStops {T : Type 0} (command : Command) (before now : World)
   pub files : LeavesFiles command (snapshot before) (snapshot now) end
   pub comes : ComesTo result end before.written now.written
   pub fault : is_file_fault end ≡ stopped_by_files result
-  pub file_faults : now.file_faults ≡ counted (stopped_by_files result) before.file_faults
-  pub output_faults : now.output_faults ≡ counted (stopped_by_output result) before.output_faults
+  pub file_faults : now.file_faults ≡ count_after (stopped_by_files result) before.file_faults
+  pub output_faults : now.output_faults ≡ count_after (stopped_by_output result) before.output_faults
 
 -- A run came to its report.
 pub record RunStops {T : Type 0} (words : List (List ℕ)) (before now : World)
@@ -211,5 +211,5 @@ pub record RunStops {T : Type 0} (words : List (List ℕ)) (before now : World)
   pub cause : EndsAtWords words before now end ⊎ EndsByCommand words before now end
   pub comes : ComesTo result end before.written now.written
   pub fault : is_file_fault end ≡ stopped_by_files result
-  pub file_faults : now.file_faults ≡ counted (stopped_by_files result) before.file_faults
-  pub output_faults : now.output_faults ≡ counted (stopped_by_output result) before.output_faults
+  pub file_faults : now.file_faults ≡ count_after (stopped_by_files result) before.file_faults
+  pub output_faults : now.output_faults ≡ count_after (stopped_by_output result) before.output_faults

@@ -1,7 +1,7 @@
 //! The command `audit`.
 
 ghost use Rattle.std.specs.Prelude.{◌≡◌, [], false, IfOk, OnOk, IfErr};
-ghost use Rattle.ctl_io.specs.Faults.{counted};
+ghost use Rattle.ctl_io.specs.Faults.{count_after};
 ghost use Rattle.plantctl.specs.World.{snapshot_of};
 ghost use Rattle.plantctl.specs.Words.{texts};
 ghost use Rattle.plantctl.specs.End.{Audited};
@@ -34,9 +34,9 @@ pub(crate) fn audit<'a, F: Files, K: Sink>(
         (snapshot_of F.held F.custody F.faults files.new))
         (K.written out.old) (K.written out.new) }
     ensures file_count { F.faults files.new
-        ≡ counted (stopped_by_files result) (F.faults files.old) }
+        ≡ count_after (stopped_by_files result) (F.faults files.old) }
     ensures output_count { K.faults out.new
-        ≡ counted (stopped_by_output result) (K.faults out.old) }
+        ≡ count_after (stopped_by_output result) (K.faults out.old) }
 {
     let text = match read_traces(alloc, names, files) {
         Ok(text) => text,
@@ -63,7 +63,7 @@ fn read_traces<'a, F: Files>(
         (snapshot_of F.held F.custody F.faults files.old)
         (snapshot_of F.held F.custody F.faults files.new)) }
     ensures count { F.faults files.new
-        ≡ counted (stopped_by_files result) (F.faults files.old) }
+        ≡ count_after (stopped_by_files result) (F.faults files.old) }
 {
     let mut text = Vec::new(alloc);
     let mut left = MAX_TRACES;
@@ -84,7 +84,7 @@ fn tell<'a, K: Sink>(verdict: Verdict, out: &mut K) -> Result<(), Stop<'a>>
     ensures comes { ComesTo result (Audited verdict) (K.written out.old) (K.written out.new) }
     ensures no_file { stopped_by_files result ≡ false }
     ensures output_count { K.faults out.new
-        ≡ counted (stopped_by_output result) (K.faults out.old) }
+        ≡ count_after (stopped_by_output result) (K.faults out.old) }
 {
     match verdict {
         Verdict::Confirmed(_) if write_verdict(out, &verdict) => Ok(()),

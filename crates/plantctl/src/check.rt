@@ -2,7 +2,7 @@
 
 ghost use Rattle.std.specs.Prelude.{◌≡◌, ◌≤◌, ◌++◌, false, length, sum_by, codes};
 ghost use Rattle.std.specs.Prelude.{decimal, IfOk, OnOk, string_bytes};
-ghost use Rattle.ctl_io.specs.Faults.{counted};
+ghost use Rattle.ctl_io.specs.Faults.{count_after};
 ghost use Rattle.plantctl.specs.Lines.{line};
 ghost use Rattle.plantctl.specs.Check.{check_text, CheckEnds};
 ghost use Rattle.plantctl.specs.StopInside.{stopped_by_files, stopped_by_output, StopsFor};
@@ -17,7 +17,7 @@ pub(crate) fn check<'a, K: Sink>(alloc: Global, plant: &Plant, out: &mut K) -> R
     ensures ends { StopsFor result (CheckEnds plant.now) (K.written out.old) (K.written out.new) }
     ensures no_file { stopped_by_files result ≡ false }
     ensures output_count { K.faults out.new
-        ≡ counted (stopped_by_output result) (K.faults out.old) }
+        ≡ count_after (stopped_by_output result) (K.faults out.old) }
 {
     let text = check_text(alloc, plant)?;
     if write_all(out, text.as_bytes()) {

@@ -1,7 +1,7 @@
 //! The plant that a word of the command line leads to.
 
 ghost use Rattle.std.specs.Prelude.{◌≡◌, OnOk};
-ghost use Rattle.ctl_io.specs.Faults.{counted};
+ghost use Rattle.ctl_io.specs.Faults.{count_after};
 ghost use Rattle.ctl_io.specs.Held.{CountsOn};
 ghost use Rattle.plantctl.specs.World.{snapshot_of};
 ghost use Rattle.plantctl.specs.OpensPlant.{is_bench};
@@ -27,7 +27,7 @@ pub(crate) fn open_plant<'a, F: Files>(
         (snapshot_of F.held F.custody F.faults files.new)) result }
     ensures next { OnOk result (AreNext word.now (F.held files.old) (F.held files.new)) }
     ensures count { F.faults files.new
-        ≡ counted (stopped_by_files result) (F.faults files.old) }
+        ≡ count_after (stopped_by_files result) (F.faults files.old) }
 {
     if is_bench(word) {
         match Plant::bench(alloc) {
@@ -53,7 +53,7 @@ fn read_plant<'a, F: Files>(alloc: Global, name: &'a str, files: &mut F) -> Resu
         (snapshot_of F.held F.custody F.faults files.new)) result }
     ensures next { OnOk result (CountsOn (F.held files.old name.now) (F.held files.new name.now)) }
     ensures count { F.faults files.new
-        ≡ counted (stopped_by_files result) (F.faults files.old) }
+        ≡ count_after (stopped_by_files result) (F.faults files.old) }
 {
     let text = match read_file(alloc, files, name, MAX_PLANT) {
         Ok(text) => text,

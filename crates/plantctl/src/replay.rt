@@ -1,7 +1,7 @@
 //! The command `replay`.
 
 ghost use Rattle.std.specs.Prelude.{◌≡◌};
-ghost use Rattle.ctl_io.specs.Faults.{counted};
+ghost use Rattle.ctl_io.specs.Faults.{count_after};
 ghost use Rattle.plantctl.specs.World.{snapshot_of};
 ghost use Rattle.plantctl.specs.StopInside.{stopped_by_files, stopped_by_output, StopsFor, Replays};
 
@@ -29,9 +29,9 @@ pub(crate) fn replay<'a, F: Files, K: Sink>(
         (snapshot_of F.held F.custody F.faults files.new))
         (K.written out.old) (K.written out.new) }
     ensures file_count { F.faults files.new
-        ≡ counted (stopped_by_files result) (F.faults files.old) }
+        ≡ count_after (stopped_by_files result) (F.faults files.old) }
     ensures output_count { K.faults out.new
-        ≡ counted (stopped_by_output result) (K.faults out.old) }
+        ≡ count_after (stopped_by_output result) (K.faults out.old) }
 {
     let script = match read_file(alloc, files, name, MAX_SCRIPT) {
         Ok(script) => script,

@@ -2,7 +2,7 @@
 
 ghost use Rattle.std.specs.Prelude.{◌≡◌, ◌++◌, not};
 ghost use Rattle.std.specs.Bool.{OnTrue, OnFalse};
-ghost use Rattle.ctl_io.specs.Faults.{counted};
+ghost use Rattle.ctl_io.specs.Faults.{count_after};
 ghost use Rattle.ctl_io.specs.Sink.{appended, AppendsPart};
 ghost use Rattle.record_replay.specs.declared.replay.ReplayFault.TheVariants as faults;
 ghost use Rattle.plantctl.specs.declared.stop.Stop.TheVariants.{NoMemory};
@@ -62,7 +62,7 @@ pub(crate) enum Stop<'a> {
     /// The plant file has this fault.
     PlantRefused(String),
     PlantTooLong,
-    /// The line of this number, counted from 1, has no form.
+    /// The line of this number, count_after from 1, has no form.
     LineRefused(u64),
     ScriptTooLong,
     /// The audit of traces had this verdict, by which they aren't confirmed.
@@ -139,7 +139,7 @@ impl<'a> Stop<'a> {
             (K.written out.new ≡ appended (K.written out.old) (line_of self.now)) }
         ensures front { OnFalse result
             (AppendsPart (line_of self.now) (K.written out.old) (K.written out.new)) }
-        ensures count { K.faults out.new ≡ counted (not result) (K.faults out.old) }
+        ensures count { K.faults out.new ≡ count_after (not result) (K.faults out.old) }
     {
         match self {
             Stop::NoMemory => write_all(out, b"no memory\n"),

@@ -2,7 +2,7 @@
 
 ghost use Rattle.std.specs.Prelude.{◌≡◌, not};
 ghost use Rattle.std.specs.Bool.{OnTrue, OnFalse};
-ghost use Rattle.ctl_io.specs.Faults.{counted};
+ghost use Rattle.ctl_io.specs.Faults.{count_after};
 ghost use Rattle.ctl_io.specs.Sink.{appended, AppendsPart};
 ghost use Rattle.plantctl.specs.Lines.{differs_at};
 ghost use Rattle.plantctl.specs.End.{verdict_status, verdict_line};
@@ -30,7 +30,7 @@ pub(crate) fn write_verdict<K: Sink>(out: &mut K, verdict: &Verdict) -> bool
         (K.written out.new ≡ appended (K.written out.old) (verdict_line verdict.now)) }
     ensures front { OnFalse result
         (AppendsPart (verdict_line verdict.now) (K.written out.old) (K.written out.new)) }
-    ensures count { K.faults out.new ≡ counted (not result) (K.faults out.old) }
+    ensures count { K.faults out.new ≡ count_after (not result) (K.faults out.old) }
 {
     match verdict {
         Verdict::Confirmed(count) => write_number(out, b"confirmed ", *count, b"\n"),
@@ -51,7 +51,7 @@ fn write_difference<K: Sink>(out: &mut K, position: u64, kept: &[u8], wanted: &[
         ≡ appended (K.written out.old) (differs_at position kept.now wanted.now)) }
     ensures front { OnFalse result (AppendsPart (differs_at position kept.now wanted.now)
         (K.written out.old) (K.written out.new)) }
-    ensures count { K.faults out.new ≡ counted (not result) (K.faults out.old) }
+    ensures count { K.faults out.new ≡ count_after (not result) (K.faults out.old) }
 {
     write_number(out, b"differs at ", position, b": kept ") && write_replies(out, kept, wanted)
 }
@@ -62,7 +62,7 @@ fn write_replies<K: Sink>(out: &mut K, kept: &[u8], wanted: &[u8]) -> bool
         ≡ appended (K.written out.old) (replies_text kept.now wanted.now)) }
     ensures front { OnFalse result (AppendsPart (replies_text kept.now wanted.now)
         (K.written out.old) (K.written out.new)) }
-    ensures count { K.faults out.new ≡ counted (not result) (K.faults out.old) }
+    ensures count { K.faults out.new ≡ count_after (not result) (K.faults out.old) }
 {
     write_parts(out, kept, b" wanted ", wanted) && write_all(out, b"\n")
 }

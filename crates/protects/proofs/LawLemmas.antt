@@ -3,23 +3,23 @@ use Rattle.std.proofs.Common.{◌≡◌, ◌≢◌, ℕ, ◌==◌, Bool, true, f
 use Rattle.std.proofs.lemmas.Bool.{cases_eq, ne_eqb}
 use Rattle.std.specs.Option.{option_map_or}
 use Rattle.std.specs.FinMap.{get, insert, remove}
-use Rattle.number_map.proofs.PutLemmas.{get-put_same, get-put_other}
+use Rattle.number_tables.proofs.PutLemmas.{get-put_same, get-put_other}
 use Rattle.protects.specs.Owners.{Owners, allows, taken, may_lift, lifted, IsForeign}
-use Rattle.protects.specs.Laws.{OthersStay, CallsChangeOne, ForeignProtectsStay, TakesAreTold, LiftsFree}
+use Rattle.protects.specs.Laws.{OthersKeepOwners, CallsChangeOne, ForeignProtectsStay, TakesAreTold, LiftsFree}
 
 -- where another device protects the destination
 allows-foreign : (owners : Owners) (device dest : ℕ) → IsForeign owners device dest → allows owners device dest ≡ false
 allows-foreign owners device dest is =
     ap (λ found. option_map_or (λ owner. owner == device) found true) is.owns ∙ ne_eqb is.owner device is.other
 
-OthersStay-taken : (owners : Owners) (device dest : ℕ) → OthersStay owners (taken owners device dest) dest
+OthersStay-taken : (owners : Owners) (device dest : ℕ) → OthersKeepOwners owners (taken owners device dest) dest
 OthersStay-taken owners device dest = λ other apart.
     elim (allows owners device dest) as (λ b. get (cond b (insert owners dest device) owners) other ≡ get owners other) [
       | true ↦ get-put_other owners dest (Some device) other apart
       | false ↦ refl
     ]
 
-OthersStay-lifted : (owners : Owners) (device : ℕ) (master : Bool) (dest : ℕ) → OthersStay owners (lifted owners device master dest) dest
+OthersStay-lifted : (owners : Owners) (device : ℕ) (master : Bool) (dest : ℕ) → OthersKeepOwners owners (lifted owners device master dest) dest
 OthersStay-lifted owners device master dest = λ other apart.
     elim (may_lift owners device master dest) as (λ b. get (cond b (remove owners dest) owners) other ≡ get owners other) [
       | true ↦ get-put_other owners dest None other apart
@@ -40,7 +40,7 @@ refused_lifted : (owners : Owners) (device dest : ℕ) → allows owners device 
 refused_lifted owners device dest refused = ap (λ b. cond b (remove owners dest) owners) refused
 
 -- where a call changes only a destination of another owner, and is refused there, the owner stays
-stays : (owners : Owners) (dest owner device at : ℕ) (new : Owners) → get owners dest ≡ Some owner → owner ≢ device → OthersStay owners new at → (allows owners device at ≡ false → new ≡ owners) → get new dest ≡ Some owner
+stays : (owners : Owners) (dest owner device at : ℕ) (new : Owners) → get owners dest ≡ Some owner → owner ≢ device → OthersKeepOwners owners new at → (allows owners device at ≡ false → new ≡ owners) → get new dest ≡ Some owner
 stays owners dest owner device at new owns other others refused =
     elim (cases_eq dest at) [
       | inl same ↦

@@ -4,13 +4,13 @@ use Rattle.std.specs.FinMap.{get}
 use Rattle.protects.specs.Owners.{Owners, allows, taken, lifted}
 
 -- Every destination but this one is protected as before.
-abbrev pub OthersStay : Owners → Owners → ℕ → Type 0
-OthersStay old new dest = (other : ℕ) → other ≢ dest → get new other ≡ get old other
+abbrev pub OthersKeepOwners : Owners → Owners → ℕ → Type 0
+OthersKeepOwners old new dest = (other : ℕ) → other ≢ dest → get new other ≡ get old other
 
 -- A take and a lift change no destination but their own.
 pub record CallsChangeOne (owners : Owners) (device dest : ℕ) : Type 0 where
-  pub take : OthersStay owners (taken owners device dest) dest
-  pub lift : (master : Bool) → OthersStay owners (lifted owners device master dest) dest
+  pub take : OthersKeepOwners owners (taken owners device dest) dest
+  pub lift : (master : Bool) → OthersKeepOwners owners (lifted owners device master dest) dest
 
 -- What a device protects it goes on protecting, whatever a device takes, and whatever one lifts that is no master's.
 pub record ForeignProtectStays (owners : Owners) (dest owner device : ℕ) : Type 0 where

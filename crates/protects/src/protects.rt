@@ -5,7 +5,7 @@ ghost use Rattle.std.specs.Bool.{OnFalse};
 ghost use Rattle.std.specs.FinMap.{empty, get};
 ghost use Rattle.protects.specs.Owners.{allows, taken, may_lift, lifted, IsForeign, IsKeptFrom};
 
-use number_map::NumberMap;
+use number_tables::NumberMap;
 use plant_config::DestId;
 use std::alloc::{AllocError, Global};
 use std::marker::Model;
@@ -20,7 +20,7 @@ pub struct Protects {
 impl Model for Protects {
     ghost use Rattle.std.specs.Prelude.{ℕ};
     ghost use Rattle.std.specs.Coded.{coded_ℕ};
-    ghost use Rattle.number_map.specs.Table.{Table, code};
+    ghost use Rattle.number_tables.specs.Table.{Table, code};
 
     ghost Value = { Table ℕ };
 

@@ -9,12 +9,12 @@ use Rattle.plant_config.specs.IsPlant.{IsPlant}
 use Rattle.plant_config.specs.Sites.{point_of, source_number_of}
 use Rattle.plant_config.specs.NamesOfLevel.{dest_names}
 use Rattle.plant_config.proofs.SiteLemmas.{dests_are, number_at-site_of, site_of-IsSite, dest_at-point_of, dest_at-below, source_at-below}
-use Rattle.plant_names.specs.Lookup.{place_of, dest_named, source_named}
+use Rattle.plant_names.specs.Lookup.{place_among, dest_named, source_named}
 use Rattle.plant_names.proofs.LevelLemmas.{level_at-none}
 use Rattle.plant_names.proofs.LookupLemmas.{dests_are_named, sources_are_named}
 use Rattle.swp08_messages.specs.declared.message.Message.{Message}
 use Rattle.swp08_messages.specs.declared.message.Message.TheVariants.{Connect}
-use Rattle.record_replay.specs.Take.{dest_number, carried, connect_named}
+use Rattle.record_replay.specs.Take.{dest_number_named, carried, connect_named}
 
 module _ (plant : PlantData) (is : IsPlant plant) (matrix level : ℕ) (name : List ℕ) where
   -- What a name leads to is in the plant.
@@ -39,12 +39,12 @@ module _ (plant : PlantData) (is : IsPlant plant) (matrix level : ℕ) (name : L
       subst (λ (number : ℕ). number < level_destination_limit) number within
 
 -- The number of a destination by its name, and of a source.
-pub dest_is : (plant : PlantData) (matrix level : ℕ) (name : List ℕ) (dest : ℕ) (at : Point) → dest_named plant matrix level name ≡ Some dest → point_of plant dest ≡ Some at → dest_number plant matrix level name ≡ Some at.dest
+pub dest_is : (plant : PlantData) (matrix level : ℕ) (name : List ℕ) (dest : ℕ) (at : Point) → dest_named plant matrix level name ≡ Some dest → point_of plant dest ≡ Some at → dest_number_named plant matrix level name ≡ Some at.dest
 dest_is plant matrix level name dest at named point =
     ap (option_and_then (λ (dest : ℕ). option_map (λ (place : Point). place.dest) (point_of plant dest))) named
     ∙ ap (option_map (λ (place : Point). place.dest)) point
 
-pub dest_isnt : (plant : PlantData) (matrix level : ℕ) (name : List ℕ) → dest_named plant matrix level name ≡ None → dest_number plant matrix level name ≡ None
+pub dest_isnt : (plant : PlantData) (matrix level : ℕ) (name : List ℕ) → dest_named plant matrix level name ≡ None → dest_number_named plant matrix level name ≡ None
 dest_isnt plant matrix level name none = ap (option_and_then (λ (dest : ℕ). option_map (λ (place : Point). place.dest) (point_of plant dest))) none
 
 pub carried-some : (plant : PlantData) (matrix level : ℕ) (name : List ℕ) (source number : ℕ) → 1 ≤ length name → source_named plant matrix level name ≡ Some source → source_number_of plant source ≡ Some number
@@ -63,20 +63,20 @@ abbrev with_number : ℕ → ℕ → Option (Option ℕ) → ℕ → Option Mess
 with_number matrix level found number = option_map (λ source. Connect (record { matrix = matrix; level = level; dest = number }) source) found
 
 module _ (plant : PlantData) (matrix level : ℕ) (dest source : List ℕ) where
-  pub connect-no_dest : dest_number plant matrix level dest ≡ None → connect_named plant matrix level dest source ≡ None
+  pub connect-no_dest : dest_number_named plant matrix level dest ≡ None → connect_named plant matrix level dest source ≡ None
   connect-no_dest none = ap (option_and_then (with_number matrix level (carried plant matrix level source))) none
 
   pub connect-no_level : IsPlant plant → (16 ≤ matrix) ⊎ (16 ≤ level) → connect_named plant matrix level dest source ≡ None
   connect-no_level is out =
       connect-no_dest (dest_isnt plant matrix level dest
-      (ap (option_and_then (λ (at : Level). option_map (λ place. at.first_dest + place) (place_of dest (dest_names plant at)))) (level_at-none plant is matrix level out)))
+      (ap (option_and_then (λ (at : Level). option_map (λ place. at.first_dest + place) (place_among dest (dest_names plant at)))) (level_at-none plant is matrix level out)))
 
-  pub connect-no_source : (number : ℕ) → dest_number plant matrix level dest ≡ Some number → carried plant matrix level source ≡ None → connect_named plant matrix level dest source ≡ None
+  pub connect-no_source : (number : ℕ) → dest_number_named plant matrix level dest ≡ Some number → carried plant matrix level source ≡ None → connect_named plant matrix level dest source ≡ None
   connect-no_source number is none =
       ap (option_and_then (with_number matrix level (carried plant matrix level source))) is
       ∙ ap (λ (found : Option (Option ℕ)). with_number matrix level found number) none
 
-  pub connect-some : (number : ℕ) (found : Option ℕ) → dest_number plant matrix level dest ≡ Some number → carried plant matrix level source ≡ Some found
+  pub connect-some : (number : ℕ) (found : Option ℕ) → dest_number_named plant matrix level dest ≡ Some number → carried plant matrix level source ≡ Some found
       → connect_named plant matrix level dest source ≡ Some (Connect (record { matrix = matrix; level = level; dest = number }) found)
   connect-some number found is carries =
       ap (option_and_then (with_number matrix level (carried plant matrix level source))) is

@@ -22,18 +22,12 @@ use Rattle.panel_session.proofs.SessionRequests.{turn-of_session}
 use Rattle.record_replay.specs.Script.{Work, Read, Leave, Show, IsOfPlant, lines, worked, LinesSpell}
 use Rattle.record_replay.specs.Replay.{Stand, begun, behind_turn, behind_step, Works, AllWork, IsReplay}
 use Rattle.record_replay.specs.StandInside.{IsSettled}
-use Rattle.record_replay.specs.Answered.{AnswersItems}
+use Rattle.record_replay.specs.Answered.{AnswersItems, AnswersItsPiece}
 use Rattle.record_replay.specs.Laws.{Deed, Turned, Left, Polled, work_of, line_of, entries_by, history_of, IsSeated, piece_in, sent_in, pieces_of, sent_of, session_in, AreSessions, IsHistory}
 use Rattle.record_replay.proofs.WorksLemmas.{fits-run, settled-begun, settled-step}
 use Rattle.record_replay.proofs.WorkAnswers.{work_settled, work_answers}
 use Rattle.record_replay.proofs.IsReplayLemmas.{of_plant}
 use Rattle.record_replay.proofs.SessionsLemmas.{flat_map-push, session-append, session-own, session-other, session-leave, session-polled, swapped, stays-of_session, IsBy, IsPast, past-as, past-bytes, past-session, past-turn}
-
--- What is sent in a turn behind these deeds answers the items that end in its piece. The other deeds answer none.
-abbrev pub IsAnswer : List Deed → Deed → Type 0
-IsAnswer before (Turned panel piece entries sent) = AnswersItems (flat_map (λ piece. piece) (pieces_of panel before)) piece sent
-IsAnswer before (Left panel) = Unit {0}
-IsAnswer before (Polled screen refresh answers) = Unit {0}
 
 module _ (plant : PlantData) where
   -- Deeds lead to a stand: their history to its state, and what each session did in them is what it has done, all its turns
@@ -89,7 +83,7 @@ module _ (plant : PlantData) where
     work_is : work_of deed ≡ work
     line_is : line ≡ line_of plant deed
     seated : IsSeated deed
-    answer : IsAnswer deeds deed
+    answer : AnswersItsPiece deeds deed
     lead : LeadTo (deeds ++ deed ∷ []) next
 
   -- A request that fits the plant fits behind deeds.
@@ -199,7 +193,7 @@ module _ (plant : PlantData) where
     seated : All IsSeated more
     legal : IsLegal step Fits (start plant) (history_of (deeds ++ more))
     each : (before after : List Deed) → more ≡ before ++ after → AreSessions plant (deeds ++ before)
-    answers : (before after : List Deed) (deed : Deed) → more ≡ before ++ deed ∷ after → IsAnswer (deeds ++ before) deed
+    answers : (before after : List Deed) (deed : Deed) → more ≡ before ++ deed ∷ after → AnswersItsPiece (deeds ++ before) deed
 
   -- No works are left,
   does_none : (deeds : List Deed) (output : List ℕ) (stand : Stand) → LeadTo deeds stand → output ≡ [] → DoesAll deeds [] output
@@ -217,7 +211,7 @@ module _ (plant : PlantData) where
       each [] after is = subst (AreSessions plant) (sym (append-nil deeds)) (lead-sessions deeds stand lead)
       each (first ∷ before) after is = absurd cc
 
-      answers : (before after : List Deed) (deed : Deed) → [] ≡ before ++ deed ∷ after → IsAnswer (deeds ++ before) deed
+      answers : (before after : List Deed) (deed : Deed) → [] ≡ before ++ deed ∷ after → AnswersItsPiece (deeds ++ before) deed
       answers [] after deed is = absurd cc
       answers (first ∷ before) after deed is = absurd cc
 
@@ -241,13 +235,13 @@ module _ (plant : PlantData) where
           let tail : later.more ≡ before ++ after = cc in
           subst (AreSessions plant) (append_assoc deeds (one.deed ∷ []) before ∙ ap (λ (deed : Deed). deeds ++ deed ∷ before) head) (later.each before after tail)
 
-      answers : (before after : List Deed) (deed : Deed) → one.deed ∷ later.more ≡ before ++ deed ∷ after → IsAnswer (deeds ++ before) deed
+      answers : (before after : List Deed) (deed : Deed) → one.deed ∷ later.more ≡ before ++ deed ∷ after → AnswersItsPiece (deeds ++ before) deed
       answers [] after deed is =
-          let Behind : List Deed → Type 0 = λ before. IsAnswer before deed in
+          let Behind : List Deed → Type 0 = λ before. AnswersItsPiece before deed in
           let head : one.deed ≡ deed = cc in
-          subst Behind (sym (append-nil deeds)) (subst (IsAnswer deeds) head one.answer)
+          subst Behind (sym (append-nil deeds)) (subst (AnswersItsPiece deeds) head one.answer)
       answers (first ∷ before) after deed is =
-          let Behind : List Deed → Type 0 = λ before. IsAnswer before deed in
+          let Behind : List Deed → Type 0 = λ before. AnswersItsPiece before deed in
           let head : one.deed ≡ first = cc in
           let tail : later.more ≡ before ++ deed ∷ after = cc in
           subst Behind (append_assoc deeds (one.deed ∷ []) before ∙ ap (λ (first : Deed). deeds ++ first ∷ before) head) (later.answers before after deed tail)
@@ -264,7 +258,7 @@ module _ (plant : PlantData) where
 
   -- and each replay has a history, in which what each turn sends answers its items.
   pub history_answers : (script output : List ℕ) → IsReplay plant script output
-      → (deeds : List Deed) × IsHistory plant script output deeds × ((before after : List Deed) (deed : Deed) → deeds ≡ before ++ deed ∷ after → IsAnswer before deed)
+      → (deeds : List Deed) × IsHistory plant script output deeds × ((before after : List Deed) (deed : Deed) → deeds ≡ before ++ deed ∷ after → AnswersItsPiece before deed)
   history_answers script output replay =
       let has = All-from_recursion (IsOfPlant plant) replay.works (of_plant plant (worked (lines script)) replay.works replay.spelled) in
       let all : DoesAll [] replay.works output = does_all replay.works [] output (begun plant) replay.last lead-begun has replay.all_work in (

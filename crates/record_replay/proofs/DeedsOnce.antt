@@ -14,7 +14,7 @@ use Rattle.plant_core.specs.declared.request.Request.TheVariants as requests
 use Rattle.panel_session.specs.Entry.{PlantEntry}
 use Rattle.panel_session.specs.Run.{IsWorked}
 use Rattle.panel_session.specs.SoFar.{Past, unread}
-use Rattle.panel_session.specs.Turns.{Turn, bytes_of, entries_of, entries_in}
+use Rattle.panel_session.specs.Turns.{Turn, bytes_of, entries_of_turns, entries_in}
 use Rattle.panel_session.proofs.TurnOnce.{legal_later, one_turn_lem}
 use Rattle.panel_session.proofs.TurnsOnce.{next_turn}
 use Rattle.record_replay.specs.Script.{lines, worked}
@@ -43,7 +43,7 @@ module _ (plant : PlantData) where
       flat_map-push (piece_in panel) front deed ∙ ap (λ (b : Bool). pieces_of panel front ++ cond b (piece ∷ []) []) (eq-eqb panel panel refl) in
       let sent_is : sent_of panel (front ++ deed ∷ []) ≡ sent_of panel front ++ sent =
       flat_map-push (sent_in panel) front deed ∙ ap (λ (b : Bool). sent_of panel front ++ cond b sent []) (eq-eqb panel panel refl) in
-      let entries_are : session_in panel (history_of (front ++ deed ∷ [])) ≡ entries_of base.fits.turns ++ entries =
+      let entries_are : session_in panel (history_of (front ++ deed ∷ [])) ≡ entries_of_turns base.fits.turns ++ entries =
       ap (session_in panel) (flat_map-push entries_by front deed) ∙ session-append panel (history_of front) entries
       ∙ (λ i. sym base.fits.entries_are i ++ session-own panel entries by i) in
       let next = next_turn panel base.fits.turns more.fits.turns piece entries base.fits.are_turns more.fits.are_turns
@@ -61,7 +61,7 @@ module _ (plant : PlantData) where
           is_turn = next.3;
           seats = subst Seated (sym next.2) (λ k d below. (by k d below).0);
           legal = subst Legal (sym next.2) legal;
-          text = text-as plant _ _ _ _ _ _ bytes_are (entries_are ∙ ap (λ (l : List PlantEntry). entries_of base.fits.turns ++ l) (sym next.2)) sent_is more.text;
+          text = text-as plant _ _ _ _ _ _ bytes_are (entries_are ∙ ap (λ (l : List PlantEntry). entries_of_turns base.fits.turns ++ l) (sym next.2)) sent_is more.text;
         },
       )
 

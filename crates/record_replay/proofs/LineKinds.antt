@@ -2,7 +2,7 @@
 use Rattle.std.proofs.Common.{◌≡◌, ℕ, ◌≤◌, ◌⊎◌, inl, inr, Bool, true, false, List, [], ◌∷◌, get_or, ap, arith}
 use Rattle.std.specs.Prelude.{◌==◌, if◌then◌else◌}
 use Rattle.plant_config.specs.Plant.{PlantData}
-use Rattle.record_replay.specs.Script.{Work, Read, Leave, Show, Sends, Takes, LineSpells}
+use Rattle.record_replay.specs.Script.{Work, Read, Leave, Show, Sends, IsTakeLine, LineSpells}
 
 -- the form of a line that spells a work: a turn with bytes, or one of the words that stand before a number
 abbrev pub kind : Work → ℕ
@@ -26,7 +26,7 @@ pub show_kind : (screen : ℕ) (refresh : Bool) → 3 ≤ kind (Show screen refr
 show_kind screen false = omega arith
 show_kind screen true = omega arith
 
-kind_filled : (plant : PlantData) (line digits piece : List ℕ) → Sends line digits piece ⊎ Takes plant line digits piece → kind_of line ≡ 0
+kind_filled : (plant : PlantData) (line digits piece : List ℕ) → Sends line digits piece ⊎ IsTakeLine plant line digits piece → kind_of line ≡ 0
 kind_filled plant line digits piece (inl sends) = ap kind_of sends.1
 kind_filled plant line digits piece (inr takes) = ap kind_of takes.place
 

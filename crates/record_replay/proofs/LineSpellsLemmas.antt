@@ -10,10 +10,11 @@ use Rattle.hex.proofs.HexLemmas.{decode_of-same}
 use Rattle.plant_config.specs.Plant.{PlantData}
 use Rattle.line_text.specs.Decimal.{IsDigit}
 use Rattle.record_replay.specs.Take.{message_frame}
-use Rattle.record_replay.specs.Script.{Work, Read, Leave, Show, space, hash, longest_line, is_skipped, NumberSpells, HexSpells, Sends, Takes, LineSpells}
+use Rattle.record_replay.specs.Script.{Work, Read, Leave, Show, space, hash, longest_line, is_skipped, NumberSpells, HexSpells, Sends, IsTakeLine, LineSpells}
 use Rattle.record_replay.specs.LineInside.{IsTurn, IsNoTurn, IsTake, IsNoTake, SpellsNoPanel, SpellsNoScreen}
 use Rattle.record_replay.proofs.NumberSpellsLemmas.{one_number}
-use Rattle.record_replay.proofs.LineInsideLemmas.{no_space-digits, no_tab-digits, one_cut}
+use Rattle.line_text.proofs.CutLemmas.{one_cut}
+use Rattle.record_replay.proofs.LineInsideLemmas.{no_space-digits, no_tab-digits}
 use Rattle.record_replay.proofs.LineKinds.{kind_of, kind_is, turn_kind, show_kind}
 use Rattle.record_replay.proofs.TakeLemmas.{one_take}
 
@@ -31,7 +32,7 @@ one_turn line digits others hex other_hex each_digits each_others is_one is_othe
     (ap (drop 2) (sym (is_one ∙ turn-cut digits hex) ∙ is_other ∙ turn-cut others other_hex))
 
 -- a take is what stands behind `take `
-pub take_behind : (plant : PlantData) (line digits piece : List ℕ) (panel : ℕ) → NumberSpells digits panel → panel < length plant.panels → Takes plant line digits piece → IsTake plant (drop 5 line) panel piece
+pub take_behind : (plant : PlantData) (line digits piece : List ℕ) (panel : ℕ) → NumberSpells digits panel → panel < length plant.panels → IsTakeLine plant line digits piece → IsTake plant (drop 5 line) panel piece
 take_behind plant line digits piece panel number has_panel takes = record {
   digits = digits;
   matrix = takes.matrix;
@@ -58,7 +59,7 @@ first_is line byte more is = ap (λ (l : List ℕ). get_or l 0 0) is
 
 -- A line has the form of a turn with bytes.
 abbrev pub Fills : PlantData → List ℕ → List ℕ → List ℕ → Type 0
-Fills plant line digits piece = Sends line digits piece ⊎ Takes plant line digits piece
+Fills plant line digits piece = Sends line digits piece ⊎ IsTakeLine plant line digits piece
 
 -- a line spells one turn with bytes
 one_filled : (plant : PlantData) (line digits others : List ℕ) (m n : ℕ) (piece other : List ℕ) → NumberSpells digits m → NumberSpells others n → m < length plant.panels → n < length plant.panels

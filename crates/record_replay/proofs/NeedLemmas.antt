@@ -14,8 +14,8 @@ use Rattle.swp08_messages.specs.Text.{text}
 use Rattle.hex.proofs.HexLemmas.{decode_of-ok}
 use Rattle.plant_config.specs.Plant.{PlantData}
 use Rattle.record_replay.specs.Take.{message_frame}
-use Rattle.record_replay.specs.Take.{dest_number, carried, connect_named}
-use Rattle.record_replay.specs.Script.{Work, Read, Leave, Show, space, tab, HexSpells, Sends, Takes, LineSpells}
+use Rattle.record_replay.specs.Take.{dest_number_named, carried, connect_named}
+use Rattle.record_replay.specs.Script.{Work, Read, Leave, Show, space, tab, HexSpells, Sends, IsTakeLine, LineSpells}
 use Rattle.record_replay.specs.StageInside.{ends_in, at_least_one, need_of}
 use Rattle.record_replay.proofs.ItemsFew.{ends_in-append, ends_in-length, ends_in-doubled}
 
@@ -52,7 +52,7 @@ IsConnect message = (at : Point) × (source : Option ℕ) × (message ≡ Connec
 
 is_connect : (plant : PlantData) (matrix level : ℕ) (dest source : List ℕ) (message : Message) → connect_named plant matrix level dest source ≡ Some message → IsConnect message
 is_connect plant matrix level dest source message is =
-    made (dest_number plant matrix level dest) (carried plant matrix level source) is
+    made (dest_number_named plant matrix level dest) (carried plant matrix level source) is
   where
     made : (number : Option ℕ) (found : Option (Option ℕ))
         → (elim number [ Some number ↦ option_map (λ source. Connect (record { matrix = matrix; level = level; dest = number }) source) found | None ↦ None ]) ≡ Some message → IsConnect message
@@ -60,7 +60,7 @@ is_connect plant matrix level dest source message is =
     made (Some number) None is = cc
     made (Some number) (Some source) is = let same : Connect (record { matrix = matrix; level = level; dest = number }) source ≡ message = cc in (record { matrix = matrix; level = level; dest = number }, source, sym same)
 
-takes_ends : (plant : PlantData) (line digits piece : List ℕ) → Takes plant line digits piece → ends_in piece ≤ 6
+takes_ends : (plant : PlantData) (line digits piece : List ℕ) → IsTakeLine plant line digits piece → ends_in piece ≤ 6
 takes_ends plant line digits piece takes =
     let asks = takes.asks in
     let connect = is_connect plant asks.matrix_number asks.level_number takes.dest takes.source takes.message asks.connect in
@@ -71,14 +71,14 @@ length-sends : (line digits piece : List ℕ) → Sends line digits piece → 2 
 length-sends line digits piece sends =
     omega (arith, ap length sends.1, length-append (codes "> " ++ digits ++ codes " ") sends.0, length-append (codes "> " ++ digits) (codes " "), length-HexSpells sends.0 piece sends.2)
 
-length-takes : (plant : PlantData) (line digits piece : List ℕ) → 1 ≤ length digits → Takes plant line digits piece → 12 ≤ length line
+length-takes : (plant : PlantData) (line digits piece : List ℕ) → 1 ≤ length digits → IsTakeLine plant line digits piece → 12 ≤ length line
 length-takes plant line digits piece some takes =
     let m = takes.asks.matrix_spelled.spelled.some in
     let l = takes.asks.level_spelled.spelled.some in
     let names = tab ∷ (takes.dest ++ tab ∷ takes.source) in
     omega (arith, some, m, l, ap length takes.place, length-append digits (space ∷ (takes.matrix ++ space ∷ (takes.level ++ names))), length-append takes.matrix (space ∷ (takes.level ++ names)), length-append takes.level names, length-append takes.dest (tab ∷ takes.source))
 
-filled_need : (plant : PlantData) (line digits piece : List ℕ) → 1 ≤ length digits → 1 ≤ length piece → Sends line digits piece ⊎ Takes plant line digits piece → 2 * at_least_one (ends_in piece) ≤ length line
+filled_need : (plant : PlantData) (line digits piece : List ℕ) → 1 ≤ length digits → 1 ≤ length piece → Sends line digits piece ⊎ IsTakeLine plant line digits piece → 2 * at_least_one (ends_in piece) ≤ length line
 filled_need plant line digits piece some bytes (inl sends) =
     omega (arith, length-sends line digits piece sends, one_most (ends_in piece) (length piece) (ends_in-length piece) bytes)
 filled_need plant line digits piece some bytes (inr takes) =

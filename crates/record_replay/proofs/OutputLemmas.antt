@@ -3,7 +3,7 @@ use Rattle.std.proofs.Common.{◌≡◌, ℕ, ◌+◌, Bool, true, false, not, L
 use Rattle.std.proofs.lemmas.List.{append-nil, take-append-le}
 use Rattle.std.proofs.Math.Seq.{take-append-add}
 use Rattle.std.specs.Bool.{OnTrue, OnFalse}
-use Rattle.ctl_io.specs.Faults.{one_more, counted}
+use Rattle.ctl_io.specs.Faults.{one_more, count_after}
 use Rattle.ctl_io.specs.Sink.{appended, AppendsPart}
 use Rattle.ctl_io.proofs.SinkLemmas.{appended-appended}
 use Rattle.record_replay.specs.OutputInside.{IsWhole, IsCut, IsPut}
@@ -45,7 +45,7 @@ IsWhole-unfailed false text buffer before now first count e h = h
 IsWhole-unfailed true text buffer before now first count e h = absurd (cc)
 
 -- the sink takes the buffer, or a write fails
-pub IsPut-taken : (taken failed : Bool) (text buffer piece : List ℕ) (before mid now : Option (List ℕ)) (first count after : ℕ) → failed ≡ false → piece ≡ buffer → OnTrue taken (now ≡ appended mid piece) → OnFalse taken (AppendsPart piece mid now) → after ≡ counted (not taken) count → IsPut failed text buffer before mid first count → IsPut (not taken) text [] before now first after
+pub IsPut-taken : (taken failed : Bool) (text buffer piece : List ℕ) (before mid now : Option (List ℕ)) (first count after : ℕ) → failed ≡ false → piece ≡ buffer → OnTrue taken (now ≡ appended mid piece) → OnFalse taken (AppendsPart piece mid now) → after ≡ count_after (not taken) count → IsPut failed text buffer before mid first count → IsPut (not taken) text [] before now first after
 IsPut-taken true failed text buffer piece before mid now first count after f is all part e h =
     let whole = IsWhole-unfailed failed text buffer before mid first count f h in
     record {
@@ -62,6 +62,6 @@ IsPut-taken false failed text buffer piece before mid now first count after f is
     }
 
 -- where a write of the last piece fails
-pub OnFalse-cut : (taken failed : Bool) (buffer piece : List ℕ) (mid now : Option (List ℕ)) (count after : ℕ) → failed ≡ false → piece ≡ buffer → OnTrue taken (now ≡ appended mid piece) → OnFalse taken (AppendsPart piece mid now) → after ≡ counted (not taken) count → OnFalse taken ((before : Option (List ℕ)) (first : ℕ) (text : List ℕ) → IsPut failed text buffer before mid first count → IsCut text before now first after)
+pub OnFalse-cut : (taken failed : Bool) (buffer piece : List ℕ) (mid now : Option (List ℕ)) (count after : ℕ) → failed ≡ false → piece ≡ buffer → OnTrue taken (now ≡ appended mid piece) → OnFalse taken (AppendsPart piece mid now) → after ≡ count_after (not taken) count → OnFalse taken ((before : Option (List ℕ)) (first : ℕ) (text : List ℕ) → IsPut failed text buffer before mid first count → IsCut text before now first after)
 OnFalse-cut true failed buffer piece mid now count after f is all part e = tt
 OnFalse-cut false failed buffer piece mid now count after f is all part e = λ before first text. IsPut-taken false failed text buffer piece before mid now first count after f is all part e

@@ -20,7 +20,7 @@ use Rattle.panel_session.specs.Entry.{PlantEntry}
 use Rattle.panel_session.specs.Run.{IsWorked, turned}
 use Rattle.panel_session.specs.SoFar.{Past}
 use Rattle.panel_session.specs.Text.{IsText}
-use Rattle.panel_session.specs.Turns.{Turn, bytes_of, entries_of, entries_in, AreTurns}
+use Rattle.panel_session.specs.Turns.{Turn, bytes_of, entries_of_turns, entries_in, AreTurns}
 use Rattle.panel_session.proofs.KeptTurnLemmas.{are_turns-append}
 use Rattle.panel_session.proofs.SessionRequests.{IsOfSession}
 use Rattle.record_replay.specs.Laws.{Left, Polled, entries_by, is_of_session, display_seat, session_in, IsSession}
@@ -102,9 +102,9 @@ module _ (plant : PlantData) where
   pub record IsPast (panel : ℕ) (pieces : List (List ℕ)) (entries : List PlantEntry) (sent : List ℕ) (past : Past) : Type 0 where
     pub are_turns : AreTurns panel past.turns
     pub pieces_are : map (λ turn. turn.piece) past.turns ≡ pieces
-    pub entries_are : entries_of past.turns ≡ entries
+    pub entries_are : entries_of_turns past.turns ≡ entries
     pub sent_is : past.sent ≡ sent
-    pub text : IsText plant (items (bytes_of past.turns)) (entries_of past.turns) past.sent
+    pub text : IsText plant (items (bytes_of past.turns)) (entries_of_turns past.turns) past.sent
 
   -- Equal ones do as well.
   pub past-as : (panel : ℕ) (pieces pieces' : List (List ℕ)) (entries entries' : List PlantEntry) (sent sent' : List ℕ) (past : Past) → pieces ≡ pieces' → entries ≡ entries' → sent ≡ sent'
@@ -127,7 +127,7 @@ module _ (plant : PlantData) where
   pub past-session : (panel : ℕ) (pieces : List (List ℕ)) (entries : List PlantEntry) (sent : List ℕ) (past : Past) → IsPast panel pieces entries sent past → IsSession plant panel pieces entries sent
   past-session panel pieces entries sent past is = record {
     fits = record { turns = past.turns; are_turns = is.are_turns; pieces = is.pieces_are; entries_are = is.entries_are };
-    text = text-as _ _ past.sent sent (entries_of past.turns) entries (past-bytes panel pieces entries sent past is) is.entries_are is.sent_is is.text;
+    text = text-as _ _ past.sent sent (entries_of_turns past.turns) entries (past-bytes panel pieces entries sent past is) is.entries_are is.sent_is is.text;
   }
 
   -- A turn more was worked.

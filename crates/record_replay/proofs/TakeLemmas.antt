@@ -4,10 +4,11 @@ use Rattle.swp08_messages.specs.declared.message.Message.{Message}
 use Rattle.plant_config.specs.Plant.{PlantData}
 use Rattle.record_replay.specs.Take.{message_frame}
 use Rattle.record_replay.specs.Take.{connect_named}
-use Rattle.record_replay.specs.Script.{space, tab, HasNo, NumberSpells, Asks}
-use Rattle.record_replay.specs.LineInside.{IsCut, AreParts, HasNoParts, AsksNothing, SpellsNoPanel, IsTake, IsNoTake}
+use Rattle.record_replay.specs.Script.{space, tab, HasNo, NumberSpells, AsksConnect}
+use Rattle.line_text.specs.Cut.{IsCut}
+use Rattle.record_replay.specs.LineInside.{AreParts, HasNoParts, AsksNothing, SpellsNoPanel, IsTake, IsNoTake}
 use Rattle.record_replay.proofs.NumberSpellsLemmas.{one_number, panel_of_digits, number_or}
-use Rattle.record_replay.proofs.LineInsideLemmas.{one_cut, has_byte, cut_of}
+use Rattle.line_text.proofs.CutLemmas.{one_cut, has_byte, cut_of}
 
 -- The parts of a take are the same.
 pub record Same (p m l d s q n k e t : List ℕ) : Type 0 where
@@ -84,7 +85,7 @@ parts_of behind = elim (cut_of space behind) [
 ]
 
 -- parts ask for one connect
-pub one_asks : (plant : PlantData) (matrix level dest source : List ℕ) (a b : Message) → Asks plant matrix level dest source a → Asks plant matrix level dest source b → a ≡ b
+pub one_asks : (plant : PlantData) (matrix level dest source : List ℕ) (a b : Message) → AsksConnect plant matrix level dest source a → AsksConnect plant matrix level dest source b → a ≡ b
 one_asks plant matrix level dest source a b asks others =
     let m = one_number matrix matrix asks.matrix_number others.matrix_number refl asks.matrix_spelled others.matrix_spelled in
     let l = one_number level level asks.level_number others.level_number refl asks.level_spelled others.level_spelled in
@@ -107,13 +108,13 @@ no_asks-names plant matrix level dest source m l spells_m spells_l none message 
     absurd cc
 
 -- parts ask for a connect or for none
-asks_of : (plant : PlantData) (matrix level dest source : List ℕ) → ((message : Message) × Asks plant matrix level dest source message) ⊎ AsksNothing plant matrix level dest source
+asks_of : (plant : PlantData) (matrix level dest source : List ℕ) → ((message : Message) × AsksConnect plant matrix level dest source message) ⊎ AsksNothing plant matrix level dest source
 asks_of plant matrix level dest source = elim (number_or matrix) [
   | inr none ↦ inr (no_asks-matrix plant matrix level dest source none)
   | inl m ↦ elim (number_or level) [
     | inr none ↦ inr (no_asks-level plant matrix level dest source none)
     | inl l ↦
-        elim (connect_named plant m.0 l.0 dest source) as (λ (found : Option Message). connect_named plant m.0 l.0 dest source ≡ found → ((message : Message) × Asks plant matrix level dest source message) ⊎ AsksNothing plant matrix level dest source) [
+        elim (connect_named plant m.0 l.0 dest source) as (λ (found : Option Message). connect_named plant m.0 l.0 dest source ≡ found → ((message : Message) × AsksConnect plant matrix level dest source message) ⊎ AsksNothing plant matrix level dest source) [
           | None ↦ λ is. inr (no_asks-names plant matrix level dest source m.0 l.0 m.1 l.1 is)
           | Some message ↦ λ is. inl (message, record { matrix_number = m.0; level_number = l.0; matrix_spelled = m.1; level_spelled = l.1; connect = is })
         ] refl
@@ -121,12 +122,12 @@ asks_of plant matrix level dest source = elim (number_or matrix) [
 ]
 
 -- the same parts ask for the same
-same_asks : (plant : PlantData) (p m l d s q n k e t : List ℕ) (message : Message) → Same p m l d s q n k e t → Asks plant m l d s message → Asks plant n k e t message
+same_asks : (plant : PlantData) (p m l d s q n k e t : List ℕ) (message : Message) → Same p m l d s q n k e t → AsksConnect plant m l d s message → AsksConnect plant n k e t message
 same_asks plant p m l d s q n k e t message same asks =
-    subst (λ (m : List ℕ). Asks plant m k e t message) same.matrix
-    (subst (λ (l : List ℕ). Asks plant m l e t message) same.level
-    (subst (λ (d : List ℕ). Asks plant m l d t message) same.dest
-    (subst (λ (s : List ℕ). Asks plant m l d s message) same.source asks)))
+    subst (λ (m : List ℕ). AsksConnect plant m k e t message) same.matrix
+    (subst (λ (l : List ℕ). AsksConnect plant m l e t message) same.level
+    (subst (λ (d : List ℕ). AsksConnect plant m l d t message) same.dest
+    (subst (λ (s : List ℕ). AsksConnect plant m l d s message) same.source asks)))
 
 pub no_take-parts : (plant : PlantData) (behind : List ℕ) → HasNoParts behind → IsNoTake plant behind
 no_take-parts plant behind none panel piece take = none take.digits take.matrix take.level take.dest take.source take.parts

@@ -11,7 +11,7 @@ use Rattle.panel_session.specs.SettledInside.{Settled}
 use Rattle.panel_session.specs.SoFar.{Past, read_so_far, entries_so_far}
 use Rattle.panel_session.specs.StandsInside.{AllTold, NoneFrom}
 use Rattle.panel_session.specs.Text.{Output, nothing_sent, polled_at}
-use Rattle.panel_session.specs.Turns.{Turn, bytes_of, entries_in, entries_of, IsTurn}
+use Rattle.panel_session.specs.Turns.{Turn, bytes_of, entries_in, entries_of_turns, IsTurn}
 use Rattle.panel_session.proofs.EntryLemmas.{length-ask, all_ask-append}
 use Rattle.panel_session.proofs.OutputLemmas.{SayTheSame, output_later}
 use Rattle.panel_session.proofs.TurnOnce.{all_ask-one}
@@ -78,21 +78,21 @@ module _ (plant : PlantData) (entries now : List PlantEntry) (first next : ℕ) 
 record Says (plant : PlantData) (turns : List Turn) (sent : List ℕ) : Type 0 where
   asked : List Asked
   ask : AllAsk (items (bytes_of turns)) asked
-  told : AllTold 0 asked (entries_of turns)
-  none : NoneFrom (length (items (bytes_of turns))) (entries_of turns)
-  bytes : (output_of plant (entries_of turns) asked).bytes ≡ sent
+  told : AllTold 0 asked (entries_of_turns turns)
+  none : NoneFrom (length (items (bytes_of turns))) (entries_of_turns turns)
+  bytes : (output_of plant (entries_of_turns turns) asked).bytes ≡ sent
 
 says : (plant : PlantData) (panel : ℕ) (past : Past) → Settled plant panel past → Says plant past.turns past.sent
 says plant panel past settled =
     let k = settled.keeps in
     let asked : List Asked = k.before ++ k.asked in
-    let entries : entries_so_far past ≡ entries_of past.turns =
-    ap (λ (now : Turn). entries_of past.turns ++ (now.told ++ now.polls)) settled.begins ∙ append-nil (entries_of past.turns) in
+    let entries : entries_so_far past ≡ entries_of_turns past.turns =
+    ap (λ (now : Turn). entries_of_turns past.turns ++ (now.told ++ now.polls)) settled.begins ∙ append-nil (entries_of_turns past.turns) in
     let read : read_so_far past ≡ bytes_of past.turns = ap (λ (now : Turn). bytes_of past.turns ++ now.piece) settled.begins ∙ append-nil (bytes_of past.turns) in
     let AskOf : List (Item (List ℕ)) → Type 0 = λ its. AllAsk its asked in
     let ToldIn : List PlantEntry → Type 0 = λ entries. AllTold 0 asked entries in
     let NoneIn : List PlantEntry → Type 0 = λ entries. NoneFrom (length (items (read_so_far past))) entries in
-    let NoneOf : List ℕ → Type 0 = λ text. NoneFrom (length (items text)) (entries_of past.turns) in
+    let NoneOf : List ℕ → Type 0 = λ text. NoneFrom (length (items text)) (entries_of_turns past.turns) in
     record {
       asked = asked;
       ask = subst AskOf (sym k.end_in ∙ ap items read) (all_ask-append (items (bytes_of past.turns)) k.ended k.before k.asked k.ask_before k.ask);
@@ -113,14 +113,14 @@ turn_answers plant panel past turn more is settled settled_then =
     let so = says plant panel past settled in
     let then = says plant panel (turned turn more past) settled_then in
     let now = entries_in turn in
-    let old = entries_of turns in
+    let old = entries_of_turns turns in
     let of : IsOfTurn first next now = turn_entries panel turns turn is in
     let AskOf : List (Item (List ℕ)) → Type 0 = λ its. AllAsk its then.asked in
     let asked : then.asked ≡ so.asked ++ is.asked =
     all_ask-one (items text ++ is.ended) then.asked (so.asked ++ is.asked) (subst AskOf (ap items (flat_map-push (λ (turn : Turn). turn.piece) turns turn) ∙ is.end_in) then.ask)
     (all_ask-append (items text) is.ended so.asked is.asked so.ask is.ask) in
-    let entries : entries_of (turns ++ turn ∷ []) ≡ old ++ now = flat_map-push entries_in turns turn in
-    let ToldOf : List Asked → Type 0 = λ asked. AllTold 0 asked (entries_of (turns ++ turn ∷ [])) in
+    let entries : entries_of_turns (turns ++ turn ∷ []) ≡ old ++ now = flat_map-push entries_in turns turn in
+    let ToldOf : List Asked → Type 0 = λ asked. AllTold 0 asked (entries_of_turns (turns ++ turn ∷ [])) in
     let ToldIn : List PlantEntry → Type 0 = λ entries. AllTold 0 (so.asked ++ is.asked) entries in
     let told : AllTold 0 (so.asked ++ is.asked) (old ++ now) = subst ToldIn entries (subst ToldOf asked then.told) in
     let here : first ≡ 0 + length so.asked = omega (arith, length-ask (items text) so.asked so.ask) in

@@ -7,12 +7,7 @@ use Rattle.record_replay.specs.declared.line.Line as code
 use Rattle.record_replay.specs.declared.line.Line.TheVariants as found
 use Rattle.swp08_messages.specs.declared.message.Message.{Message}
 use Rattle.record_replay.specs.Take.{message_frame}
-use Rattle.record_replay.specs.Script.{Work, Read, Leave, Show, space, tab, is_skipped, lines, worked, HasNo, NumberSpells, HexSpells, take_parts, Asks, LineSpells, LinesSpell}
-
--- A text is cut at the first of this byte.
-pub record IsCut (byte : ℕ) (text front behind : List ℕ) : Type 0 where
-  pub place : text ≡ front ++ byte ∷ behind
-  pub first : HasNo byte front
+use Rattle.record_replay.specs.Script.{Work, Read, Leave, Show, space, tab, is_skipped, lines, worked, HasNo, NumberSpells, HexSpells, take_parts, AsksConnect, LineSpells, LinesSpell}
 
 -- A text spells no number.
 abbrev pub SpellsNoNumber : List ℕ → Type 0
@@ -69,7 +64,7 @@ HasNoParts behind =
 -- The parts ask for no connect.
 abbrev pub AsksNothing : PlantData → (matrix level dest source : List ℕ) → Type 0
 AsksNothing plant matrix level dest source =
-    (message : Message) → Asks plant matrix level dest source message → ⊥
+    (message : Message) → AsksConnect plant matrix level dest source message → ⊥
 
 -- What a line has behind `take `: the digits of a panel of the plant, and what asks for a connect, whose frame are the bytes.
 pub record IsTake (plant : PlantData) (behind : List ℕ) (panel : ℕ) (piece : List ℕ) : Type 0 where
@@ -82,7 +77,7 @@ pub record IsTake (plant : PlantData) (behind : List ℕ) (panel : ℕ) (piece :
   pub number : NumberSpells digits panel
   pub has_panel : panel < length plant.panels
   pub message : Message
-  pub asks : Asks plant matrix level dest source message
+  pub asks : AsksConnect plant matrix level dest source message
   pub piece_is : piece ≡ message_frame message
 
 -- What a line has behind `take ` is a take of no panel.

@@ -19,13 +19,13 @@ use Rattle.record_replay.specs.declared.replay.ReplayFault.TheVariants.{NoMemory
 use Rattle.record_replay.specs.Script.{Work, Read, Leave, Show, line_feed, lines, worked, LinesSpell}
 
 -- bytes in the output: in hexadecimal, or `-` where there are none
-abbrev pub shown : List ℕ → List ℕ
-shown [] = codes "-"
-shown (byte ∷ bytes) = encode_upper (byte ∷ bytes)
+abbrev pub hex_or_dash : List ℕ → List ℕ
+hex_or_dash [] = codes "-"
+hex_or_dash (byte ∷ bytes) = encode_upper (byte ∷ bytes)
 
 -- the output line of a turn of this panel's session, in which these bytes were sent
 abbrev pub turn_line : ℕ → List ℕ → List ℕ
-turn_line panel bytes = codes "< " ++ decimal panel ++ codes " " ++ shown bytes ++ line_feed ∷ []
+turn_line panel bytes = codes "< " ++ decimal panel ++ codes " " ++ hex_or_dash bytes ++ line_feed ∷ []
 
 -- the output line of a panel that leaves
 abbrev pub leave_line : ℕ → List ℕ

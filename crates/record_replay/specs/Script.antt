@@ -1,11 +1,12 @@
 -- Scripts: the lines of a text, and the piece of work that each of them spells.
-use Rattle.std.specs.Prelude.{◌≡◌, ◌≢◌, ◌⊎◌, ℕ, ◌+◌, ◌<◌, ◌≤◌, ◌==◌, Bool, true, false, not, List, [], ◌∷◌, ◌++◌, length, filter, All, codes, Some, Ok}
+use Rattle.std.specs.Prelude.{◌≡◌, ◌⊎◌, ℕ, ◌+◌, ◌<◌, ◌≤◌, ◌==◌, Bool, true, false, not, List, [], ◌∷◌, ◌++◌, length, filter, codes, Some, Ok}
 use Rattle.hex.specs.Hex.{decode_of}
 use Rattle.swp08_messages.specs.declared.message.Message.{Message}
 use Rattle.plant_config.specs.Plant.{PlantData}
 use Rattle.change_boards.specs.Screens.{has_screen}
 use Rattle.record_replay.specs.Take.{connect_named, message_frame}
 use Rattle.line_text.specs.Decimal.{SpellsDecimal}
+pub use Rattle.line_text.specs.Cut.{space, longest_line, HasNo}
 pub use Rattle.line_text.specs.Lines.{line_feed, in_line, lines}
 
 -- A piece of a script's work. A panel's session has one turn with this piece, which is empty where the panel is idle; the
@@ -27,10 +28,6 @@ IsOfPlant plant (Read panel piece) = panel < length plant.panels
 IsOfPlant plant (Leave panel) = panel < length plant.panels
 IsOfPlant plant (Show screen refresh) = has_screen plant screen ≡ true
 
--- the byte that may stand anywhere in hexadecimal
-abbrev pub space : ℕ
-space = 32
-
 -- the byte before each name of a take
 abbrev pub tab : ℕ
 tab = 9
@@ -38,10 +35,6 @@ tab = 9
 -- the byte that a line begins with that is skipped
 abbrev pub hash : ℕ
 hash = 35
-
--- the most bytes of a line of work, its end not counted
-abbrev pub longest_line : ℕ
-longest_line = 65536
 
 -- An empty line is skipped, and one that begins with `#`, whatever stands behind it.
 abbrev pub is_skipped : List ℕ → Bool
@@ -66,12 +59,8 @@ abbrev pub Sends : List ℕ → List ℕ → List ℕ → Type 0
 Sends line digits piece =
     (hex : List ℕ) × (line ≡ codes "> " ++ digits ++ codes " " ++ hex) × HexSpells hex piece
 
--- A text is without this byte.
-abbrev pub HasNo : ℕ → List ℕ → Type 0
-HasNo byte text = All (λ other. other ≢ byte) text
-
 -- The digits of a matrix and of a level, and the names of a destination and of a source there, ask for this connect.
-pub record Asks (plant : PlantData) (matrix level dest source : List ℕ)
+pub record AsksConnect (plant : PlantData) (matrix level dest source : List ℕ)
     (message : Message) : Type 0 where
   pub matrix_number : ℕ
   pub level_number : ℕ
@@ -86,7 +75,7 @@ take_parts digits matrix level dest source =
 
 -- A line is a take, for the panel with these digits: the bytes are the frame of the connect that it asks for. The name of
 -- the destination ends at the next TAB.
-pub record Takes (plant : PlantData) (line digits piece : List ℕ) : Type 0 where
+pub record IsTakeLine (plant : PlantData) (line digits piece : List ℕ) : Type 0 where
   pub matrix : List ℕ
   pub level : List ℕ
   pub dest : List ℕ
@@ -94,7 +83,7 @@ pub record Takes (plant : PlantData) (line digits piece : List ℕ) : Type 0 whe
   pub place : line ≡ codes "take " ++ take_parts digits matrix level dest source
   pub dest_ends : HasNo tab dest
   pub message : Message
-  pub asks : Asks plant matrix level dest source message
+  pub asks : AsksConnect plant matrix level dest source message
   pub piece_is : piece ≡ message_frame message
 
 -- A line has the form of a piece of work with these digits: `poll P` for an idle turn of the panel, `> P HEX` or a take for
@@ -102,7 +91,7 @@ pub record Takes (plant : PlantData) (line digits piece : List ℕ) : Type 0 whe
 abbrev pub HasForm : PlantData → List ℕ → List ℕ → Work → Type 0
 HasForm plant line digits (Read panel []) = line ≡ codes "poll " ++ digits
 HasForm plant line digits (Read panel (byte ∷ bytes)) =
-    Sends line digits (byte ∷ bytes) ⊎ Takes plant line digits (byte ∷ bytes)
+    Sends line digits (byte ∷ bytes) ⊎ IsTakeLine plant line digits (byte ∷ bytes)
 HasForm plant line digits (Leave panel) = line ≡ codes "leave " ++ digits
 HasForm plant line digits (Show screen false) = line ≡ codes "show " ++ digits
 HasForm plant line digits (Show screen true) = line ≡ codes "refresh " ++ digits

@@ -1,6 +1,5 @@
 -- The laws of messages' frames and of scripts. The functions of `laws` promise them.
 use Rattle.std.specs.Prelude.{◌≡◌, ◌⊎◌, ℕ, List, [], ◌∷◌, ◌++◌}
-use Rattle.std.specs.List.{flat_map}
 use Rattle.dle_framing.specs.declared.item.Item.TheVariants.{Good}
 use Rattle.dle_framing.specs.Frame.{frame}
 use Rattle.dle_framing.specs.Laws.{IsReadAs}
@@ -12,8 +11,8 @@ use Rattle.plant_config.specs.IsPlant.{IsPlant}
 use Rattle.panel_session.specs.Entry.{PlantEntry}
 use Rattle.record_replay.specs.Script.{IsFirstBad}
 use Rattle.record_replay.specs.Replay.{IsReplay}
-use Rattle.record_replay.specs.Laws.{Deed, Turned, IsHistory, pieces_of}
-use Rattle.record_replay.specs.Answered.{AnswersItems}
+use Rattle.record_replay.specs.Laws.{Deed, Turned, IsHistory}
+use Rattle.record_replay.specs.Answered.{AnswersItsPiece}
 use Rattle.record_replay.specs.TiedReplay.{NoTieCarriesTwoSources}
 
 -- the frame of a message is read as one good item with the message's DATA
@@ -73,7 +72,7 @@ TurnsAnswerItems = (plant : PlantData) (script output : List ℕ) (deeds before 
     (panel : ℕ) (piece sent : List ℕ) (entries : List PlantEntry)
     → IsHistory plant script output deeds
     → deeds ≡ before ++ Turned panel piece entries sent ∷ after
-    → AnswersItems (flat_map (λ piece. piece) (pieces_of panel before)) piece sent
+    → AnswersItsPiece before (Turned panel piece entries sent)
 
 -- On a plant no tie carries two sources, at each place of the history behind a replay's text.
 abbrev pub TiesCarryOneSource : Type 0

@@ -11,20 +11,20 @@ use Rattle.swp08_messages.specs.Text.{text}
 
 -- the number, in its level, of the destination of this name, and of the source: none where a level has no such name, or the
 -- plant no such level
-abbrev pub dest_number : PlantData → ℕ → ℕ → List ℕ → Option ℕ
-dest_number plant matrix level name =
+abbrev pub dest_number_named : PlantData → ℕ → ℕ → List ℕ → Option ℕ
+dest_number_named plant matrix level name =
     option_and_then (λ dest. option_map (λ place. place.dest) (point_of plant dest))
     (dest_named plant matrix level name)
 
-abbrev pub source_number : PlantData → ℕ → ℕ → List ℕ → Option ℕ
-source_number plant matrix level name =
+abbrev pub source_number_named : PlantData → ℕ → ℕ → List ℕ → Option ℕ
+source_number_named plant matrix level name =
     option_and_then (source_number_of plant) (source_named plant matrix level name)
 
 -- what the destination is to carry: the source of this name, or none where the name is empty, which parks it
 abbrev pub carried : PlantData → ℕ → ℕ → List ℕ → Option (Option ℕ)
 carried plant matrix level [] = Some None
 carried plant matrix level (byte ∷ name) =
-    option_map (λ number. Some number) (source_number plant matrix level (byte ∷ name))
+    option_map (λ number. Some number) (source_number_named plant matrix level (byte ∷ name))
 
 -- the connect of the destination of one name to the source of another, both of this level
 abbrev pub connect_named : PlantData → ℕ → ℕ → (dest source : List ℕ) → Option Message
@@ -33,7 +33,7 @@ connect_named plant matrix level dest source =
     (λ number. option_map
     (λ source. Connect (record { matrix = matrix; level = level; dest = number }) source)
     (carried plant matrix level source))
-    (dest_number plant matrix level dest)
+    (dest_number_named plant matrix level dest)
 
 -- the frame of a message
 abbrev pub message_frame : Message → List ℕ

@@ -11,8 +11,8 @@ ghost use Rattle.record_replay.specs.LineInside.{IsNoHex};
 ghost use Rattle.record_replay.specs.PairsInside.{IsNoPair, most_pairs};
 
 use crate::pairs::{NO_BYTE, byte_of, read_pairs};
-use crate::script::{MAX_LINE, SPACE};
 use dle_framing::{MAX_FRAME, encode_frame};
+use line_text::{MAX_LINE, SPACE};
 use std::alloc::{AllocError, Global};
 use std::marker::Model;
 use swp08_messages::Message;

@@ -2,7 +2,7 @@
 
 ghost use Rattle.std.specs.Prelude.{◌≡◌, ℕ, List, Option, not, length};
 ghost use Rattle.std.specs.Bool.{OnTrue, OnFalse};
-ghost use Rattle.ctl_io.specs.Faults.{counted};
+ghost use Rattle.ctl_io.specs.Faults.{count_after};
 ghost use Rattle.ctl_io.specs.Sink.{appended, AppendsPart};
 
 use ctl_io::{Sink, Write};
@@ -21,7 +21,7 @@ pub(crate) trait Drain {
         ensures all { OnTrue result (written self.new ≡ appended (written self.old) bytes.now) }
         ensures part { OnFalse result
             (AppendsPart bytes.now (written self.old) (written self.new)) }
-        ensures count { faults self.new ≡ counted (not result) (faults self.old) };
+        ensures count { faults self.new ≡ count_after (not result) (faults self.old) };
 }
 
 impl<K: Sink> Drain for K {

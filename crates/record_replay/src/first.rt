@@ -9,7 +9,8 @@ ghost use Rattle.record_replay.specs.FirstInside.{BeginsPlainly, BeginsShort, En
 
 use crate::digits::Digits;
 use crate::pairs::{MOST_PAIRS, count_pairs};
-use crate::script::{LF, SPACE};
+use crate::script::LF;
+use line_text::SPACE;
 use plant_config::{PanelNo, Plant};
 
 // Begins the line of a turn.
@@ -18,8 +19,8 @@ const GREATER: u8 = b'>';
 // So many bytes are left where the most pairs can be read behind `> P `, and the LF behind these.
 const LEAST: usize = 2 * MOST_PAIRS + 5;
 
-// The panel of the turn that the first line of a text is, and what is behind that line. The digits take its bytes. It is found
-// wherever the line is a turn as most are, and no line that is something else is taken for one.
+// Short way: the panel of the turn that the first line of a text is, and what is behind that line. The digits take its bytes.
+// It is found wherever the line is a turn as most are, and no line that is something else is taken for one.
 #[inline(always)]
 pub(crate) fn take_turn<'s>(
     digits: &mut Digits,
@@ -36,7 +37,7 @@ pub(crate) fn take_turn<'s>(
     Some((panel, behind_pairs(hex, count)?))
 }
 
-// What is behind the first line of a text, where `take_turn` finds a turn. The turn's bytes are put nowhere.
+// Short way: what is behind the first line of a text, where `take_turn` finds a turn. The turn's bytes are put nowhere.
 #[inline(always)]
 pub(crate) fn pass_turn<'s>(plant: &Plant, text: &'s [u8]) -> Option<&'s [u8]>
     ensures { MatchOption result

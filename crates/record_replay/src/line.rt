@@ -7,8 +7,9 @@ ghost use Rattle.record_replay.specs.LineInside.{IsShow, IsNoShow};
 
 use crate::digits::Digits;
 use crate::number::{read_panel, read_screen};
-use crate::script::{HASH, MAX_LINE, SPACE, split_at};
+use crate::script::HASH;
 use crate::take::read_take;
+use line_text::{MAX_LINE, SPACE, split_at};
 use plant_config::{PanelNo, Plant};
 use plant_names::Names;
 

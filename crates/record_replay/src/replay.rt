@@ -1,7 +1,7 @@
 //! A script's lines are all read, and then their works are done.
 
 ghost use Rattle.std.specs.Prelude.{◌≡◌, ◌≢◌, Err, ℕ, OnOk, IsErrOf};
-ghost use Rattle.ctl_io.specs.Faults.{counted};
+ghost use Rattle.ctl_io.specs.Faults.{count_after};
 ghost use Rattle.record_replay.specs.declared.replay.ReplayFault.TheVariants.{NoMemory};
 ghost use Rattle.record_replay.specs.Script.{IsFirstBad};
 ghost use Rattle.record_replay.specs.LineInside.{HasWorks};
@@ -22,7 +22,7 @@ use std::alloc::{AllocError, Global};
 #[derive(Clone, Copy, Debug, PartialEq, Eq)]
 pub enum ReplayFault {
     NoMemory,
-    /// The line of this number, counted from 1, is the first that has no form.
+    /// The line of this number, count_after from 1, is the first that has no form.
     BadLine(u64),
     /// A write of the output failed.
     OutputFault,
@@ -59,7 +59,7 @@ pub fn replay_script<K: Sink>(
     ensures no_memory { IsErrOf result ReplayFault.NoMemory
         → K.written out.new ≡ K.written out.old }
     // The output's count of faults rose by one at a fault of the output, and else stayed.
-    ensures count { K.faults out.new ≡ counted (output_failed result) (K.faults out.old) }
+    ensures count { K.faults out.new ≡ count_after (output_failed result) (K.faults out.old) }
 {
     let mut digits = Digits::new(alloc)?;
     if let Some(number) = check_lines(&mut digits, plant, names, script) {
@@ -86,7 +86,7 @@ fn replay_lines<K: Sink>(
         → HasReplayedFront plant.now script.now (K.written out.old) (K.written out.new) }
     ensures no_memory { IsErrOf result ReplayFault.NoMemory
         → K.written out.new ≡ K.written out.old }
-    ensures count { K.faults out.new ≡ counted (output_failed result) (K.faults out.old) }
+    ensures count { K.faults out.new ≡ count_after (output_failed result) (K.faults out.old) }
 {
     let mut stage = Stage::start(alloc, plant, names)?;
     let mut room = Room::new(alloc)?;

@@ -4,14 +4,15 @@ ghost use Rattle.std.specs.Prelude.{◌≡◌, ◌<◌, IfSome, MatchOption};
 ghost use Rattle.plant_config.specs.Limits.{level_destination_limit};
 ghost use Rattle.plant_config.specs.IsPlant.{IsPlant};
 ghost use Rattle.swp08_messages.specs.Text.{InRange, IsSource};
-ghost use Rattle.record_replay.specs.Take.{dest_number, source_number, carried, connect_named};
-ghost use Rattle.record_replay.specs.Script.{Asks};
+ghost use Rattle.record_replay.specs.Take.{dest_number_named, source_number_named, carried, connect_named};
+ghost use Rattle.record_replay.specs.Script.{AsksConnect};
 ghost use Rattle.record_replay.specs.LineInside.{AreParts, HasNoParts, AsksNothing};
 ghost use Rattle.record_replay.specs.LineInside.{IsTake, IsNoTake};
 
 use crate::digits::Digits;
 use crate::number::{read_number, read_panel};
-use crate::script::{SPACE, TAB, split_at};
+use crate::script::TAB;
+use line_text::{SPACE, split_at};
 use plant_config::{PanelNo, Plant};
 use plant_names::Names;
 use swp08_messages::{Message, Point};
@@ -72,7 +73,7 @@ fn read_connect(plant: &Plant, names: &Names, parts: Parts<'_>) -> Option<Messag
     ensures asks { MatchOption result
         (AsksNothing plant.now parts.entry.matrix.now parts.entry.level.now
         parts.entry.dest.now parts.entry.source.now)
-        (λ message. Asks plant.now parts.entry.matrix.now parts.entry.level.now
+        (λ message. AsksConnect plant.now parts.entry.matrix.now parts.entry.level.now
         parts.entry.dest.now parts.entry.source.now message) }
     ensures in_range { IfSome result InRange }
 {
@@ -117,7 +118,7 @@ fn connect_named(
 fn dest_number(plant: &Plant, names: &Names, matrix: u8, level: u8, name: &[u8]) -> Option<u16>
     requires plant { IsPlant plant.now }
     requires names { names.now ≡ plant.now }
-    ensures number { result ≡ dest_number plant.now matrix level name.now }
+    ensures number { result ≡ dest_number_named plant.now matrix level name.now }
     ensures below { IfSome result (λ number. number < level_destination_limit) }
 {
     let dest = names.find_dest(matrix, level, name)?;

@@ -6,7 +6,7 @@ use Rattle.std.proofs.lemmas.List.Elements.{All-nil, All-map, All-push, All-weak
 use Rattle.std.proofs.Math.ListN.{length-set}
 use Rattle.plant_config.specs.declared.records.Change.{Change}
 use Rattle.salvo_groups.specs.Limits.{salvo_limit}
-use Rattle.salvo_groups.specs.Groups.{Group, has_entry, may_store, stored, start, group_of, with_store, with_clear}
+use Rattle.salvo_groups.specs.Groups.{Group, has_entry, may_store, stored, start_groups, group_of, with_store, with_clear}
 use Rattle.salvo_groups.specs.Laws.{EntriesPass, GoOnPassing}
 use Rattle.salvo_groups.proofs.OneGroup.{stored_known, stored_new}
 use Rattle.salvo_groups.proofs.AllGroups.{with_store_made, with_store_refused, group_same, group_other}
@@ -44,10 +44,10 @@ All-with_store P groups number change all is n = go (may_store (group_of groups 
 pub All-with_clear : (P : Change → Type 0) (groups : List Group) (number : ℕ) → ((n : ℕ) → All P (group_of groups n)) → (n : ℕ) → All P (group_of (with_clear groups number) n)
 All-with_clear P groups number all n = All-set P groups number [] all (All-nil P) n
 
-pub All-start : (P : Change → Type 0) (n : ℕ) → All P (group_of start n)
+pub All-start : (P : Change → Type 0) (n : ℕ) → All P (group_of start_groups n)
 All-start P n =
     let Is : Group → Type 0 = λ (g : Group). All P g in
     elim (cases_lt n salvo_limit) [
       | inl within ↦ subst Is (sym (get_or-replicate salvo_limit n [] [] within)) (All-nil P)
-      | inr past ↦ subst Is (sym (get_or_past start n [] (omega (arith, past, length-replicate {A = Group} salvo_limit [])))) (All-nil P)
+      | inr past ↦ subst Is (sym (get_or_past start_groups n [] (omega (arith, past, length-replicate {A = Group} salvo_limit [])))) (All-nil P)
     ]

@@ -6,7 +6,7 @@ use Rattle.std.proofs.lemmas.List.{set-get_or, get_or_past, get_or-replicate, le
 use Rattle.std.proofs.Math.ListN.{length-set}
 use Rattle.plant_config.specs.declared.records.Change.{Change}
 use Rattle.salvo_groups.specs.Limits.{salvo_limit}
-use Rattle.salvo_groups.specs.Groups.{Group, may_store, stored, start, group_of, with_store, with_clear, IsGroup, AreGroups}
+use Rattle.salvo_groups.specs.Groups.{Group, may_store, stored, start_groups, group_of, with_store, with_clear, IsGroup, AreGroups}
 use Rattle.salvo_groups.specs.EntriesInside.{asked}
 use Rattle.salvo_groups.specs.Laws.{SameGroupsBut, Clears, StayGroups, StoresAreRead}
 use Rattle.salvo_groups.proofs.OneGroup.{IsGroup-stored, Stores-stored}
@@ -54,14 +54,14 @@ AreGroups-set groups number group are is = record {
       ];
 }
 
-pub AreGroups-start : AreGroups start
+pub AreGroups-start : AreGroups start_groups
 AreGroups-start = record {
   count = length-replicate {A = Group} salvo_limit [];
   each = λ number.
       let Is : Group → Type 0 = λ g. IsGroup g in
       elim (cases_lt number salvo_limit) [
         | inl within ↦ subst Is (sym (get_or-replicate salvo_limit number [] [] within)) IsGroup-nil
-        | inr past ↦ subst Is (sym (get_or_past start number [] (omega (arith, past, length-replicate {A = Group} salvo_limit [])))) IsGroup-nil
+        | inr past ↦ subst Is (sym (get_or_past start_groups number [] (omega (arith, past, length-replicate {A = Group} salvo_limit [])))) IsGroup-nil
       ];
 }
 

@@ -2,7 +2,7 @@
 use Rattle.std.proofs.Common.{◌≡◌, ℕ, List, [], ◌∷◌, true, false, Option, Some, None, slice_get, replicate, refl}
 use Rattle.plant_config.specs.declared.records.Change.{Change}
 use Rattle.salvo_groups.specs.declared.store.Store.TheVariants.{Stored, GroupFull}
-use Rattle.salvo_groups.specs.Groups.{Group, may_store, stored, start, group_of, with_clear}
+use Rattle.salvo_groups.specs.Groups.{Group, may_store, stored, start_groups, group_of, with_clear}
 use Rattle.salvo_groups.specs.Answers.{store_answer}
 use Rattle.salvo_groups.specs.Laws.{with_stores, first_dests, last_store, entry_of}
 
@@ -14,7 +14,7 @@ to dest source = record { dest = dest; source = source }
 abbrev three : Group
 three = to 4 (Some 3) ∷ to 5 (Some 3) ∷ to 6 (Some 3) ∷ []
 
-three_in_group_7 : group_of (with_stores start 7 three) 7 ≡ three
+three_in_group_7 : group_of (with_stores start_groups 7 three) 7 ≡ three
 three_in_group_7 = refl
 
 the_last_is_at_2 : slice_get three 2 ≡ Some (to 6 (Some 3))
@@ -23,10 +23,10 @@ the_last_is_at_2 = refl
 behind_the_last : slice_get three 3 ≡ None
 behind_the_last = refl
 
-others_are_empty : group_of (with_stores start 7 three) 8 ≡ []
+others_are_empty : group_of (with_stores start_groups 7 three) 8 ≡ []
 others_are_empty = refl
 
-cleared : group_of (with_clear (with_stores start 7 three) 7) 7 ≡ []
+cleared : group_of (with_clear (with_stores start_groups 7 three) 7) 7 ≡ []
 cleared = refl
 
 in_its_place : stored three (to 5 None) ≡ to 4 (Some 3) ∷ to 5 None ∷ to 6 (Some 3) ∷ []
@@ -55,8 +55,8 @@ order_of_first_stores = refl
 last_of_9 : last_store twice 9 ≡ Some (to 9 None)
 last_of_9 = refl
 
-collected : group_of (with_stores start 127 twice) 127 ≡ to 9 None ∷ to 2 (Some 8) ∷ []
+collected : group_of (with_stores start_groups 127 twice) 127 ≡ to 9 None ∷ to 2 (Some 8) ∷ []
 collected = refl
 
-past_the_last_group : group_of (with_stores start 128 twice) 128 ≡ []
+past_the_last_group : group_of (with_stores start_groups 128 twice) 128 ≡ []
 past_the_last_group = refl

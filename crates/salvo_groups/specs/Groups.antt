@@ -40,9 +40,9 @@ abbrev pub stored : Group → Change → Group
 stored group change =
     if has_entry group change.dest then with_changed group change else group ++ change ∷ []
 
--- all groups at the start: each is empty
-abbrev pub start : List Group
-start = replicate salvo_limit []
+-- all groups at the start_groups: each is empty
+abbrev pub start_groups : List Group
+start_groups = replicate salvo_limit []
 
 -- the group of a number, empty behind the last one
 abbrev pub group_of : List Group → ℕ → Group

@@ -1,7 +1,7 @@
 //! All salvo groups.
 
 ghost use Rattle.std.specs.Prelude.{◌≡◌, ◌<◌, ◌≤◌, ◌↔◌, length, slice_get, IsNone, IfOk};
-ghost use Rattle.salvo_groups.specs.Groups.{start, group_of, with_store, with_clear};
+ghost use Rattle.salvo_groups.specs.Groups.{start_groups, group_of, with_store, with_clear};
 ghost use Rattle.salvo_groups.specs.Groups.{IsGroup, AreGroups};
 ghost use Rattle.salvo_groups.specs.Answers.{store_answer, HasNoRoom};
 
@@ -34,7 +34,7 @@ impl Model for Groups {
 impl Groups {
     /// All groups, each empty and with room for all entries that it may have.
     pub fn new(alloc: Global) -> Result<Groups, AllocError>
-        ensures { IfOk result (λ groups. groups ≡ start) }
+        ensures { IfOk result (λ groups. groups ≡ start_groups) }
     {
         let mut groups = Vec::with_capacity(alloc, usize::from(GROUPS))?;
         for _group in 0..GROUPS {

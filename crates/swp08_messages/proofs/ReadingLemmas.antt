@@ -12,9 +12,9 @@ use Rattle.swp08_messages.specs.Spelled.{SpellFields, Spells}
 use Rattle.swp08_messages.specs.ReadingInside.{limit_of, held_to, point_in, source_in, device_in, owned_in, told_point_in, told_device_in, matrix_in, level_in, size_in, wide_in, status_of, entry_in}
 use Rattle.swp08_messages.specs.ReadingInside.{crosspoint_message, protect_message, dump_message, names_message, salvo_message, first_of, message_of}
 use Rattle.swp08_messages.proofs.LayoutLemmas.{Below, SpellThem, destination-in, crosspoint-in, point_in-again, crosspoint-again}
-use Rattle.swp08_messages.proofs.NamesLemmas.{one_level-in, one_level-again, source_names-in, source_names-again, source_name-in, source_name-again, dest_names-in, dest_names-again, dest_name-in, dest_name-again}
+use Rattle.swp08_messages.proofs.NamesLemmas.{one_level-in, one_level-again, source_names_ask-in, source_names_ask-again, source_name_ask-in, source_name_ask-again, dest_names_ask-in, dest_names_ask-again, dest_name_ask-in, dest_name_ask-again}
 use Rattle.swp08_messages.proofs.ProtectsLemmas.{protect-in, protect-again, protect_told-in, protect_told-again, spare-in, spare-again}
-use Rattle.swp08_messages.proofs.SalvosLemmas.{stored-in, stored-again, entry-in, entry-again, go-in, go-again, go_done-in, go_done-again, entry_ask-in, entry_ask-again}
+use Rattle.swp08_messages.proofs.SalvosLemmas.{stored_crosspoint-in, stored_crosspoint-again, entry-in, entry-again, go-in, go-again, go_done-in, go_done-again, entry_ask-in, entry_ask-again}
 use Rattle.swp08_messages.proofs.HeldLemmas.{held_to-fields, held_to-longer, held_to-plain}
 use Rattle.swp08_messages.proofs.SpelledLemmas.{Spells-text}
 
@@ -67,12 +67,12 @@ message_of-again (Tally at source) bytes room spell = let e = crosspoint-again a
 message_of-again (Connected at source) bytes room spell = let e = crosspoint-again at source bytes room spell in rw (e.point, e.source_is) refl
 message_of-again (DumpAsk matrix level) bytes room spell = let e = one_level-again matrix level bytes room spell in rw (e.matrix_is, e.level_is) refl
 message_of-again (SourceNamesAsk matrix level size) bytes room spell =
-    let e = source_names-again matrix level size bytes room spell in rw (e.0.matrix_is, e.0.level_is, e.1) refl
+    let e = source_names_ask-again matrix level size bytes room spell in rw (e.0.matrix_is, e.0.level_is, e.1) refl
 message_of-again (SourceNameAsk matrix level size number) bytes room spell =
-    let e = source_name-again matrix level size number bytes room spell in rw (e.0.matrix_is, e.0.level_is, e.1.size_is, e.1.number_is) refl
-message_of-again (DestNamesAsk matrix size) bytes room spell = let e = dest_names-again matrix size bytes room spell in rw (e.0, e.1) refl
+    let e = source_name_ask-again matrix level size number bytes room spell in rw (e.0.matrix_is, e.0.level_is, e.1.size_is, e.1.number_is) refl
+message_of-again (DestNamesAsk matrix size) bytes room spell = let e = dest_names_ask-again matrix size bytes room spell in rw (e.0, e.1) refl
 message_of-again (DestNameAsk matrix size number) bytes room spell =
-    let e = dest_name-again matrix size number bytes room spell in rw (e.matrix_is, e.size_is, e.number_is) refl
+    let e = dest_name_ask-again matrix size number bytes room spell in rw (e.matrix_is, e.size_is, e.number_is) refl
 message_of-again (ProtectAsk at) bytes room spell = ap (λ p. Some (ProtectAsk p)) (point_in-again at bytes room spell)
 message_of-again (ProtectTally at owned device) bytes room spell =
     let e = protect_told-again at owned device bytes room spell in rw (e.point, e.owned_is, e.device_is) refl
@@ -83,10 +83,10 @@ message_of-again (ProtectDisconnect at device) bytes room spell = let e = protec
 message_of-again (ProtectDisconnected at owned device) bytes room spell =
     let e = protect_told-again at owned device bytes room spell in rw (e.point, e.owned_is, e.device_is) refl
 message_of-again (Store at source salvo) bytes room spell =
-    let e = stored-again at source salvo bytes room spell in rw (e.0.point, e.0.source_is, e.1) refl
+    let e = stored_crosspoint-again at source salvo bytes room spell in rw (e.0.point, e.0.source_is, e.1) refl
 message_of-again (Go clear salvo) bytes room spell = let e = go-again clear salvo bytes spell in rw (e.0, e.1) refl
 message_of-again (Stored at source salvo) bytes room spell =
-    let e = stored-again at source salvo bytes room spell in rw (e.0.point, e.0.source_is, e.1) refl
+    let e = stored_crosspoint-again at source salvo bytes room spell in rw (e.0.point, e.0.source_is, e.1) refl
 message_of-again (GoDone status salvo) bytes room spell = let e = go_done-again status salvo bytes spell in rw (e.0, e.1) refl
 message_of-again (EntryAsk salvo index) bytes room spell = let e = entry_ask-again salvo index bytes spell in rw (e.0, e.1) refl
 message_of-again (Entry at source salvo index validity) bytes room spell =
@@ -171,17 +171,17 @@ dump_message-reads command bytes message =
 
 names_message-reads : (command : ℕ) (bytes : List ℕ) (message : Message) → names_message command bytes ≡ Some message → IsRead command bytes message
 names_message-reads command bytes message =
-    reads_at command 100 bytes message _ _ (reads command bytes (SourceNamesAsk (matrix_in bytes) (level_in bytes) (size_in bytes)) refl (source_names-in bytes)) (
-    reads_at command 101 bytes message _ _ (reads command bytes (SourceNameAsk (matrix_in bytes) (level_in bytes) (size_in bytes) (wide_in bytes)) refl (source_name-in bytes)) (
-    reads_at command 102 bytes message _ _ (reads command bytes (DestNamesAsk (matrix_in bytes) (size_in bytes)) refl (dest_names-in bytes)) (
-    reads_at command 103 bytes message _ _ (reads command bytes (DestNameAsk (matrix_in bytes) (size_in bytes) (wide_in bytes)) refl (dest_name-in bytes)) (
+    reads_at command 100 bytes message _ _ (reads command bytes (SourceNamesAsk (matrix_in bytes) (level_in bytes) (size_in bytes)) refl (source_names_ask-in bytes)) (
+    reads_at command 101 bytes message _ _ (reads command bytes (SourceNameAsk (matrix_in bytes) (level_in bytes) (size_in bytes) (wide_in bytes)) refl (source_name_ask-in bytes)) (
+    reads_at command 102 bytes message _ _ (reads command bytes (DestNamesAsk (matrix_in bytes) (size_in bytes)) refl (dest_names_ask-in bytes)) (
+    reads_at command 103 bytes message _ _ (reads command bytes (DestNameAsk (matrix_in bytes) (size_in bytes) (wide_in bytes)) refl (dest_name_ask-in bytes)) (
     λ none. absurd cc))))
 
 salvo_message-reads : (command : ℕ) (bytes : List ℕ) (message : Message) → salvo_message command bytes ≡ Some message → IsRead command bytes message
 salvo_message-reads command bytes message =
-    reads_at command 120 bytes message _ _ (reads command bytes (Store (point_in bytes) (source_in bytes) (slice_index bytes 4)) refl (stored-in bytes)) (
+    reads_at command 120 bytes message _ _ (reads command bytes (Store (point_in bytes) (source_in bytes) (slice_index bytes 4)) refl (stored_crosspoint-in bytes)) (
     reads_at command 121 bytes message _ _ (reads command bytes (Go (nat_eq (slice_index bytes 0) 1) (slice_index bytes 1)) refl (go-in bytes)) (
-    reads_at command 122 bytes message _ _ (reads command bytes (Stored (point_in bytes) (source_in bytes) (slice_index bytes 4)) refl (stored-in bytes)) (
+    reads_at command 122 bytes message _ _ (reads command bytes (Stored (point_in bytes) (source_in bytes) (slice_index bytes 4)) refl (stored_crosspoint-in bytes)) (
     reads_at command 123 bytes message _ _ (reads command bytes (GoDone (status_of (slice_index bytes 0)) (slice_index bytes 1)) refl (go_done-in bytes)) (
     reads_at command 124 bytes message _ _ (reads command bytes (EntryAsk (slice_index bytes 0) (slice_index bytes 1)) refl (entry_ask-in bytes)) (
     reads_at command 125 bytes message _ _ (reads command bytes (entry_in bytes) refl (entry-in bytes)) (

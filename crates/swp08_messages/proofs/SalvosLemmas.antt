@@ -8,7 +8,7 @@ use Rattle.swp08_messages.specs.declared.go_status.GoStatus.TheVariants.{Made, C
 use Rattle.swp08_messages.specs.declared.validity.Validity.{Validity}
 use Rattle.swp08_messages.specs.declared.validity.Validity.TheVariants.{More, Last, NoEntry}
 use Rattle.swp08_messages.specs.Field.{status_number, validity_number, HasRoom}
-use Rattle.swp08_messages.specs.Row.{stored, go, go_done, entry_ask, entry}
+use Rattle.swp08_messages.specs.Row.{stored_crosspoint, go, go_done, entry_ask, entry}
 use Rattle.swp08_messages.specs.Spelled.{SpellFields}
 use Rattle.swp08_messages.specs.ReadingInside.{point_in, source_in, status_of, validity_of}
 use Rattle.swp08_messages.proofs.LayoutLemmas.{Below, SpellThem, crosspoint-in, IsIn, crosspoint-again}
@@ -42,14 +42,14 @@ validity_of-again More = refl
 validity_of-again Last = refl
 validity_of-again NoEntry = refl
 
-pub stored-in : (bytes : List ℕ) → Below bytes (256 ∷ 256 ∷ 128 ∷ 128 ∷ 128 ∷ []) → SpellThem bytes (stored (point_in bytes) (source_in bytes) (slice_index bytes 4))
-stored-in [] below = absurd below
-stored-in (place ∷ []) below = absurd below.1
-stored-in (place ∷ high ∷ []) below = absurd below.1.1
-stored-in (place ∷ high ∷ low ∷ []) below = absurd below.1.1.1
-stored-in (place ∷ high ∷ low ∷ source ∷ []) below = absurd below.1.1.1.1
-stored-in (place ∷ high ∷ low ∷ source ∷ salvo ∷ more ∷ others) below = absurd below.1.1.1.1.1
-stored-in (place ∷ high ∷ low ∷ source ∷ salvo ∷ []) below =
+pub stored_crosspoint-in : (bytes : List ℕ) → Below bytes (256 ∷ 256 ∷ 128 ∷ 128 ∷ 128 ∷ []) → SpellThem bytes (stored_crosspoint (point_in bytes) (source_in bytes) (slice_index bytes 4))
+stored_crosspoint-in [] below = absurd below
+stored_crosspoint-in (place ∷ []) below = absurd below.1
+stored_crosspoint-in (place ∷ high ∷ []) below = absurd below.1.1
+stored_crosspoint-in (place ∷ high ∷ low ∷ []) below = absurd below.1.1.1
+stored_crosspoint-in (place ∷ high ∷ low ∷ source ∷ []) below = absurd below.1.1.1.1
+stored_crosspoint-in (place ∷ high ∷ low ∷ source ∷ salvo ∷ more ∷ others) below = absurd below.1.1.1.1.1
+stored_crosspoint-in (place ∷ high ∷ low ∷ source ∷ salvo ∷ []) below =
     let carried = crosspoint-in (place ∷ high ∷ low ∷ source ∷ []) (below.0, (below.1.0, (below.1.1.0, (below.1.1.1.0, tt)))) in
     let room = carried.room in
     let spelled = carried.spelled in
@@ -69,7 +69,7 @@ entry-in (place ∷ high ∷ low ∷ source ∷ salvo ∷ []) below = absurd bel
 entry-in (place ∷ high ∷ low ∷ source ∷ salvo ∷ index ∷ []) below = absurd below.1.1.1.1.1.1
 entry-in (place ∷ high ∷ low ∷ source ∷ salvo ∷ index ∷ validity ∷ more ∷ others) below = absurd below.1.1.1.1.1.1.1
 entry-in (place ∷ high ∷ low ∷ source ∷ salvo ∷ index ∷ validity ∷ []) below =
-    let held = stored-in (place ∷ high ∷ low ∷ source ∷ salvo ∷ []) (below.0, (below.1.0, (below.1.1.0, (below.1.1.1.0, (below.1.1.1.1.0, tt))))) in
+    let held = stored_crosspoint-in (place ∷ high ∷ low ∷ source ∷ salvo ∷ []) (below.0, (below.1.0, (below.1.1.0, (below.1.1.1.0, (below.1.1.1.1.0, tt))))) in
     let room = held.room in
     let spelled = held.spelled in
     record {
@@ -96,15 +96,15 @@ entry_ask-in (salvo ∷ index ∷ more ∷ others) below = absurd below.1.1
 entry_ask-in (salvo ∷ index ∷ []) below = record { room = (below.0, (below.1.0, tt)); spelled = (refl, (refl, tt)) }
 
 -- the crosspoint and the salvo that bytes give
-pub stored-again : (at : Point) (source : Option ℕ) (salvo : ℕ) (bytes : List ℕ) → AllByRecursion HasRoom (stored at source salvo)
-    → SpellFields bytes (stored at source salvo) → IsIn bytes at source × (slice_index bytes 4 ≡ salvo)
-stored-again at source salvo [] room spell = absurd spell
-stored-again at source salvo (place ∷ []) room spell = absurd spell.1
-stored-again at source salvo (place ∷ high ∷ []) room spell = absurd spell.1.1
-stored-again at source salvo (place ∷ high ∷ low ∷ []) room spell = absurd spell.1.1.1
-stored-again at source salvo (place ∷ high ∷ low ∷ s ∷ []) room spell = absurd spell.1.1.1.1
-stored-again at source salvo (place ∷ high ∷ low ∷ s ∷ group ∷ more ∷ others) room spell = absurd spell.1.1.1.1.1
-stored-again at source salvo (place ∷ high ∷ low ∷ s ∷ group ∷ []) room spell =
+pub stored_crosspoint-again : (at : Point) (source : Option ℕ) (salvo : ℕ) (bytes : List ℕ) → AllByRecursion HasRoom (stored_crosspoint at source salvo)
+    → SpellFields bytes (stored_crosspoint at source salvo) → IsIn bytes at source × (slice_index bytes 4 ≡ salvo)
+stored_crosspoint-again at source salvo [] room spell = absurd spell
+stored_crosspoint-again at source salvo (place ∷ []) room spell = absurd spell.1
+stored_crosspoint-again at source salvo (place ∷ high ∷ []) room spell = absurd spell.1.1
+stored_crosspoint-again at source salvo (place ∷ high ∷ low ∷ []) room spell = absurd spell.1.1.1
+stored_crosspoint-again at source salvo (place ∷ high ∷ low ∷ s ∷ []) room spell = absurd spell.1.1.1.1
+stored_crosspoint-again at source salvo (place ∷ high ∷ low ∷ s ∷ group ∷ more ∷ others) room spell = absurd spell.1.1.1.1.1
+stored_crosspoint-again at source salvo (place ∷ high ∷ low ∷ s ∷ group ∷ []) room spell =
     let carried = crosspoint-again at source (place ∷ high ∷ low ∷ s ∷ []) (room.0, (room.1.0, (room.1.1.0, (room.1.1.1.0, tt)))) (spell.0, (spell.1.0, (spell.1.1.0, (spell.1.1.1.0, tt)))) in
     (record { point = carried.point; source_is = carried.source_is }, spell.1.1.1.1.0)
 
@@ -126,7 +126,7 @@ entry-again at source salvo index validity (place ∷ high ∷ low ∷ s ∷ gro
 entry-again at source salvo index validity (place ∷ high ∷ low ∷ s ∷ group ∷ i ∷ []) room spell = absurd spell.1.1.1.1.1.1
 entry-again at source salvo index validity (place ∷ high ∷ low ∷ s ∷ group ∷ i ∷ v ∷ more ∷ others) room spell = absurd spell.1.1.1.1.1.1.1
 entry-again at source salvo index validity (place ∷ high ∷ low ∷ s ∷ group ∷ i ∷ v ∷ []) room spell =
-    let held = stored-again at source salvo (place ∷ high ∷ low ∷ s ∷ group ∷ []) (room.0, (room.1.0, (room.1.1.0, (room.1.1.1.0, (room.1.1.1.1.0, tt)))))
+    let held = stored_crosspoint-again at source salvo (place ∷ high ∷ low ∷ s ∷ group ∷ []) (room.0, (room.1.0, (room.1.1.0, (room.1.1.1.0, (room.1.1.1.1.0, tt)))))
     (spell.0, (spell.1.0, (spell.1.1.0, (spell.1.1.1.0, (spell.1.1.1.1.0, tt))))) in
     record {
       carried = record { point = held.0.point; source_is = held.0.source_is };

@@ -49,12 +49,12 @@ protect_told at owned device =
     ∷ DeviceLow device ∷ []
 
 -- a crosspoint in a salvo, and an entry of a salvo at a place, which says too whether more follow
-abbrev pub stored : Point → Option ℕ → ℕ → List Field
-stored at source salvo = crosspoint at source ++ Salvo salvo ∷ []
+abbrev pub stored_crosspoint : Point → Option ℕ → ℕ → List Field
+stored_crosspoint at source salvo = crosspoint at source ++ Salvo salvo ∷ []
 
 abbrev pub entry : Point → Option ℕ → ℕ → ℕ → Validity → List Field
 entry at source salvo index validity =
-    stored at source salvo ++ Index index ∷ EntryValidity validity ∷ []
+    stored_crosspoint at source salvo ++ Index index ∷ EntryValidity validity ∷ []
 
 -- what a salvo is to do, what became of it, and a place in it
 abbrev pub go : Bool → ℕ → List Field
@@ -75,18 +75,18 @@ abbrev pub wide : ℕ → List Field
 wide number = NumberHigh number ∷ NumberLow number ∷ []
 
 -- the names of all sources of a level, and that of one of them: matrix with level, the size of a name, the number
-abbrev pub source_names : ℕ → ℕ → ℕ → List Field
-source_names matrix level size = MatrixLevel matrix level ∷ NameSize size ∷ []
+abbrev pub source_names_ask : ℕ → ℕ → ℕ → List Field
+source_names_ask matrix level size = MatrixLevel matrix level ∷ NameSize size ∷ []
 
-abbrev pub source_name : ℕ → ℕ → ℕ → ℕ → List Field
-source_name matrix level size number = MatrixLevel matrix level ∷ NameSize size ∷ wide number
+abbrev pub source_name_ask : ℕ → ℕ → ℕ → ℕ → List Field
+source_name_ask matrix level size number = MatrixLevel matrix level ∷ NameSize size ∷ wide number
 
 -- the names of all destinations of a matrix, and that of one of them: matrix, the size of a name, the number
-abbrev pub dest_names : ℕ → ℕ → List Field
-dest_names matrix size = Matrix matrix ∷ NameSize size ∷ []
+abbrev pub dest_names_ask : ℕ → ℕ → List Field
+dest_names_ask matrix size = Matrix matrix ∷ NameSize size ∷ []
 
-abbrev pub dest_name : ℕ → ℕ → ℕ → List Field
-dest_name matrix size number = Matrix matrix ∷ NameSize size ∷ wide number
+abbrev pub dest_name_ask : ℕ → ℕ → ℕ → List Field
+dest_name_ask matrix size number = Matrix matrix ∷ NameSize size ∷ wide number
 
 -- a row with nothing to spare
 abbrev pub plain : ℕ → MessageKind → List Field → MessageRow
@@ -107,14 +107,14 @@ row (ProtectConnected at owned device) = plain 13 Report (protect_told at owned 
 row (ProtectDisconnect at device) = plain 14 Plant (protect at device)
 row (ProtectDisconnected at owned device) = plain 15 Report (protect_told at owned device)
 row (DumpAsk matrix level) = plain 21 Plant (one_level matrix level)
-row (SourceNamesAsk matrix level size) = plain 100 Names (source_names matrix level size)
+row (SourceNamesAsk matrix level size) = plain 100 Names (source_names_ask matrix level size)
 row (SourceNameAsk matrix level size number) =
-    plain 101 Names (source_name matrix level size number)
-row (DestNamesAsk matrix size) = plain 102 Names (dest_names matrix size)
-row (DestNameAsk matrix size number) = plain 103 Names (dest_name matrix size number)
-row (Store at source salvo) = plain 120 Plant (stored at source salvo)
+    plain 101 Names (source_name_ask matrix level size number)
+row (DestNamesAsk matrix size) = plain 102 Names (dest_names_ask matrix size)
+row (DestNameAsk matrix size number) = plain 103 Names (dest_name_ask matrix size number)
+row (Store at source salvo) = plain 120 Plant (stored_crosspoint at source salvo)
 row (Go clear salvo) = plain 121 Plant (go clear salvo)
-row (Stored at source salvo) = plain 122 Report (stored at source salvo)
+row (Stored at source salvo) = plain 122 Report (stored_crosspoint at source salvo)
 row (GoDone status salvo) = plain 123 Report (go_done status salvo)
 row (EntryAsk salvo index) = plain 124 Plant (entry_ask salvo index)
 row (Entry at source salvo index validity) =

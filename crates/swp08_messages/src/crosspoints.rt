@@ -65,7 +65,8 @@ pub(crate) fn read(command: u8, behind: &[u8]) -> Option<Message>
     }
 }
 
-/// The message that DATA spells where it is an interrogate or a connect, which panels send most. `None` of other DATA.
+// Short way: the message that DATA spell where it is an interrogate or a connect, which panels send most. `None` of other
+// DATA.
 #[inline(always)]
 pub(crate) fn read_asked(bytes: &[u8]) -> Option<Message>
     ensures { MatchOption result
@@ -105,6 +106,7 @@ fn are_crosspoint(behind: &[u8]) -> bool
 
 impl Message {
     /// The canonical DATA of a message that tells a crosspoint, a tally or a connected. `None` of any other.
+    // Short way: five bytes in a value, which nearly every answer is, in place of `write`.
     #[inline(always)]
     pub fn told_crosspoint(&self) -> Option<[u8; 5]>
         requires in_range { InRange self.now }

@@ -2,8 +2,8 @@
 
 use thiserror::Error;
 
-/// Why DATA is no message: the first of these faults. The commands and their lengths are those of the SW-P-08 General
-/// Remote Control Protocol; that DATA is refused, with which fault, is this project's profile.
+/// Why DATA is no message: the first of these faults. Commands 1 to 4 and their lengths are those of the SW-P-08
+/// General Remote Control Protocol; the others, and that DATA is refused with which fault, are this project's profile.
 #[derive(Clone, Copy, Debug, PartialEq, Eq, Error)]
 pub enum ReadFault {
     /// No message has this command byte.

@@ -27,8 +27,3 @@ pub use laws::{one_message, one_page, one_reading, text_bytes};
 pub use message::{Message, MessageKind};
 pub use point::{PARKED, Point};
 pub use validity::Validity;
-
-#[cfg(test)]
-mod example;
-#[cfg(test)]
-mod tests;

@@ -11,15 +11,15 @@ use crate::dump::{DUMP_ASK, one_level};
 use crate::field::Field;
 use crate::message::{Message, MessageKind};
 use crate::names::{
-    DEST_NAME_ASK, DEST_NAMES_ASK, SOURCE_NAME_ASK, SOURCE_NAMES_ASK, dest_name, dest_names,
-    source_name, source_names,
+    DEST_NAME_ASK, DEST_NAMES_ASK, SOURCE_NAME_ASK, SOURCE_NAMES_ASK, dest_name_ask,
+    dest_names_ask, source_name_ask, source_names_ask,
 };
 use crate::protects::{
     PROTECT_ASK, PROTECT_CONNECT, PROTECT_CONNECTED, PROTECT_DISCONNECT, PROTECT_DISCONNECTED,
     PROTECT_TALLY, protect, protect_told,
 };
 use crate::salvos::{
-    ENTRY, ENTRY_ASK, GO, GO_DONE, STORE, STORED, entry, entry_ask, go, go_done, stored,
+    ENTRY, ENTRY_ASK, GO, GO_DONE, STORE, STORED, entry, entry_ask, go, go_done, stored_crosspoint,
 };
 use crate::view::{View, Views};
 
@@ -93,9 +93,9 @@ impl Message {
             Message::ProtectDisconnect { at, device } => protect(at, device),
             Message::ProtectDisconnected { at, owned, device } => protect_told(at, owned, device),
             Message::DumpAsk { matrix, level } => one_level(matrix, level),
-            Message::Store { at, source, salvo } => stored(at, source, salvo),
+            Message::Store { at, source, salvo } => stored_crosspoint(at, source, salvo),
             Message::Go { clear, salvo } => go(clear, salvo),
-            Message::Stored { at, source, salvo } => stored(at, source, salvo),
+            Message::Stored { at, source, salvo } => stored_crosspoint(at, source, salvo),
             Message::GoDone { status, salvo } => go_done(status, salvo),
             Message::EntryAsk { salvo, index } => entry_ask(salvo, index),
             Message::Entry {
@@ -121,19 +121,19 @@ impl Message {
                 matrix,
                 level,
                 size,
-            } => source_names(matrix, level, size),
+            } => source_names_ask(matrix, level, size),
             Message::SourceNameAsk {
                 matrix,
                 level,
                 size,
                 number,
-            } => source_name(matrix, level, size, number),
-            Message::DestNamesAsk { matrix, size } => dest_names(matrix, size),
+            } => source_name_ask(matrix, level, size, number),
+            Message::DestNamesAsk { matrix, size } => dest_names_ask(matrix, size),
             Message::DestNameAsk {
                 matrix,
                 size,
                 number,
-            } => dest_name(matrix, size, number),
+            } => dest_name_ask(matrix, size, number),
             _ => unreachable!(),
         }
     }

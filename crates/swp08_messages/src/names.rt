@@ -2,7 +2,7 @@
 //! and how their bytes are read.
 
 ghost use Rattle.std.specs.Prelude.{◌≡◌, map};
-ghost use Rattle.swp08_messages.specs.Row.{source_names, source_name, dest_names, dest_name};
+ghost use Rattle.swp08_messages.specs.Row.{source_names_ask, source_name_ask, dest_names_ask, dest_name_ask};
 ghost use Rattle.swp08_messages.specs.ReadingInside.{names_message, wide_in};
 
 use crate::behind::{byte_at, level_in, matrix_in};
@@ -20,8 +20,8 @@ pub(crate) const DEST_NAME_ASK: u8 = 103;
 
 /// The fields of all sources of a level.
 #[inline(always)]
-pub(crate) fn source_names<V: View>(matrix: u8, level: u8, size: u8) -> Views<V>
-    ensures { result.items ≡ map V.view_of (source_names matrix level size) }
+pub(crate) fn source_names_ask<V: View>(matrix: u8, level: u8, size: u8) -> Views<V>
+    ensures { result.items ≡ map V.view_of (source_names_ask matrix level size) }
 {
     let mut fields = Views::new();
     fields.push(V::of(Field::MatrixLevel(matrix, level)));
@@ -31,8 +31,8 @@ pub(crate) fn source_names<V: View>(matrix: u8, level: u8, size: u8) -> Views<V>
 
 /// The fields of a source of a level.
 #[inline(always)]
-pub(crate) fn source_name<V: View>(matrix: u8, level: u8, size: u8, number: u16) -> Views<V>
-    ensures { result.items ≡ map V.view_of (source_name matrix level size number) }
+pub(crate) fn source_name_ask<V: View>(matrix: u8, level: u8, size: u8, number: u16) -> Views<V>
+    ensures { result.items ≡ map V.view_of (source_name_ask matrix level size number) }
 {
     let mut fields = Views::new();
     fields.push(V::of(Field::MatrixLevel(matrix, level)));
@@ -44,8 +44,8 @@ pub(crate) fn source_name<V: View>(matrix: u8, level: u8, size: u8, number: u16)
 
 /// The fields of all destinations of a matrix.
 #[inline(always)]
-pub(crate) fn dest_names<V: View>(matrix: u8, size: u8) -> Views<V>
-    ensures { result.items ≡ map V.view_of (dest_names matrix size) }
+pub(crate) fn dest_names_ask<V: View>(matrix: u8, size: u8) -> Views<V>
+    ensures { result.items ≡ map V.view_of (dest_names_ask matrix size) }
 {
     let mut fields = Views::new();
     fields.push(V::of(Field::Matrix(matrix)));
@@ -55,8 +55,8 @@ pub(crate) fn dest_names<V: View>(matrix: u8, size: u8) -> Views<V>
 
 /// The fields of a destination of a matrix.
 #[inline(always)]
-pub(crate) fn dest_name<V: View>(matrix: u8, size: u8, number: u16) -> Views<V>
-    ensures { result.items ≡ map V.view_of (dest_name matrix size number) }
+pub(crate) fn dest_name_ask<V: View>(matrix: u8, size: u8, number: u16) -> Views<V>
+    ensures { result.items ≡ map V.view_of (dest_name_ask matrix size number) }
 {
     let mut fields = Views::new();
     fields.push(V::of(Field::Matrix(matrix)));

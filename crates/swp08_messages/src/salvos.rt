@@ -2,7 +2,7 @@
 //! their bytes are read.
 
 ghost use Rattle.std.specs.Prelude.{◌≡◌, map};
-ghost use Rattle.swp08_messages.specs.Row.{stored, go, go_done, entry_ask, entry};
+ghost use Rattle.swp08_messages.specs.Row.{stored_crosspoint, go, go_done, entry_ask, entry};
 ghost use Rattle.swp08_messages.specs.ReadingInside.{salvo_message};
 
 use crate::behind::{byte_at, point_at, source_in};
@@ -28,8 +28,8 @@ pub(crate) const ENTRY: u8 = 125;
 
 /// The fields of a crosspoint and the salvo that it is stored in.
 #[inline(always)]
-pub(crate) fn stored<V: View>(at: Point, source: Option<u16>, salvo: u8) -> Views<V>
-    ensures { result.items ≡ map V.view_of (stored at source salvo) }
+pub(crate) fn stored_crosspoint<V: View>(at: Point, source: Option<u16>, salvo: u8) -> Views<V>
+    ensures { result.items ≡ map V.view_of (stored_crosspoint at source salvo) }
 {
     let mut fields = crosspoint(at, source);
     fields.push(V::of(Field::Salvo(salvo)));
@@ -80,7 +80,7 @@ pub(crate) fn entry<V: View>(
 ) -> Views<V>
     ensures { result.items ≡ map V.view_of (entry at source salvo index validity) }
 {
-    let mut fields = stored(at, source, salvo);
+    let mut fields = stored_crosspoint(at, source, salvo);
     fields.push(V::of(Field::Index(index)));
     fields.push(V::of(Field::EntryValidity(validity)));
     fields

@@ -7,13 +7,13 @@ ghost use Rattle.plant_config.specs.IsPlant.{IsPlant};
 ghost use Rattle.mixer_effects.specs.Buses.{bus_at};
 ghost use Rattle.mixer_effects.specs.Live.{origin_at, carries};
 ghost use Rattle.mixer_effects.specs.Wiring.{IsWiringOf};
-ghost use Rattle.number_set.specs.Numbers.{number_limit};
+ghost use Rattle.number_tables.specs.Numbers.{number_limit};
 ghost use Rattle.tally.specs.Tally.{AreSeen, CarrySources};
 ghost use Rattle.tally.specs.TallyInside.{origins_at, seen_origins};
 ghost use Rattle.tally.specs.TallyInside.{Adds, any_brings, bus_carries, feeds};
 
 use mixer_effects::Graph;
-use number_set::NumberSet;
+use number_tables::NumberSet;
 use plant_config::{Bus, DestId, Plant, SourceId};
 
 // The most devices of a plant.

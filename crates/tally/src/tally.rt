@@ -13,7 +13,7 @@ ghost use Rattle.tally.specs.TallyInside.{feeds, seen_at, is_fed_bus};
 use crate::roots::Roots;
 use crate::rounds::find_seen;
 use mixer_effects::{Graph, live_is_least};
-use number_set::NumberSet;
+use number_tables::NumberSet;
 use plant_config::{DestId, DeviceId, Plant, SourceId};
 use std::alloc::{AllocError, Global};
 use std::marker::Model;

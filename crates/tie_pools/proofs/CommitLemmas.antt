@@ -6,8 +6,8 @@ use Rattle.std.specs.Option.{option_map, option_map_or, option_and_then, option_
 use Rattle.std.specs.List.{list_any, count_by}
 use Rattle.std.specs.Set.{distinct_count}
 use Rattle.std.specs.FinMap as finite
-use Rattle.number_map.specs.Table.{put}
-use Rattle.number_map.proofs.PutLemmas.{get-put_same, get-put_other, put-get}
+use Rattle.number_tables.specs.Table.{put}
+use Rattle.number_tables.proofs.PutLemmas.{get-put_same, get-put_other, put-get}
 use Rattle.plant_config.specs.declared.records.Pool.{Pool}
 use Rattle.plant_config.specs.Plant.{PlantData, destinations_of}
 use Rattle.plant_config.specs.Sources.{origin_of, pool_of}

@@ -3,7 +3,7 @@ use Rattle.std.proofs.Common.{◌≡◌, ◌≢◌, ℕ, ◌+◌, ◌<◌, nat_e
 use Rattle.std.proofs.lemmas.Bool.{false≢true}
 use Rattle.std.specs.Option.{option_eq}
 use Rattle.std.specs.FinMap as finite
-use Rattle.number_map.proofs.PutLemmas.{get-put_other}
+use Rattle.number_tables.proofs.PutLemmas.{get-put_other}
 use Rattle.plant_config.specs.declared.records.Change.{Change}
 use Rattle.plant_config.specs.Plant.{PlantData}
 use Rattle.plant_config.specs.IsPlant.{IsPlant}

@@ -5,7 +5,7 @@ use Rattle.std.specs.Option.{option_and_then, option_map_or, option_eq}
 use Rattle.std.specs.List.{range_with_len, cons_option, list_any, count_by}
 use Rattle.std.specs.Set.{distinct_count}
 use Rattle.std.specs.FinMap as finite
-use Rattle.number_map.specs.Table.{Entries}
+use Rattle.number_tables.specs.Table.{Entries}
 use Rattle.plant_config.specs.Plant.{PlantData, destinations_of}
 use Rattle.crosspoint_state.specs.Ties.{Feed, feed_of, occupied}
 use Rattle.tie_pools.specs.Counts.{Counts, tie_place, AreWays, AreCountsFor, AreCountsOf}

@@ -9,7 +9,7 @@ use Rattle.std.specs.Option.{option_map, option_map_or, option_and_then, option_
 use Rattle.std.specs.List.{range_with_len, cons_option, fold}
 use Rattle.std.specs.Set.{distinct_count}
 use Rattle.std.specs.FinMap as finite
-use Rattle.number_map.specs.Table.{put}
+use Rattle.number_tables.specs.Table.{put}
 use Rattle.plant_config.specs.Plant.{PlantData, destinations_of}
 use Rattle.plant_config.specs.Sources.{origin_of, pool_of}
 use Rattle.crosspoint_state.specs.declared.spot.Spot.{Spot}

@@ -7,8 +7,8 @@ use Rattle.std.specs.List.{range_with_len, list_any, cons_option, count_by}
 use Rattle.std.specs.Set.{distinct_count, unique_keys}
 use Rattle.std.specs.Option.{option_and_then}
 use Rattle.std.specs.FinMap as finite
-use Rattle.number_map.specs.Table.{put}
-use Rattle.number_map.proofs.PutLemmas.{get-put_same, get-put_other}
+use Rattle.number_tables.specs.Table.{put}
+use Rattle.number_tables.proofs.PutLemmas.{get-put_same, get-put_other}
 use Rattle.plant_config.specs.Plant.{PlantData, destinations_of}
 use Rattle.crosspoint_state.specs.declared.spot.Spot.{Spot}
 use Rattle.crosspoint_state.specs.Crosspoints.{Crosspoints}

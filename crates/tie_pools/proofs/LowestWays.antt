@@ -8,8 +8,8 @@ use Rattle.std.specs.Ordering.{nat_cmp}
 use Rattle.std.specs.BTreeMap.{BTreeMap, get, is_at, IsEmpty}
 use Rattle.std.specs.Map.{lookup}
 use Rattle.std.specs.FinMap as finite
-use Rattle.number_map.specs.Table.{Entries, put}
-use Rattle.number_map.proofs.PutLemmas.{get-put_same, get-put_other}
+use Rattle.number_tables.specs.Table.{Entries, put}
+use Rattle.number_tables.proofs.PutLemmas.{get-put_same, get-put_other}
 use Rattle.plant_config.specs.declared.records.Source.{Source}
 use Rattle.plant_config.specs.Plant.{PlantData}
 use Rattle.plant_config.specs.Sources.{origin_of, pool_of}

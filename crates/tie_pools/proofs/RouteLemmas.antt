@@ -2,8 +2,8 @@
 use Rattle.std.proofs.Common.{◌≡◌, ℕ, ◌<◌, Option, Some, None, refl, sym, ap, subst, ◌∙◌, arith}
 use Rattle.std.specs.Option.{option_map, option_and_then}
 use Rattle.std.specs.FinMap as finite
-use Rattle.number_map.specs.Table.{put}
-use Rattle.number_map.proofs.PutLemmas.{put-get}
+use Rattle.number_tables.specs.Table.{put}
+use Rattle.number_tables.proofs.PutLemmas.{put-get}
 use Rattle.plant_config.specs.Plant.{PlantData, destinations_of, sources_of}
 use Rattle.plant_config.specs.Sources.{pool_of}
 use Rattle.plant_config.specs.IsPlant.{IsPlant}

@@ -4,8 +4,8 @@ use Rattle.std.proofs.lemmas.Bool.{eqb-false}
 use Rattle.std.proofs.lemmas.Option.{slice_get_past}
 use Rattle.std.specs.Option.{option_map, option_and_then, option_eq, MatchOption, IsSomeAnd}
 use Rattle.std.specs.FinMap as finite
-use Rattle.number_map.specs.Table.{put}
-use Rattle.number_map.proofs.PutLemmas.{same_entries, get-put_same, get-put_other}
+use Rattle.number_tables.specs.Table.{put}
+use Rattle.number_tables.proofs.PutLemmas.{same_entries, get-put_same, get-put_other}
 use Rattle.plant_config.specs.declared.records.Change.{Change}
 use Rattle.plant_config.specs.Plant.{PlantData, destinations_of}
 use Rattle.plant_config.specs.Sources.{origin_of, pool_of}

@@ -1,7 +1,7 @@
 -- How a list of changes is made: it is gone through twice, to release destinations and then to give them their sources.
 use Rattle.std.specs.Prelude.{◌≡◌, ℕ, ◌<◌, nat_lt, false, if◌then◌else◌, List, [], ◌∷◌, Contains, None}
 use Rattle.std.specs.FinMap.{get, remove}
-use Rattle.number_map.specs.Table.{Entries}
+use Rattle.number_tables.specs.Table.{Entries}
 use Rattle.plant_config.specs.declared.records.Change.{Change}
 use Rattle.plant_config.specs.Plant.{PlantData}
 use Rattle.crosspoint_state.specs.Crosspoints.{Crosspoints, is_idle}

@@ -5,7 +5,7 @@ use Rattle.std.specs.Option.{option_map_or}
 use Rattle.std.specs.Ordering.{nat_cmp}
 use Rattle.std.specs.Coded.{Coded, code_by, coded×, coded_ℕ}
 use Rattle.std.specs.FinMap.{get, code}
-use Rattle.number_map.specs.Table.{Entries, Table, code as table_code}
+use Rattle.number_tables.specs.Table.{Entries, Table, code as table_code}
 use Rattle.plant_config.specs.Plant.{PlantData, sources_of}
 use Rattle.crosspoint_state.specs.Crosspoints.{Crosspoints}
 use Rattle.crosspoint_state.specs.Ties.{Feed, occupied, wanted, tie_beside, is_free}

@@ -2,7 +2,7 @@
 use Rattle.std.specs.Prelude.{ℕ, ◌+◌, ◌-◌, nat_eq, if◌then◌else◌, refl}
 use Rattle.std.specs.Coded.{Coded, code_by, coded×}
 use Rattle.std.specs.FinMap.{insert}
-use Rattle.number_map.specs.Table.{Entries, Table}
+use Rattle.number_tables.specs.Table.{Entries, Table}
 use Rattle.tie_pools.specs.Counts.{count_at, numbers_code}
 
 -- how many destinations each way feeds, and how many ways of each pool feed some

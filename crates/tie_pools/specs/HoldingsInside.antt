@@ -4,7 +4,7 @@ use Rattle.std.specs.List.{range_with_len}
 use Rattle.std.specs.Option.{option_or}
 use Rattle.std.specs.FinMap.{get}
 use Rattle.std.specs.Coded.{Coded, code_by, coded×}
-use Rattle.number_map.specs.Table.{Table, put}
+use Rattle.number_tables.specs.Table.{Table, put}
 use Rattle.tie_pools.specs.Counts.{tie_place, numbers_code}
 use Rattle.tie_pools.specs.CountsInside.{with_entries}
 

@@ -5,7 +5,7 @@ use Rattle.std.specs.Option.{option_or}
 use Rattle.std.specs.Ordering.{nat_cmp}
 use Rattle.std.specs.BTreeMap.{BTreeMap, get}
 use Rattle.std.specs.FinMap as finite
-use Rattle.number_map.specs.Table.{Entries}
+use Rattle.number_tables.specs.Table.{Entries}
 use Rattle.plant_config.specs.Limits.{all_sources_limit}
 use Rattle.plant_config.specs.Plant.{PlantData}
 use Rattle.tie_pools.specs.Ways.{comes_by, source_way}

@@ -7,7 +7,7 @@ ghost use Rattle.tie_pools.specs.CountsInside.{more_at, fewer_at, fed_more, fed_
 ghost use Rattle.tie_pools.specs.DemandInside.{IsDemandFor, over};
 
 use crate::planned::Exhausted;
-use number_map::NumberMap;
+use number_tables::NumberMap;
 use plant_config::{MAX_DESTINATIONS, Plant, PoolId, SourceId};
 use std::alloc::{AllocError, Global};
 use std::marker::Model;

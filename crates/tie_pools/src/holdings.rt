@@ -7,7 +7,7 @@ ghost use Rattle.tie_pools.specs.Counts.{tie_place, tie_limit};
 ghost use Rattle.tie_pools.specs.HoldingsInside.{holding, freed};
 ghost use Rattle.tie_pools.specs.HoldingsInside.{lowest_unheld, tie_for};
 
-use number_map::NumberMap;
+use number_tables::NumberMap;
 use plant_config::{Plant, PoolId, SourceId, TieNo};
 use std::alloc::{AllocError, Global};
 use std::marker::Model;

@@ -10,7 +10,7 @@ ghost use Rattle.tie_pools.specs.Ways.{source_way};
 ghost use Rattle.tie_pools.specs.WaysInside.{way_number, AreLowest, ComesTo};
 ghost use Rattle.tie_pools.specs.Counts.{AreWays};
 
-use number_map::NumberMap;
+use number_tables::NumberMap;
 use plant_config::{MAX_SOURCES, Plant, PoolId, SourceId};
 use std::alloc::{AllocError, Global};
 use std::collections::BTreeMap;
@@ -27,7 +27,7 @@ impl Model for Ways {
     ghost use Rattle.std.specs.Ordering.{nat_cmp};
     ghost use Rattle.std.specs.Coded.{coded_ℕ};
     ghost use Rattle.std.specs.FinMap.{code};
-    ghost use Rattle.number_map.specs.Table.{Entries};
+    ghost use Rattle.number_tables.specs.Table.{Entries};
 
     ghost Value = { Entries ℕ };
 

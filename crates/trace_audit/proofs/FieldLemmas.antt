@@ -1,37 +1,19 @@
 -- A text that begins with a field.
 use Rattle.std.proofs.Common.{◌≡◌, ◌≢◌, ℕ, List, [], ◌∷◌, ◌++◌, get_or, refl, sym, ◌∙◌, subst, arith}
-use Rattle.std.proofs.lemmas.List.Elements.{All-head, All-tail}
 use Rattle.std.specs.Fmt.{decimal}
 use Rattle.hex.specs.Hex.{encode_upper}
 use Rattle.swp08_messages.specs.declared.message.Message.{Message}
 use Rattle.swp08_messages.specs.Text.{text}
 use Rattle.plant_core.specs.State.{IsForPlant}
-use Rattle.trace_audit.specs.LineInside.{space, HasNo, IsCut, IsUpperDigit, IsNumber, IsMessageText, BeginsWithNumber, BeginsWithMessage}
+use Rattle.line_text.specs.Cut.{space, HasNo, IsCut}
+use Rattle.line_text.proofs.CutLemmas.{one_cut, has_byte}
+use Rattle.trace_audit.specs.LineInside.{IsUpperDigit, IsNumber, IsMessageText, BeginsWithNumber, BeginsWithMessage}
 use Rattle.trace_audit.proofs.DecimalLemmas.{AreDigits, digits_of_number}
 use Rattle.trace_audit.proofs.UpperHex.{hex_digits}
 use Rattle.trace_audit.proofs.MessageHex.{message_hex}
 
--- another byte than this one
-abbrev OtherThan : ℕ → ℕ → Type 0
-OtherThan byte other = other ≢ byte
-
 no_space-digits : (digits : List ℕ) → AreDigits digits → HasNo space digits
 no_space-digits digits each = λ k d below is. let digit = each k d below in omega (arith, digit.0, digit.1, is)
-
--- a text is cut in one way at the first of a byte
-pub one_cut : (byte : ℕ) (front others behind rest : List ℕ) → HasNo byte front → HasNo byte others → front ++ byte ∷ behind ≡ others ++ byte ∷ rest → (front ≡ others) × (behind ≡ rest)
-one_cut byte [] [] behind rest none none_others same = (refl, cc)
-one_cut byte [] (other ∷ others) behind rest none none_others same = let is : other ≡ byte = cc in absurd (All-head (OtherThan byte) other others none_others is)
-one_cut byte (first ∷ front) [] behind rest none none_others same = let is : first ≡ byte = cc in absurd (All-head (OtherThan byte) first front none is)
-one_cut byte (first ∷ front) (other ∷ others) behind rest none none_others same =
-    let more : front ++ byte ∷ behind ≡ others ++ byte ∷ rest = cc in
-    let parts = one_cut byte front others behind rest (All-tail (OtherThan byte) first front none) (All-tail (OtherThan byte) other others none_others) more in
-    (cc, parts.1)
-
--- a text that is cut has the byte
-has_byte : (byte : ℕ) (front behind : List ℕ) → HasNo byte (front ++ byte ∷ behind) → ⊥
-has_byte byte [] behind none = All-head (OtherThan byte) byte behind none refl
-has_byte byte (first ∷ front) behind none = has_byte byte front behind (All-tail (OtherThan byte) first (front ++ byte ∷ behind) none)
 
 -- What stands before the first space is the number that the text begins with.
 pub number_cut : (line front rest : List ℕ) → IsCut space line front rest → (number : ℕ) (behind : List ℕ) → BeginsWithNumber line number behind → IsNumber front number × (rest ≡ behind)

@@ -20,8 +20,8 @@ use Rattle.trace_audit.specs.declared.verdict.Verdict.{Verdict}
 use Rattle.trace_audit.specs.declared.verdict.Verdict.TheVariants.{Confirmed, BadLine, Gap, Repeat, Differs}
 use Rattle.trace_audit.specs.Trace.{TracedEntry, HasTraceNumbers, LineTells}
 use Rattle.trace_audit.specs.Verdict.{position_count, entries_below, entries_at, state_at, wanted_reply, fault_of, IsFirstFinding, IsOfEntries, IsVerdict}
-use Rattle.trace_audit.specs.Laws.{lines_from, IsHistory}
-use Rattle.trace_audit.specs.FindingLaws.{Stands, IsToldBelow, IsGap, IsRepeat, IsDifference, GapsAreSo, RepeatsAreSo, DifferencesAreSo}
+use Rattle.trace_audit.specs.Laws.{lines_from, IsTraceable}
+use Rattle.trace_audit.specs.FindingLaws.{TellsAt, IsToldBelow, IsGap, IsRepeat, IsDifference, GapsAreSo, RepeatsAreSo, DifferencesAreSo}
 use Rattle.trace_audit.proofs.PlaceLemmas.{above, all-parts, at-place, above-place, below-place, count-most}
 use Rattle.trace_audit.proofs.FollowLemmas.{place, line_of, behind, right-follow}
 use Rattle.trace_audit.proofs.HistoryLemmas.{IsTold, told-lines, made_of, lines-made, length-made, numbers-made, legal-made}
@@ -93,7 +93,7 @@ module _ (keeps : StepsKeepThePlant) where
       let within : position_count entries ≤ trace_limit + 1 =
       count-most place (trace_limit + 1) entries (All-weaker (IsTold plant) (λ (entry : TracedEntry). entry.position < trace_limit + 1) (λ entry told. omega (arith, told.position)) entries told.1) in
       let long : length history ≡ position = length-made (start plant) ordered ∙ follow.1 in
-      let is_history : IsHistory plant history = record {
+      let is_history : IsTraceable plant history = record {
         legal = legal-made keeps plant (start plant) ordered refl (All-weaker (IsTold plant) (λ (entry : TracedEntry). FitsPlant plant entry.request) (λ entry told. told.fits) ordered front);
         few = omega (arith, long, within, first.within);
         numbers = numbers-made (start plant) ordered (All-weaker (IsTold plant) (λ (entry : TracedEntry). HasTraceNumbers entry.request) (λ entry told. told.numbers) ordered front);
@@ -173,10 +173,10 @@ differs-other plant state position other kept wanted (entry ∷ []) found =
 
 -- So the lines of entries stand.
 lines-stand : (plant : PlantData) (IsSo : ℕ → Type 0) (entries : List TracedEntry) → All (IsTold plant) entries → All (λ (entry : TracedEntry). IsSo entry.position) entries
-    → All (Stands plant IsSo) (map line_of entries)
+    → All (TellsAt plant IsSo) (map line_of entries)
 lines-stand plant IsSo entries told so =
-    let StandsSo : TracedEntry → Type 0 = λ entry. Stands plant IsSo (line_of entry) in
-    All-map (Stands plant IsSo) line_of entries (λ k d within. (get_or entries k d, told k d within, so k d within))
+    let StandsSo : TracedEntry → Type 0 = λ entry. TellsAt plant IsSo (line_of entry) in
+    All-map (TellsAt plant IsSo) line_of entries (λ k d within. (get_or entries k d, told k d within, so k d within))
 
 gap-so : (plant : PlantData) (lines : List (List ℕ)) (position other : ℕ) → IsFoundAt plant lines position (Gap other) → IsGap plant lines position
 gap-so plant lines position other at =

@@ -20,7 +20,7 @@ use Rattle.trace_audit.specs.declared.verdict.Verdict.TheVariants.{Gap, Repeat, 
 use Rattle.trace_audit.specs.Trace.{TracedEntry, LineTells, LinesTell}
 use Rattle.trace_audit.specs.Verdict.{position_count, entries_below, entries_at, state_at, wanted_reply, fault_of, AreRightBelow, IsVerdict}
 use Rattle.trace_audit.specs.Laws.{lines_from}
-use Rattle.trace_audit.specs.FindingLaws.{Stands, IsToldBelow, GapsAreFound, RepeatsAreFound, DifferencesAreFound}
+use Rattle.trace_audit.specs.FindingLaws.{TellsAt, IsToldBelow, GapsAreFound, RepeatsAreFound, DifferencesAreFound}
 use Rattle.trace_audit.proofs.MovedLemmas.{map-moved}
 use Rattle.trace_audit.proofs.PlaceLemmas.{at-none, at-append, at-here, at-moved, length-at, below-are, below-from, count-above}
 use Rattle.trace_audit.proofs.FollowLemmas.{place, line_of, behind, StandAlone, follow-from, alone-right}
@@ -42,11 +42,11 @@ record AreOf (plant : PlantData) (IsSo : ℕ → Type 0) (lines : List (List ℕ
 told-itself : (plant : PlantData) (line : List ℕ) (entry : TracedEntry) → LineTells plant line entry → IsTold plant entry
 told-itself plant line entry tells = subst (λ (text : List ℕ). LineTells plant text entry) tells.text tells
 
-stand-of : (plant : PlantData) (IsSo : ℕ → Type 0) (lines : List (List ℕ)) → All (Stands plant IsSo) lines → AreOf plant IsSo lines
+stand-of : (plant : PlantData) (IsSo : ℕ → Type 0) (lines : List (List ℕ)) → All (TellsAt plant IsSo) lines → AreOf plant IsSo lines
 stand-of plant IsSo [] all = record { entries = []; are = refl; told = All-nil (IsTold plant); so = All-nil (λ (entry : TracedEntry). IsSo entry.position) }
 stand-of plant IsSo (line ∷ lines) all =
-    let first = All-head (Stands plant IsSo) line lines all in
-    let more = stand-of plant IsSo lines (All-tail (Stands plant IsSo) line lines all) in
+    let first = All-head (TellsAt plant IsSo) line lines all in
+    let more = stand-of plant IsSo lines (All-tail (TellsAt plant IsSo) line lines all) in
     let is : line ≡ line_of first.0 = first.1.text in
     let rest : lines ≡ map line_of more.entries = more.are in
     record {

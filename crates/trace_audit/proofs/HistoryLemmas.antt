@@ -13,9 +13,10 @@ use Rattle.plant_core.specs.declared.request.Request.{Request}
 use Rattle.panel_session.specs.Entry.{PlantEntry}
 use Rattle.panel_session.specs.TraceLine.{trace_limit, entry_text, reply_text}
 use Rattle.trace_audit.specs.declared.verdict.Verdict.TheVariants.{Confirmed, BadLine, Differs}
-use Rattle.trace_audit.specs.Trace.{TracedEntry, longest_line, IsReplyText, HasTraceNumbers, LineTells, LinesTell}
+use Rattle.line_text.specs.Cut.{longest_line}
+use Rattle.trace_audit.specs.Trace.{TracedEntry, IsReplyText, HasTraceNumbers, LineTells, LinesTell}
 use Rattle.trace_audit.specs.Verdict.{position_count, entries_below, entries_at, state_at, wanted_reply, fault_of, IsFirstFinding, AreConfirmed, IsOfEntries}
-use Rattle.trace_audit.specs.Laws.{lines_from, IsHistory, AreLinesOf, HistoriesAreConfirmed, ConfirmedAreHistories}
+use Rattle.trace_audit.specs.Laws.{lines_from, IsTraceable, AreLinesOf, HistoriesAreConfirmed, ConfirmedAreHistories}
 use Rattle.trace_audit.proofs.MovedLemmas.{map-moved}
 use Rattle.trace_audit.proofs.PlaceLemmas.{below-all, below-from, count-above, count-most}
 use Rattle.trace_audit.proofs.FollowLemmas.{place, line_of, behind, Follow, follow-from, follow-right, right-follow}
@@ -120,7 +121,7 @@ module _ (keeps : StepsKeepThePlant) where
   confirmed-histories plant lines count (inr of) = confirmed of of.verdict_is
     where
       confirmed : (of : IsOfEntries plant lines (Confirmed count)) → IsFirstFinding plant of.entries (Confirmed count) ⊎ AreConfirmed plant of.entries (Confirmed count)
-          → (history : List PlantEntry) × IsHistory plant history × AreLinesOf plant history lines × (length history ≡ count)
+          → (history : List PlantEntry) × IsTraceable plant history × AreLinesOf plant history lines × (length history ≡ count)
       confirmed of (inl first) = absurd (found-other plant (state_at plant of.entries first.position) first.position count (entries_at first.position of.entries) first.found)
       confirmed of (inr all) =
           let most : ℕ = position_count of.entries in
@@ -135,7 +136,7 @@ module _ (keeps : StepsKeepThePlant) where
           count-most place (trace_limit + 1) of.entries (All-weaker (IsTold plant) (λ (entry : TracedEntry). entry.position < trace_limit + 1) (λ entry told. omega (arith, told.position)) of.entries told.1) in
           let counted : count ≡ length of.entries = (let same : Confirmed count ≡ Confirmed (length of.entries) = all.counted in cc) in
           let lines_are : lines_from plant 0 history ≡ map line_of ordered = lines-made plant 0 (start plant) ordered follow.0 in
-          let is_history : IsHistory plant history = record {
+          let is_history : IsTraceable plant history = record {
             legal = legal-made keeps plant (start plant) ordered refl (All-weaker (IsTold plant) (λ (entry : TracedEntry). FitsPlant plant entry.request) (λ entry told. told.fits) ordered each);
             few = omega (arith, long, within);
             numbers = numbers-made (start plant) ordered (All-weaker (IsTold plant) (λ (entry : TracedEntry). HasTraceNumbers entry.request) (λ entry told. told.numbers) ordered each);

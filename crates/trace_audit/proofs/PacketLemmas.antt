@@ -11,7 +11,7 @@ use Rattle.tsl_umd5.specs.Packet.{Display, Message, word, message_text, message_
 use Rattle.tsl_umd5.proofs.AllAtLemmas.{messages_text-nil, messages_text-cons, length-messages_text}
 use Rattle.plant_core.specs.declared.answer.Answer.{Answer}
 use Rattle.plant_core.specs.declared.answer.Answer.TheVariants.{Say, Dumped, Lamp, Finished}
-use Rattle.panel_session.specs.DisplayPacket.{text_of, lamp_shown, shown_by, packet_of}
+use Rattle.panel_session.specs.DisplayPacket.{umd_text, lamp_shown, shown_by, packet_of}
 use Rattle.trace_audit.proofs.FrameLemmas.{IsByte}
 
 word-bytes : (number : ℕ) → All IsByte (word number)
@@ -68,7 +68,7 @@ name-short plant number None is = (All-nil IsByte, omega arith)
 name-short plant number (Some source) is =
     (All-weaker (λ byte. (32 ≤ byte) × (byte ≤ 126)) IsByte (λ byte within. omega (arith, within.1)) source.name is.name.1, omega (arith, is.name.0.1))
 
-text-short : (plant : PlantData) (source : Option ℕ) → IsPlant plant → All IsByte (text_of plant source) × (length (text_of plant source) ≤ 12)
+text-short : (plant : PlantData) (source : Option ℕ) → IsPlant plant → All IsByte (umd_text plant source) × (length (umd_text plant source) ≤ 12)
 text-short plant None is = (All-nil IsByte, omega arith)
 text-short plant (Some source) is = name-short plant source (slice_get plant.sources source) (is.named.each_source source)
 

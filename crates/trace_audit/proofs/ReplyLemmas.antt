@@ -22,7 +22,8 @@ use Rattle.plant_core.proofs.CountLemmas.{answer_count, answers_within, room_wit
 use Rattle.panel_session.specs.Text.{frames_of}
 use Rattle.panel_session.specs.DisplayPacket.{packet_of}
 use Rattle.panel_session.specs.TraceLine.{trace_limit, request_text, told_bytes, display_reply, entry_text}
-use Rattle.trace_audit.specs.Trace.{longest_line, HasTraceNumbers, IsReplyText}
+use Rattle.line_text.specs.Cut.{longest_line}
+use Rattle.trace_audit.specs.Trace.{HasTraceNumbers, IsReplyText}
 use Rattle.trace_audit.specs.Verdict.{wanted_reply}
 use Rattle.trace_audit.proofs.ScreenLemmas.{screen_small, panel_small}
 use Rattle.trace_audit.proofs.FrameLemmas.{IsByte, sent, frames-sent}

@@ -8,7 +8,8 @@ use Rattle.swp08_messages.specs.Text.{text}
 use Rattle.plant_config.specs.Plant.{PlantData}
 use Rattle.plant_core.specs.declared.request.Request.TheVariants.{Told, Poll, Leave, DisplayPoll}
 use Rattle.panel_session.specs.TraceLine.{trace_limit, request_text}
-use Rattle.trace_audit.specs.LineInside.{space, BeginsWithNumber, BeginsWithMessage, BeginsWithPanel, BeginsWithScreen, BeginsWithRequest}
+use Rattle.line_text.specs.Cut.{space}
+use Rattle.trace_audit.specs.LineInside.{BeginsWithNumber, BeginsWithMessage, BeginsWithPanel, BeginsWithScreen, BeginsWithRequest}
 
 -- three fields
 three : (a b c d : List ℕ) → ((((a ++ space ∷ []) ++ b) ++ space ∷ []) ++ c) ++ space ∷ d ≡ a ++ space ∷ (b ++ space ∷ (c ++ space ∷ d))

@@ -12,16 +12,16 @@ use Rattle.panel_session.specs.TraceLine.{reply_text}
 use Rattle.trace_audit.specs.declared.verdict.Verdict.TheVariants.{Gap, Repeat, Differs}
 use Rattle.trace_audit.specs.Trace.{TracedEntry, LineTells}
 use Rattle.trace_audit.specs.Verdict.{IsVerdict}
-use Rattle.trace_audit.specs.Laws.{lines_from, IsHistory}
+use Rattle.trace_audit.specs.Laws.{lines_from, IsTraceable}
 
 -- A line tells an entry whose position is so.
-abbrev pub Stands : PlantData → (ℕ → Type 0) → List ℕ → Type 0
-Stands plant IsSo line = (entry : TracedEntry) × LineTells plant line entry × IsSo entry.position
+abbrev pub TellsAt : PlantData → (ℕ → Type 0) → List ℕ → Type 0
+TellsAt plant IsSo line = (entry : TracedEntry) × LineTells plant line entry × IsSo entry.position
 
 -- A history has an entry for each position below this one, and its lines stand in a trace beside these others.
 pub record IsToldBelow (plant : PlantData) (lines : List (List ℕ)) (position : ℕ)
     (history : List PlantEntry) (others : List (List ℕ)) : Type 0 where
-  pub is_history : IsHistory plant history
+  pub is_history : IsTraceable plant history
   pub long : length history ≡ position
   pub place : IsPermutation (lines_from plant 0 history ++ others) lines
 
@@ -31,7 +31,7 @@ pub record IsGap (plant : PlantData) (lines : List (List ℕ)) (position : ℕ) 
   pub others : List (List ℕ)
   pub below : IsToldBelow plant lines position history others
   pub some : 1 ≤ length others
-  pub behind : All (Stands plant (λ other. position < other)) others
+  pub behind : All (TellsAt plant (λ other. position < other)) others
 
 -- A repeat: beside the lines of a history up to a position two lines stand at it, and no line stands before it.
 pub record IsRepeat (plant : PlantData) (lines : List (List ℕ)) (position : ℕ) : Type 0 where
@@ -40,9 +40,9 @@ pub record IsRepeat (plant : PlantData) (lines : List (List ℕ)) (position : �
   pub another : List ℕ
   pub others : List (List ℕ)
   pub below : IsToldBelow plant lines position history (one ∷ another ∷ others)
-  pub first : Stands plant (λ other. other ≡ position) one
-  pub second : Stands plant (λ other. other ≡ position) another
-  pub behind : All (Stands plant (λ other. position ≤ other)) others
+  pub first : TellsAt plant (λ other. other ≡ position) one
+  pub second : TellsAt plant (λ other. other ≡ position) another
+  pub behind : All (TellsAt plant (λ other. position ≤ other)) others
 
 -- A difference: beside the lines of a history up to a position one line stands at it, which keeps another reply than the plant's
 -- behind that history.
@@ -58,7 +58,7 @@ pub record IsDifference (plant : PlantData) (lines : List (List ℕ)) (position 
   pub wanted_is : wanted
       ≡ reply_text plant request (step (run step (start plant) history) request).answers
   pub differ : kept ≢ wanted
-  pub behind : All (Stands plant (λ other. position < other)) others
+  pub behind : All (TellsAt plant (λ other. position < other)) others
 
 -- what is found is so
 abbrev pub GapsAreSo : Type 0

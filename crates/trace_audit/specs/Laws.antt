@@ -22,7 +22,7 @@ lines_from plant position (entry ∷ later) =
 
 -- A history of the plant from its start that can be traced: it is legal, its positions, from 0 on, are at most 2^62, and so
 -- are the numbers of its items and turns.
-pub record IsHistory (plant : PlantData) (history : List PlantEntry) : Type 0 where
+pub record IsTraceable (plant : PlantData) (history : List PlantEntry) : Type 0 where
   pub legal : IsLegal step Fits (start plant) history
   pub few : length history ≤ trace_limit + 1
   pub numbers : All (λ entry. HasTraceNumbers entry.request) history
@@ -39,7 +39,7 @@ abbrev pub TellsNone : PlantData → List ℕ → Type 0
 TellsNone plant line = (entry : TracedEntry) → LineTells plant line entry → ⊥
 
 -- The line of this number, counted from 1, tells no entry, and each line before it tells one.
-pub record IsFirstBad (plant : PlantData) (lines : List (List ℕ)) (number : ℕ) : Type 0 where
+pub record IsFirstBadLine (plant : PlantData) (lines : List (List ℕ)) (number : ℕ) : Type 0 where
   pub before : ℕ
   pub counted : number ≡ before + 1
   pub line : List ℕ
@@ -55,7 +55,7 @@ HasNoBadLine verdict = (number : ℕ) → verdict ≢ BadLine number
 abbrev pub HistoriesAreConfirmed : Type 0
 HistoriesAreConfirmed =
     (plant : PlantData) (history : List PlantEntry) (lines : List (List ℕ))
-    → IsPlant plant → IsHistory plant history → AreLinesOf plant history lines
+    → IsPlant plant → IsTraceable plant history → AreLinesOf plant history lines
     → IsVerdict plant lines (Confirmed (length history))
 
 -- what is confirmed is a history
@@ -63,7 +63,7 @@ abbrev pub ConfirmedAreHistories : Type 0
 ConfirmedAreHistories =
     (plant : PlantData) (lines : List (List ℕ)) (count : ℕ)
     → IsVerdict plant lines (Confirmed count)
-    → (history : List PlantEntry) × IsHistory plant history × AreLinesOf plant history lines
+    → (history : List PlantEntry) × IsTraceable plant history × AreLinesOf plant history lines
     × (length history ≡ count)
 
 -- a trace has one verdict
@@ -76,13 +76,13 @@ TracesHaveOneVerdict =
 abbrev pub BadLinesTellNone : Type 0
 BadLinesTellNone =
     (plant : PlantData) (lines : List (List ℕ)) (number : ℕ)
-    → IsVerdict plant lines (BadLine number) → IsFirstBad plant lines number
+    → IsVerdict plant lines (BadLine number) → IsFirstBadLine plant lines number
 
 -- and where a line is the first that tells none, the verdict names it
 abbrev pub FirstBadLinesAreNamed : Type 0
 FirstBadLinesAreNamed =
     (plant : PlantData) (lines : List (List ℕ)) (number : ℕ)
-    → IsFirstBad plant lines number → IsVerdict plant lines (BadLine number)
+    → IsFirstBadLine plant lines number → IsVerdict plant lines (BadLine number)
 
 -- no line that tells no entry is passed over
 abbrev pub NoBadLineIsPassed : Type 0

@@ -1,9 +1,10 @@
 -- What the code finds in a line, field by field.
-use Rattle.std.specs.Prelude.{◌≡◌, ◌≢◌, ◌⊎◌, ℕ, ◌+◌, ◌-◌, ◌*◌, ◌<◌, ◌≤◌, ◌==◌, nat_lt, if◌then◌else◌, Bool, true, List, ◌∷◌, ◌++◌, All, length, slice_index_or}
+use Rattle.std.specs.Prelude.{◌≡◌, ◌⊎◌, ℕ, ◌+◌, ◌-◌, ◌*◌, ◌<◌, ◌≤◌, ◌==◌, nat_lt, if◌then◌else◌, Bool, true, List, ◌∷◌, ◌++◌, All, length, slice_index_or}
 use Rattle.std.specs.Int.{IsInRange}
 use Rattle.std.specs.List.{list_any}
 use Rattle.std.specs.Fmt.{decimal}
 use Rattle.hex.specs.Hex.{encode_upper}
+use Rattle.line_text.specs.Cut.{space}
 use Rattle.swp08_messages.specs.declared.message.Message.{Message}
 use Rattle.swp08_messages.specs.Text.{text as text_of}
 use Rattle.plant_config.specs.declared.records.Display.{Display}
@@ -13,19 +14,6 @@ use Rattle.plant_core.specs.declared.request.Request.{Request}
 use Rattle.panel_session.specs.TraceLine.{trace_limit, request_text}
 use Rattle.trace_audit.specs.Trace.{TracedEntry, HasTraceNumbers}
 use Rattle.trace_audit.specs.declared.line.Traced.{Traced}
-
--- the byte that stands between fields
-abbrev pub space : ℕ
-space = 32
-
--- A text is without this byte.
-abbrev pub HasNo : ℕ → List ℕ → Type 0
-HasNo byte text = All (λ other. other ≢ byte) text
-
--- A text is cut at the first of this byte.
-pub record IsCut (byte : ℕ) (text front behind : List ℕ) : Type 0 where
-  pub place : text ≡ front ++ byte ∷ behind
-  pub first : HasNo byte front
 
 -- A text is the one spelling of a number that a trace may have.
 pub record IsNumber (text : List ℕ) (number : ℕ) : Type 0 where

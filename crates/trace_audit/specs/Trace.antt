@@ -1,15 +1,12 @@
 -- What a trace tells: its lines, and the entry that each of them tells.
 use Rattle.std.specs.Prelude.{◌≡◌, ◌⊎◌, ℕ, ◌<◌, ◌≤◌, List, [], ◌∷◌, All, length, codes}
 use Rattle.hex.specs.Hex.{encode_upper}
+use Rattle.line_text.specs.Cut.{longest_line}
 use Rattle.plant_config.specs.Plant.{PlantData}
 use Rattle.plant_core.specs.State.{FitsPlant}
 use Rattle.plant_core.specs.declared.request.Request.{Request}
 use Rattle.plant_core.specs.declared.request.Request.TheVariants.{Told, Poll, Leave, DisplayPoll}
 use Rattle.panel_session.specs.TraceLine.{trace_limit, entry_text}
-
--- the most bytes of a line, its end not counted
-abbrev pub longest_line : ℕ
-longest_line = 65536
 
 -- An entry of a history, as a line tells it: where it stands in the history, what was asked, and the text of what was answered.
 pub record TracedEntry : Type 0 where

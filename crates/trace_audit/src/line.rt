@@ -9,11 +9,9 @@ ghost use Rattle.trace_audit.specs.LineInside.{entry_of};
 use crate::field::{behind, take_number};
 use crate::hexadecimal::is_reply;
 use crate::request::take_request;
+use line_text::MAX_LINE;
 use plant_config::Plant;
 use plant_core::Request;
-
-// The most bytes of a line, its LF not counted.
-const MAX_LINE: usize = 65_536;
 
 // An entry as a line tells it. The reply is a piece of the line.
 #[derive(Clone, Copy, Debug, PartialEq, Eq)]

@@ -20,8 +20,3 @@ pub use layout::{
 pub use read::{Packet, one_text, read_packet};
 pub use shown::{Shown, is_text};
 pub use write::{add_display, begin_packet};
-
-#[cfg(test)]
-mod example;
-#[cfg(test)]
-mod tests;

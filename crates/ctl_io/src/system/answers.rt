@@ -2,7 +2,7 @@
 
 ghost use Rattle.std.specs.Prelude.{◌≡◌, ◌≢◌, ◌<◌, IfOk, OnErr, IfErr};
 ghost use Rattle.std.specs.IoError.{error_kind};
-ghost use Rattle.ctl_io.specs.Faults.{counted};
+ghost use Rattle.ctl_io.specs.Faults.{count_after};
 ghost use Rattle.ctl_io.specs.Files.{source_failed, sink_failed};
 ghost use Rattle.ctl_io.specs.Source.{read_failed};
 ghost use Rattle.ctl_io.specs.Sink.{write_failed};
@@ -15,7 +15,7 @@ pub(crate) fn read_answer(read: io::Result<usize>, faults: &mut FaultCount) -> R
     ensures got { IfOk read (λ n. 0 < n → result ≡ Read.Got n) }
     ensures end { IfOk read (λ n. n ≡ 0 → result ≡ Read.End) }
     ensures failed { OnErr read (result ≡ Read.Failed) }
-    ensures count { faults.new ≡ counted (read_failed result) faults.old }
+    ensures count { faults.new ≡ count_after (read_failed result) faults.old }
 {
     match read {
         Ok(0) => Read::End,
@@ -32,7 +32,7 @@ pub(crate) fn write_answer(written: io::Result<usize>, faults: &mut FaultCount) 
     ensures took { IfOk written (λ n. 0 < n → result ≡ Write.Took n) }
     ensures none { IfOk written (λ n. n ≡ 0 → result ≡ Write.Failed) }
     ensures failed { OnErr written (result ≡ Write.Failed) }
-    ensures count { faults.new ≡ counted (write_failed result) faults.old }
+    ensures count { faults.new ≡ count_after (write_failed result) faults.old }
 {
     match written {
         Ok(0) | Err(_) => {
@@ -50,7 +50,7 @@ pub(crate) fn found_answer<F>(opened: io::Result<F>, faults: &mut FaultCount) ->
         error_kind error ≡ ErrorKind.NotFound → result ≡ Found.Missing) }
     ensures failed { IfErr opened (λ error.
         error_kind error ≢ ErrorKind.NotFound → result ≡ Found.Failed) }
-    ensures count { faults.new ≡ counted (source_failed result) faults.old }
+    ensures count { faults.new ≡ count_after (source_failed result) faults.old }
 {
     match opened {
         Ok(file) => Found::Here(file),
@@ -66,7 +66,7 @@ pub(crate) fn found_answer<F>(opened: io::Result<F>, faults: &mut FaultCount) ->
 pub(crate) fn made_answer<F>(created: io::Result<F>, faults: &mut FaultCount) -> Made<F>
     ensures here { IfOk created (λ file. result ≡ Made.Here file) }
     ensures failed { OnErr created (result ≡ Made.Failed) }
-    ensures count { faults.new ≡ counted (sink_failed result) faults.old }
+    ensures count { faults.new ≡ count_after (sink_failed result) faults.old }
 {
     match created {
         Ok(file) => Made::Here(file),

@@ -16,8 +16,8 @@ pub struct FileSink<F> {
 
 impl<F: io::Write> FileSink<F> {
     ghost use Rattle.std.specs.Io.KnownBytes.{Appends};
-    ghost use Rattle.ctl_io.specs.Faults.{counted};
-    ghost use Rattle.ctl_io.specs.Sink.{IsWithin, took, write_failed};
+    ghost use Rattle.ctl_io.specs.Faults.{count_after};
+    ghost use Rattle.ctl_io.specs.Sink.{TakesWithin, took, write_failed};
 
     /// A sink behind what the writer was given before.
     pub fn new(file: F) -> FileSink<F>
@@ -34,10 +34,10 @@ impl<F: io::Write> FileSink<F> {
     /// what it holds, it was given that.
     pub fn take(&mut self, bytes: &[u8]) -> Write
         requires { 0 < length bytes.now }
-        ensures within { IsWithin result (length bytes.now) }
+        ensures within { TakesWithin result (length bytes.now) }
         ensures gave { Appends (F.contents self.old.file) (F.contents self.new.file)
             (take (took result) bytes.now) }
-        ensures count { self.new.faults ≡ counted (write_failed result) self.old.faults }
+        ensures count { self.new.faults ≡ count_after (write_failed result) self.old.faults }
     {
         write_answer(write_again(&mut self.file, bytes), &mut self.faults)
     }

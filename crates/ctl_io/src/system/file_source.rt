@@ -18,7 +18,7 @@ pub struct FileSource<F> {
 
 impl<F: io::Read> FileSource<F> {
     ghost use Rattle.std.specs.Io.KnownBytes.{Consumes, IsAtEnd};
-    ghost use Rattle.ctl_io.specs.Faults.{counted};
+    ghost use Rattle.ctl_io.specs.Faults.{count_after};
     ghost use Rattle.ctl_io.specs.Source.{IsWithin, got, read_failed};
 
     /// A source that begins where the reader is.
@@ -51,7 +51,7 @@ impl<F: io::Read> FileSource<F> {
             (take (got result) into.new) }
         ensures ended { result ≡ Read.End → IsAtEnd (F.remaining self.new.file) }
         ensures hint { self.new.hint ≡ self.old.hint - got result }
-        ensures count { self.new.faults ≡ counted (read_failed result) self.old.faults }
+        ensures count { self.new.faults ≡ count_after (read_failed result) self.old.faults }
     {
         let read = read_answer(read_again(&mut self.file, into), &mut self.faults);
         if let Read::Got(n) = read {
@@ -70,7 +70,7 @@ impl<F: io::Read> FileSource<F> {
 
 impl<F: io::Read> Source for FileSource<F> {
     ghost use Rattle.std.specs.Io.KnownBytes.{Consumes, IsAtEnd};
-    ghost use Rattle.ctl_io.specs.Faults.{counted};
+    ghost use Rattle.ctl_io.specs.Faults.{count_after};
     ghost use Rattle.ctl_io.specs.Source.{IsWithin, got, read_failed};
 
     ghost left = { λ _. None };
@@ -88,7 +88,7 @@ impl<F: io::Read> Source for FileSource<F> {
         ensures gave { Consumes (F.remaining self.old.file) (F.remaining self.new.file)
             (take (got result) into.new) }
         ensures ended { result ≡ Read.End → IsAtEnd (F.remaining self.new.file) }
-        ensures count { self.new.faults ≡ counted (read_failed result) self.old.faults }
+        ensures count { self.new.faults ≡ count_after (read_failed result) self.old.faults }
     {
         self.give(into)
     }

@@ -18,6 +18,7 @@ use plant_core::{Answer, Request};
 impl Session<'_> {
     /// Works one turn of this session with this piece, as `run_turn` does call by call: the machine works what the session
     /// asks, and the outlet is given what it sends, an ACK together with the frames behind it. It takes no memory.
+    // Short way: nothing is stored between two calls.
     pub fn work_turn<M, O>(&mut self, machine: &mut M, piece: &[u8], out: &mut O)
     where
         M: Machine<Request = Request, Answer = Answer>,

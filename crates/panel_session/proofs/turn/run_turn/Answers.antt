@@ -5,7 +5,7 @@ use Rattle.history_lock.specs.Places.{Placed}
 use Rattle.plant_core.specs.declared.answer.Answer.{Answer}
 use Rattle.panel_session.specs.declared.act.Act.{Act}
 use Rattle.panel_session.specs.declared.act.Act.TheVariants.{Send, Ask, Rest}
-use Rattle.panel_session.specs.CallsLeft.{calls_left, Leaves}
+use Rattle.panel_session.specs.CallsLeft.{calls_left, LeavesLessToDo}
 use Rattle.panel_session.specs.Session.{outgoing_of}
 use Rattle.panel_session.specs.SoFar.{with_bytes, with_sent, with_entry}
 use Rattle.panel_session.proofs.RunLemmas.{way_begins, acts_on_way, sayable_now, way_sent, way_asked, way_over}
@@ -40,7 +40,7 @@ pub loop-out-smaller-in-Send : goal.loop-out-smaller-in-Send
 loop-out-smaller-in-Send g c =
     let rest = c.loop-out.rest.now in
     let used = c.act-used.result.0 in
-    let P : Act → Type 0 = λ act. Leaves act (4 * length rest + calls_left c.loop-out.session) (4 * (length rest - used) + calls_left c.act-used.new.self) in
+    let P : Act → Type 0 = λ act. LeavesLessToDo act (4 * length rest + calls_left c.loop-out.session) (4 * (length rest - used) + calls_left c.act-used.new.self) in
     let left : 4 * (length rest - used) + calls_left c.act-used.new.self < 4 * length rest + calls_left c.loop-out.session = subst P c.in-Send.is c.act-used.ensures.ends in
     omega (arith, left, ap (length {A = ℕ}) (take_rest rest used), length-drop used rest)
 
@@ -69,7 +69,7 @@ loop-out-smaller g c =
     let used = c.act-used.result.0 in
     let asked = c.act-used.new.self in
     let acts = acts_on_way used c.act-used.result.1 (Ask c.in-Ask.request) asked c.requires.may w.3 c.act-used.ensures.acts c.in-Ask.is in
-    let P : Act → Type 0 = λ act. Leaves act (4 * length rest + calls_left c.loop-out.session) (4 * (length rest - used) + calls_left asked) in
+    let P : Act → Type 0 = λ act. LeavesLessToDo act (4 * length rest + calls_left c.loop-out.session) (4 * (length rest - used) + calls_left asked) in
     let left : 4 * (length rest - used) + calls_left asked ≤ 4 * length rest + calls_left c.loop-out.session = subst P c.in-Ask.is c.act-used.ensures.ends in
     let fewer : calls_left c.ask.new.session < calls_left asked = c.ask.ensures.ends c.requires.plant c.requires.panel (with_bytes (take used rest) w.0) acts.0 in
     omega (arith, left, fewer, ap (length {A = ℕ}) (take_rest rest used), length-drop used rest)

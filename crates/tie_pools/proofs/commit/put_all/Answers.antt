@@ -1,5 +1,5 @@
 use Rattle.std.proofs.Common.{◌+◌, drop, sym, ap, ◌∙◌}
-use Rattle.number_map.specs.Table.{put}
+use Rattle.number_tables.specs.Table.{put}
 use Rattle.crosspoint_state.specs.Applied.{put_all}
 use Rattle.tie_pools.proofs.EachLemmas.{next_change}
 use Rattle.tie_pools.proofs.commit.put_all.Goals as goal

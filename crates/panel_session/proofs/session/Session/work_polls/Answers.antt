@@ -9,7 +9,7 @@ use Rattle.panel_session.specs.declared.session.Session.{Session}
 use Rattle.panel_session.specs.MovesInside.{answered_too, ended_turn, silenced}
 use Rattle.panel_session.specs.PolledInside.{HasPolled}
 use Rattle.panel_session.specs.Run.{HasRun}
-use Rattle.panel_session.specs.SenderKept.{Sends}
+use Rattle.panel_session.specs.SenderKept.{SenderData}
 use Rattle.panel_session.specs.Session.{outgoing_of}
 use Rattle.panel_session.specs.WorkInside.{polling_at}
 use Rattle.panel_session.proofs.RunLemmas.{goes_more, goes_none, sayable_now}
@@ -42,7 +42,7 @@ returns-in-End g c = λ on.
     let polled : Polled answers = subst Polled (c.items.ensures ∙ c.step.ensures.answers) c.stage_behind-stage.ensures in
     let same : after ≡ answered_too answers (silenced asking) =
     c.answer_too.ensures
-    ∙ ap (λ (sender : Sends). answered_too c.step.new.out.items (record asking { outbox = c.step.new.out; sender = sender })) c.clear.ensures
+    ∙ ap (λ (sender : SenderData). answered_too c.step.new.out.items (record asking { outbox = c.step.new.out; sender = sender })) c.clear.ensures
     ∙ taken_too (silenced asking) c.step.new.out answers c.step.ensures.answers c.step.ensures.places in
     let few : length answers ≤ room_of on.plant = omega (
       arith,
@@ -76,7 +76,7 @@ loop-self-preserved g c =
     let polled : Polled answers = subst Polled (c.items.ensures ∙ c.step.ensures.answers) c.stage_behind-stage.ensures in
     let same : after ≡ answered_too answers (silenced asking) =
     c.answer_too.ensures
-    ∙ ap (λ (sender : Sends). answered_too c.step.new.out.items (record asking { outbox = c.step.new.out; sender = sender })) c.clear.ensures
+    ∙ ap (λ (sender : SenderData). answered_too c.step.new.out.items (record asking { outbox = c.step.new.out; sender = sender })) c.clear.ensures
     ∙ taken_too (silenced asking) c.step.new.out answers c.step.ensures.answers c.step.ensures.places in
     let goes_on = polls_again answers (polls + 1) stage polled c.in_default.not-End in
     record {

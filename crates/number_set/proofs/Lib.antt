@@ -1,6 +1,0 @@
-pub mod Bits
-pub mod SummaryLemmas
-pub mod Members
-pub mod LowestLemmas
-pub mod FirstMember
-mod Worked

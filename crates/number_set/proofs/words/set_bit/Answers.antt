@@ -1,6 +1,0 @@
-use Rattle.std.proofs.Common.{arith}
-use Rattle.number_set.proofs.Bits.{SetsBit-or}
-use Rattle.number_set.proofs.words.set_bit.Goals as goal
-
-pub returns : goal.returns
-returns c = SetsBit-or c.args.words.now c.args.number (omega arith)

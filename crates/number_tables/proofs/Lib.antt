@@ -1,0 +1,8 @@
+pub mod PutLemmas
+pub mod TableLemmas
+pub mod Bits
+pub mod SummaryLemmas
+pub mod Members
+pub mod LowestLemmas
+pub mod FirstMember
+mod Worked
