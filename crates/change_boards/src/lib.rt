@@ -3,16 +3,12 @@
 //! the displays of a screen are in the order of their indexes. All memory is taken when these are made.
 #![tactic(auto)]
 
-#[cfg(test)]
-mod example;
 mod laws;
 mod notices;
 mod panel_board;
 mod screens;
 mod shown;
 mod sort;
-#[cfg(test)]
-mod tests;
 mod value;
 
 pub use laws::{

@@ -3,8 +3,6 @@
 #![tactic(auto)]
 
 mod crosspoints;
-#[cfg(test)]
-mod example;
 mod laws;
 mod spot;
 

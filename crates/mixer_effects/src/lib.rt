@@ -2,8 +2,6 @@
 //! made at the opening, and a graph is the only door to them: no call looks at a bus or a device that it isn't asked for.
 #![tactic(auto)]
 
-#[cfg(test)]
-mod example;
 mod graph;
 mod laws;
 mod mixers;

@@ -34,8 +34,3 @@ pub use session::Session;
 pub use trace_laws::{lines_end_once, one_entry};
 pub use trace_line::TraceLines;
 pub use turn::run_turn;
-
-#[cfg(test)]
-mod example;
-#[cfg(test)]
-mod tests;

@@ -2,8 +2,6 @@
 //! changes. It is seen as plain data, by the same definitions that the crates above use.
 #![tactic(auto)]
 
-#[cfg(test)]
-mod example;
 mod laws;
 mod levels;
 mod limits;
@@ -12,8 +10,6 @@ mod of_file;
 mod plant;
 mod readers;
 mod records;
-#[cfg(test)]
-mod tests;
 
 pub use laws::{
     buses_differ, dests_are_numbered, limits_are_those_of_the_profile, origins_are_local,

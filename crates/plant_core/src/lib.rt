@@ -8,8 +8,6 @@ mod connect;
 mod display;
 mod display_laws;
 mod dump;
-#[cfg(test)]
-mod example;
 mod hear;
 mod laws;
 mod machine;
@@ -23,8 +21,6 @@ mod salvo;
 mod salvo_laws;
 mod state;
 mod tables;
-#[cfg(test)]
-mod tests;
 
 pub use answer::Answer;
 pub use display_laws::{

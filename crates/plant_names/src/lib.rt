@@ -2,16 +2,12 @@
 //! All is made of the plant at the opening, with an index of the names of each level; no later call takes memory.
 #![tactic(auto)]
 
-#[cfg(test)]
-mod example;
 mod laws;
 mod level;
 mod made;
 mod names;
 mod page;
 mod paged;
-#[cfg(test)]
-mod tests;
 
 pub use laws::{dests_have_their_names, pages_have_each_name_once, sources_have_their_names};
 pub use names::Names;

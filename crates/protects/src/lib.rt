@@ -2,12 +2,8 @@
 //! a master what any device owns. All memory is taken at the start, and no call looks at another destination.
 #![tactic(auto)]
 
-#[cfg(test)]
-mod example;
 mod laws;
 mod protects;
-#[cfg(test)]
-mod tests;
 
 pub use laws::{calls_change_one_owner, foreign_protects_stay, lifts_free, takes_are_told};
 pub use protects::Protects;

@@ -21,8 +21,3 @@ mod take;
 
 pub use laws::{lines_answer_items, no_tie_carries_two_sources, one_history, one_item, one_replay};
 pub use replay::{ReplayFault, replay_script};
-
-#[cfg(test)]
-mod example;
-#[cfg(test)]
-mod tests;

@@ -4,14 +4,10 @@
 #![tactic(auto)]
 
 mod entries;
-#[cfg(test)]
-mod example;
 mod groups;
 mod laws;
 mod limits;
 mod store;
-#[cfg(test)]
-mod tests;
 
 pub use groups::Groups;
 pub use laws::{

@@ -3,8 +3,6 @@
 //! memory is taken at the opening.
 #![tactic(auto)]
 
-#[cfg(test)]
-mod example;
 mod roots;
 mod rounds;
 mod tally;

@@ -5,14 +5,10 @@
 
 mod commit;
 mod demand;
-#[cfg(test)]
-mod example;
 mod holdings;
 mod plan;
 mod planned;
 mod route;
-#[cfg(test)]
-mod tests;
 mod ties;
 mod ways;
 

@@ -3,8 +3,6 @@
 //! promised rests on `specs/Trace.antt`, what a line tells, and `specs/Verdict.antt`, what is found.
 #![tactic(auto)]
 
-#[cfg(test)]
-mod example;
 mod field;
 mod hexadecimal;
 mod kept;
@@ -12,8 +10,6 @@ mod laws;
 mod line;
 mod number;
 mod request;
-#[cfg(test)]
-mod tests;
 mod trace;
 mod verdict;
 mod walk;

@@ -1,0 +1,211 @@
+//! Scripts, and what they give.
+
+use ctl_io::MemSink;
+use plant_config::Plant;
+use plant_names::Names;
+use record_replay::{ReplayFault, replay_script};
+use std::alloc::Global;
+use std::process::Abort;
+use std::test::Fail;
+
+// A studio with two mixers, one bus of which has a switch, and two displays.
+const STUDIO: &[u8] = br#"
+title = "Studio"
+[[level]]
+matrix = 0
+level = 0
+sources = 24
+destinations = 32
+source_names = ["BLACK", "CAM1", "CAM2", "CAM3"]
+[[level]]
+matrix = 0
+level = 1
+sources = 2
+destinations = 4
+[[device]]
+name = "ME1"
+matrix = 0
+source = 20
+[[device]]
+name = "ME2"
+matrix = 0
+source = 21
+[[bus]]
+device = "ME1"
+matrix = 0
+destination = 10
+[[bus]]
+device = "ME1"
+matrix = 0
+destination = 11
+switch_matrix = 0
+switch_level = 1
+switch_destination = 0
+[[bus]]
+device = "ME2"
+matrix = 0
+destination = 12
+[[air]]
+matrix = 0
+destination = 0
+[[preview]]
+matrix = 0
+destination = 1
+[[display]]
+screen = 0
+index = 1
+matrix = 0
+destination = 2
+[[display]]
+screen = 0
+index = 2
+matrix = 0
+destination = 3
+[[panel]]
+device = 1
+port = 9001
+[[panel]]
+device = 2
+port = 9002
+master = true
+"#;
+
+// A plant with a name that has spaces, and with another of no letter.
+const PLANT: &[u8] = br#"
+title = "Names"
+[[level]]
+matrix = 0
+level = 0
+sources = 3
+destinations = 2
+source_names = ["CAM 1", "  -"]
+destination_names = ["MON A ", "take 0 0 0"]
+[[level]]
+matrix = 1
+level = 2
+sources = 20
+destinations = 20
+[[panel]]
+device = 0
+port = 4000
+"#;
+
+// Scripts on the studio, and what they give.
+const DAYS: &[(&[u8], &[u8])] = &[
+    // Two mixers in a loop are on air, and dark once they are cut from it.
+    (
+        b"take 0 0 0\tD0\tS20\ntake 0 0 0\tD10\tS21\ntake 0 0 0\tD12\tS20\ntake 0 0 0\tD2\tS20\n\
+take 0 0 0\tD3\tS21\nshow 0\ntake 0 0 0\tD0\tBLACK\nshow 0\n",
+        b"< 0 10061002040000001405E31003\n< 0 100610020400000A1505D81003\n\
+< 0 100610020400000C1405D71003\n< 0 10061002040000021405E11003\n< 0 10061002040000031505DF1003\n\
+* 0 1600000000000100C50003005332300200C5000300533231\n< 0 10061002040000000005F71003\n\
+* 0 1600000000000100C00003005332300200C0000300533231\n",
+    ),
+    // A camera on air, on both, a quiet screen, a refresh, and the end.
+    (
+        b"show 0\ntake 0 0 0\tD0\tCAM3\ntake 0 0 0\tD2\tCAM3\nshow 0\ntake 0 0 0\tD1\tCAM3\n\
+show 0\nshow 0\nrefresh 00000\nleave 0\nleave 1\nshow 0\n",
+        b"* 0 1000000000000100C00000000200C0000000\n< 0 10061002040000000305F41003\n\
+< 0 10061002040000020305F21003\n* 0 0E00000000000100C500040043414D33\n\
+< 0 10061002040000010305F31003\n* 0 0E00000000000100ED00040043414D33\n* 0 quiet\n\
+* 0 1400000000000100ED00040043414D330200C0000000\nleave 0\nleave 1\n* 0 finished\n",
+    ),
+    // A bus with a switch, which is parked and then on.
+    (
+        b"show 0\ntake 0 0 0\tD0\tS20\ntake 0 0 0\tD11\tCAM2\ntake 0 0 0\tD3\tCAM2\nshow 0\n\
+> 0 10 02 02 01 00 00 01 05 F7 10 03\nshow 0\n",
+        b"* 0 1000000000000100C00000000200C0000000\n< 0 10061002040000001405E31003\n\
+< 0 100610020400000B0205EA1003\n< 0 10061002040000030205F21003\n\
+* 0 0E00000000000200C000040043414D32\n< 0 10061002040100000105F51003\n\
+* 0 0E00000000000200C500040043414D32\n",
+    ),
+];
+
+// Takes on the plant of names: names with spaces, zeros in front, no source, and a DLE that is sent twice.
+const TAKES: &[(&[u8], &[u8])] = &[
+    (
+        b"take 00000 00 00000\tMON A \tCAM 1\ntake 0 0 0\ttake 0 0 0\t  -",
+        b"< 0 10061002040000000005F71003\n< 0 10061002040000010105F51003\n",
+    ),
+    (
+        b"take 0 1 2\tD16\tS16",
+        b"< 0 100610020412001010101005C51003\n",
+    ),
+    (b"take 0 0 0\tMON A \t", b"< 0 10061002040007007F05711003\n"),
+];
+
+// Lines that are none on the studio: no display is on the screen, six digits, and other forms; and takes of names or levels
+// that it hasn't.
+const REFUSED: &[&[u8]] = &[
+    b"\nshow 1",
+    b"\nshow 65536",
+    b"\nshow 000000",
+    b"\nshow  0",
+    b"\nshow 0\r",
+    b"\nrefresh 0 0",
+    b"\ntake 0 0 0\tD99\tS3",
+    b"\ntake 0 0 0\tD5\tS99",
+    b"\ntake 0 0 0\tD5 \tCAM1",
+    b"\ntake 0 1 0\tD5\tCAM1",
+    b"\ntake 0 16 0\tD5\tCAM1",
+    b"\ntake 0 0 256\tD5\tCAM1",
+    b"\ntake 0 0 000000\tD5\tCAM1",
+    b"\ntake 2 0 0\tD5\tCAM1",
+    b"\ntake 0 0 0\tD5",
+    b"\ntake 0 0 0\tD5\tCAM1\t",
+];
+
+// What a script gives on a plant.
+fn replayed(alloc: Global, plant: &Plant, script: &[u8]) -> Result<Vec<u8>, ReplayFault> {
+    let names = Names::new(alloc, plant)?;
+    let mut out = MemSink::new(alloc, 1000, Vec::new(alloc))?;
+    replay_script(alloc, plant, &names, script, &mut out)?;
+    Ok(out.written().to_vec(alloc)?)
+}
+
+// Each script of a table gives its output.
+fn give(
+    rt: &impl Abort,
+    alloc: Global,
+    plant: &Plant,
+    rows: &[(&[u8], &[u8])],
+) -> Result<(), ReplayFault> {
+    for (script, output) in rows {
+        assert_eq!(rt; replayed(alloc, plant, script)?.as_slice(), *output);
+    }
+    Ok(())
+}
+
+#[test]
+fn scripts_are_replayed(rt: HostRuntime) -> Result<(), Fail> {
+    let alloc = rt.alloc();
+    let studio = Plant::from_toml(alloc, STUDIO)?;
+    give(&rt, alloc, &studio, DAYS)?;
+    let plant = Plant::from_toml(alloc, PLANT)?;
+    give(&rt, alloc, &plant, TAKES)?;
+    Ok(())
+}
+
+#[test]
+fn lines_without_a_form_are_refused(rt: HostRuntime) -> Result<(), Fail> {
+    let alloc = rt.alloc();
+    let studio = Plant::from_toml(alloc, STUDIO)?;
+    for script in REFUSED {
+        let fault = replayed(alloc, &studio, script).err();
+        assert_eq!(rt; fault, Some(ReplayFault::BadLine(2)), "of {script:?}");
+    }
+    Ok(())
+}
+
+#[test]
+fn a_failed_write_ends_a_replay(rt: HostRuntime) -> Result<(), Fail> {
+    let alloc = rt.alloc();
+    let plant = Plant::bench(alloc)?;
+    let names = Names::new(alloc, &plant)?;
+    let failing = [0].to_vec(alloc)?;
+    let mut out = MemSink::new(alloc, 1000, failing)?;
+    let fault = replay_script(alloc, &plant, &names, b"poll 0\n", &mut out);
+    assert_eq!(rt; fault, Err(ReplayFault::OutputFault));
+    assert_eq!(rt; out.written(), b"".as_slice());
+    Ok(())
+}

@@ -1,0 +1,13 @@
+//! One short use of each crate, which its PROMISES.md shows word for word.
+
+mod of_change_boards;
+mod of_crosspoint_state;
+mod of_mixer_effects;
+mod of_plant_config;
+mod of_plant_core;
+mod of_plant_file;
+mod of_plant_names;
+mod of_protects;
+mod of_salvo_groups;
+mod of_tally;
+mod of_tie_pools;

@@ -1,0 +1,44 @@
+//! A use of `plant_file`: a text is read, and another one is refused.
+
+use plant_file::PlantFile;
+use std::alloc::Global;
+use std::test::Fail;
+
+const STUDIO: &str = r#"
+title = "Studio"
+[[level]]
+matrix = 0
+level = 0
+sources = 3
+destinations = 2
+source_names = ["BLACK", "CAM 1"]
+[[panel]]
+device = 1
+port = 9001
+"#;
+
+// The line of a text's fault.
+fn refusal(alloc: Global, text: &[u8]) -> Result<String, Fail> {
+    match PlantFile::read(alloc, text) {
+        Ok(_) => Err(Fail::from("it has no fault")),
+        Err(fault) => Ok(fault.text(alloc)?),
+    }
+}
+
+#[test]
+fn a_text_is_read(rt: HostRuntime) -> Result<(), Fail> {
+    let alloc = rt.alloc();
+    let Ok(file) = PlantFile::read(alloc, STUDIO.as_bytes()) else {
+        return Err(Fail::from("it has a fault"));
+    };
+    assert_eq!(rt; file.title().as_str(), "Studio");
+    let level = file.levels().first().ok_or("a level")?;
+    // The last source has no name in the file.
+    for (name, want) in level.source_names().iter().zip(["BLACK", "CAM 1", "S2"]) {
+        assert_eq!(rt; name.as_bytes(), want.as_bytes());
+    }
+
+    let line = refusal(alloc, b"title = \"Studio\"\nlevel = 1")?;
+    assert_eq!(rt; line.as_str(), "WrongType at level 0 entries");
+    Ok(())
+}

@@ -1,0 +1,245 @@
+//! The plant's answers, what stands behind them, and who is told of what, each by a table.
+
+ghost use Rattle.std.specs.Prelude.{◌≤◌};
+ghost use Rattle.plant_core.specs.Answer.{room_of};
+
+mod displays;
+mod rows;
+mod shared;
+
+use history_lock::{Machine, OutBox};
+use plant_config::{PanelNo, Plant};
+use plant_core::{Answer, PlantState, Request};
+use rows::{BENCH, POOL, PROTECTING, SALVOS, TRUNK};
+use std::alloc::{AllocError, Global};
+use std::process::Abort;
+use std::test::Fail;
+use swp08_messages::{GoStatus, Message, Point, Validity};
+
+/// What a panel does about a place.
+#[derive(Clone, Copy, Debug)]
+enum Act {
+    Asks,
+    Connects(Option<u16>),
+    AsksOwner,
+    Protects,
+    Lifts,
+    /// Stores a source in a group.
+    Stores(Option<u16>, u8),
+    /// Takes a group, or clears it.
+    Takes(u8),
+    Clears(u8),
+    /// Asks for an entry of a group.
+    Reads(u8, u8),
+    Dumps,
+    IsPolled,
+    Leaves,
+}
+
+/// How that is answered, by a message of the same place.
+#[derive(Clone, Copy, Debug)]
+enum Reply {
+    Nothing,
+    Tally(Option<u16>),
+    Connected(Option<u16>),
+    Owner(Option<u16>),
+    Protected(u16),
+    Lifted,
+    Stored(Option<u16>, u8),
+    Done(GoStatus, u8),
+    Entry(Option<u16>, u8, u8, Validity),
+}
+
+/// A panel, a place by matrix, level and number, what the panel does, and how it is answered.
+type Row = (u32, (u8, u8, u16), Act, Reply);
+
+// What a panel asks of the plant.
+fn request_of(panel: u32, at: Point, act: Act) -> Request {
+    let panel = PanelNo::of(panel);
+    let message = match act {
+        Act::IsPolled => {
+            return Request::Poll {
+                panel,
+                at: 7,
+                turn: 3,
+            };
+        }
+        Act::Leaves => return Request::Leave { panel },
+        Act::Asks => Message::Interrogate { at },
+        Act::Connects(source) => Message::Connect { at, source },
+        Act::AsksOwner => Message::ProtectAsk { at },
+        Act::Protects => Message::ProtectConnect { at, device: 77 },
+        Act::Lifts => Message::ProtectDisconnect { at, device: 77 },
+        Act::Stores(source, salvo) => Message::Store { at, source, salvo },
+        Act::Takes(salvo) => Message::Go {
+            clear: false,
+            salvo,
+        },
+        Act::Clears(salvo) => Message::Go { clear: true, salvo },
+        Act::Reads(salvo, index) => Message::EntryAsk { salvo, index },
+        Act::Dumps => Message::DumpAsk {
+            matrix: at.matrix,
+            level: at.level,
+        },
+    };
+    Request::Told {
+        panel,
+        at: 7,
+        message,
+    }
+}
+
+// The message that answers.
+fn message_of(at: Point, reply: Reply) -> Option<Message> {
+    Some(match reply {
+        Reply::Nothing => return None,
+        Reply::Tally(source) => Message::Tally { at, source },
+        Reply::Connected(source) => Message::Connected { at, source },
+        Reply::Owner(owner) => Message::ProtectTally {
+            at,
+            owned: owner.is_some(),
+            device: owner.unwrap_or(0),
+        },
+        Reply::Protected(device) => Message::ProtectConnected {
+            at,
+            owned: true,
+            device,
+        },
+        Reply::Lifted => Message::ProtectDisconnected {
+            at,
+            owned: false,
+            device: 0,
+        },
+        Reply::Stored(source, salvo) => Message::Stored { at, source, salvo },
+        Reply::Done(status, salvo) => Message::GoDone { status, salvo },
+        Reply::Entry(source, salvo, index, validity) => Message::Entry {
+            at,
+            source,
+            salvo,
+            index,
+            validity,
+        },
+    })
+}
+
+// The message that is the first answer, `None` where that is none.
+fn said(out: &OutBox<Answer>) -> Option<Message> {
+    match out.items().first() {
+        Some(Answer::Say(message)) => Some(*message),
+        _ => None,
+    }
+}
+
+// An event is asked for, in place of what was answered before.
+fn ask(rt: &impl Abort, state: &mut PlantState, out: &mut OutBox<Answer>, request: &Request)
+    requires { room_of state.old.plant ≤ out.old.places }
+    ensures { room_of state.new.plant ≤ out.new.places }
+{
+    assert!(rt; state.fits(request));
+    out.clear();
+    state.step(request, out);
+}
+
+// A row is answered so.
+fn is_answered(rt: &impl Abort, state: &mut PlantState, out: &mut OutBox<Answer>, row: &Row)
+    requires { room_of state.old.plant ≤ out.old.places }
+    ensures { room_of state.new.plant ≤ out.new.places }
+{
+    let (panel, (matrix, level, dest), act, reply) = *row;
+    let at = Point {
+        matrix,
+        level,
+        dest,
+    };
+    ask(rt, state, out, &request_of(panel, at, act));
+    assert_eq!(rt; said(out), message_of(at, reply));
+}
+
+// The rows are answered one after the other.
+fn are_answered(rt: &impl Abort, state: &mut PlantState, out: &mut OutBox<Answer>, rows: &[Row])
+    requires { room_of state.old.plant ≤ out.old.places }
+    ensures { room_of state.new.plant ≤ out.new.places }
+{
+    for row in rows {
+        is_answered(rt, state, out, row);
+    }
+}
+
+// The rows are answered from the start of a plant on.
+fn is_worked(
+    rt: &impl Abort,
+    alloc: Global,
+    plant: &Plant,
+    rows: &[Row],
+) -> Result<(), AllocError> {
+    let mut state = PlantState::start(alloc, plant)?;
+    let mut out = OutBox::new(alloc, state.room())?;
+    are_answered(rt, &mut state, &mut out, rows);
+    Ok(())
+}
+
+#[test]
+fn tables_are_answered(rt: HostRuntime) -> Result<(), Fail> {
+    let bench = Plant::bench(rt.alloc())?;
+    is_worked(&rt, rt.alloc(), &bench, &BENCH)?;
+    is_worked(&rt, rt.alloc(), &bench, &PROTECTING)?;
+    is_worked(&rt, rt.alloc(), &bench, &SALVOS)?;
+    let pool = Plant::from_toml(rt.alloc(), POOL)?;
+    is_worked(&rt, rt.alloc(), &pool, &TRUNK)?;
+    Ok(())
+}
+
+// A plant of one level with this many destinations and one source.
+const WIDE: &[u8] = br#"
+title = "Wide"
+[[level]]
+matrix = 0
+level = 0
+sources = 1
+destinations = 257
+[[panel]]
+device = 1
+port = 9001
+"#;
+
+// The destinations below a count are stored in group 3.
+fn fill(rt: &impl Abort, state: &mut PlantState, out: &mut OutBox<Answer>, count: u16)
+    requires { room_of state.old.plant ≤ out.old.places }
+    ensures { room_of state.new.plant ≤ out.new.places }
+{
+    for dest in 0..count {
+        let row = (
+            0,
+            (0, 0, dest),
+            Act::Stores(Some(0), 3),
+            Reply::Stored(Some(0), 3),
+        );
+        is_answered(rt, state, out, &row);
+    }
+}
+
+#[test]
+fn a_wide_plant_fills_a_group_and_a_dump(rt: HostRuntime) -> Result<(), Fail> {
+    let plant = Plant::from_toml(rt.alloc(), WIDE)?;
+    let mut state = PlantState::start(rt.alloc(), &plant)?;
+    assert_eq!(rt; state.room(), 257);
+    let mut out = OutBox::new(rt.alloc(), state.room())?;
+    fill(&rt, &mut state, &mut out, 256);
+    are_answered(&rt, &mut state, &mut out, &rows::FULL);
+
+    let at = Point {
+        matrix: 0,
+        level: 0,
+        dest: 0,
+    };
+    ask(&rt, &mut state, &mut out, &request_of(0, at, Act::Dumps));
+    assert_eq!(rt; out.items().len(), 257);
+    let last = Answer::Dumped {
+        matrix: 0,
+        level: 0,
+        dest: 256,
+        source: None,
+    };
+    assert_eq!(rt; out.items().last(), Some(&last));
+    Ok(())
+}

@@ -1,0 +1,227 @@
+//! What polls of a screen tell, on the studio plant and on one with many displays.
+
+ghost use Rattle.std.specs.Prelude.{◌≤◌};
+ghost use Rattle.plant_core.specs.Answer.{room_of};
+
+use super::{Act, ask, request_of};
+use change_boards::Value;
+use history_lock::{Machine, OutBox};
+use plant_config::{DestId, PanelNo, Plant};
+use plant_core::{Answer, PlantState, Request};
+use std::alloc::Global;
+use std::process::Abort;
+use std::test::Fail;
+use swp08_messages::Point;
+use tally::Roots;
+
+// Two mixers, the second bus of the first with a switch. Destination 0 is on air, 1 on preview, and displays 0 and 1 watch
+// 2 and 3.
+const STUDIO: &str = r#"title = "Studio"
+[[level]]
+matrix = 0
+level = 0
+sources = 24
+destinations = 32
+source_names = ["BLACK", "CAM1", "CAM2", "CAM3"]
+[[level]]
+matrix = 0
+level = 1
+sources = 2
+destinations = 4
+[[device]]
+name = "ME1"
+matrix = 0
+source = 20
+[[device]]
+name = "ME2"
+matrix = 0
+source = 21
+[[bus]]
+device = "ME1"
+matrix = 0
+destination = 10
+[[bus]]
+device = "ME1"
+matrix = 0
+destination = 11
+switch_matrix = 0
+switch_level = 1
+switch_destination = 0
+[[bus]]
+device = "ME2"
+matrix = 0
+destination = 12
+[[air]]
+matrix = 0
+destination = 0
+[[preview]]
+matrix = 0
+destination = 1
+[[display]]
+screen = 0
+index = 1
+matrix = 0
+destination = 2
+[[display]]
+screen = 0
+index = 2
+matrix = 0
+destination = 3
+[[panel]]
+device = 1
+port = 9001
+[[panel]]
+device = 2
+port = 9002
+master = true
+"#;
+
+/// A display, the source that it is shown, and whether that is on air and on preview.
+type Shown = (u32, Option<u32>, bool, bool);
+
+/// Connects of panel 0, each of a level's destination and source, and what a poll of screen 0 tells behind them.
+type Row = (&'static [(u8, u16, u16)], bool, &'static [Shown]);
+
+const ROWS: [Row; 7] = [
+    (
+        &[],
+        false,
+        &[(0, None, false, false), (1, None, false, false)],
+    ),
+    // The mixers are in a loop that is on air, and then cut.
+    (
+        &[(0, 0, 20), (0, 10, 21), (0, 12, 20), (0, 2, 20), (0, 3, 21)],
+        false,
+        &[(0, Some(20), true, false), (1, Some(21), true, false)],
+    ),
+    (
+        &[(0, 0, 0)],
+        false,
+        &[(0, Some(20), false, false), (1, Some(21), false, false)],
+    ),
+    // A bus is dark until its switch is on.
+    (
+        &[(0, 0, 20), (0, 11, 2), (0, 3, 2)],
+        false,
+        &[(0, Some(20), true, false), (1, Some(2), false, false)],
+    ),
+    (&[(1, 0, 1), (0, 1, 2)], false, &[(1, Some(2), true, true)]),
+    (&[], false, &[]),
+    (
+        &[],
+        true,
+        &[(0, Some(20), true, false), (1, Some(2), true, true)],
+    ),
+];
+
+// A poll of screen 0.
+fn shows(refresh: bool) -> Request {
+    Request::DisplayPoll { screen: 0, refresh }
+}
+
+// Panel 0 connects a destination of a level of matrix 0.
+fn connect(level: u8, dest: u16, source: u16) -> Request {
+    let at = Point {
+        matrix: 0,
+        level,
+        dest,
+    };
+    request_of(0, at, Act::Connects(Some(source)))
+}
+
+// Whether a value is as it is shown.
+fn is_shown(value: &Value, shown: &Shown) -> bool {
+    let source = match value.source {
+        Some(source) => Some(source.get()),
+        None => None,
+    };
+    source == shown.1 && value.air == shown.2 && value.preview == shown.3
+}
+
+// Whether an answer is the lamp of a display that is shown this.
+fn is_lamp(answer: &Answer, shown: &Shown) -> bool {
+    match answer {
+        Answer::Lamp { display, value } => display.get() == shown.0 && is_shown(value, shown),
+        _ => false,
+    }
+}
+
+// Panel 0 connects all of these.
+fn connect_all(
+    rt: &impl Abort,
+    state: &mut PlantState,
+    out: &mut OutBox<Answer>,
+    connects: &[(u8, u16, u16)],
+)
+    requires { room_of state.old.plant ≤ out.old.places }
+    ensures { room_of state.new.plant ≤ out.new.places }
+{
+    for (level, dest, source) in connects.iter().copied() {
+        ask(rt, state, out, &connect(level, dest, source));
+    }
+}
+
+// The rows are told one after the other.
+fn are_told(rt: &impl Abort, state: &mut PlantState, out: &mut OutBox<Answer>)
+    requires { room_of state.old.plant ≤ out.old.places }
+    ensures { room_of state.new.plant ≤ out.new.places }
+{
+    for (connects, refresh, shown) in ROWS {
+        connect_all(rt, state, out, connects);
+        ask(rt, state, out, &shows(refresh));
+        assert_eq!(rt; out.items().len(), shown.len());
+        assert!(rt;
+            out.items()
+                .iter()
+                .zip(shown)
+                .all(|(answer, shown)| is_lamp(answer, shown))
+        );
+    }
+}
+
+#[test]
+fn displays_are_told_until_all_is_finished(rt: HostRuntime) -> Result<(), Fail> {
+    let plant = Plant::from_toml(rt.alloc(), STUDIO.as_bytes())?;
+    let mut state = PlantState::start(rt.alloc(), &plant)?;
+    let mut out = OutBox::new(rt.alloc(), state.room())?;
+    are_told(&rt, &mut state, &mut out);
+    assert!(rt; state.is_live(Roots::Air, DestId::of(12)));
+    assert!(rt; !state.is_live(Roots::Preview, DestId::of(12)));
+    for panel in 0..2 {
+        let panel = PanelNo::of(panel);
+        ask(&rt, &mut state, &mut out, &shows(false));
+        assert!(rt; out.items().is_empty());
+        ask(&rt, &mut state, &mut out, &Request::Leave { panel });
+    }
+    ask(&rt, &mut state, &mut out, &shows(false));
+    assert_eq!(rt; out.items(), [Answer::Finished].as_slice());
+    Ok(())
+}
+
+// A plant with 70 displays, of which each watches destination 0.
+fn many(alloc: Global) -> Result<Plant, Fail> {
+    let mut text = String::from_str(
+        alloc,
+        "title = \"Many\"\n[[level]]\nmatrix = 0\nlevel = 0\nsources = 2\ndestinations = 1\n\
+         [[panel]]\ndevice = 1\nport = 9001\n",
+    )?;
+    for index in 0..70_u32 {
+        let display = format!(in alloc;
+            "[[display]]\nscreen = 0\nindex = {index}\nmatrix = 0\ndestination = 0\n"
+        )?;
+        text.push_str(&display)?;
+    }
+    Ok(Plant::from_toml(alloc, text.as_bytes())?)
+}
+
+#[test]
+fn a_poll_tells_64_displays_at_most(rt: HostRuntime) -> Result<(), Fail> {
+    let plant = many(rt.alloc())?;
+    let mut state = PlantState::start(rt.alloc(), &plant)?;
+    let mut out = OutBox::new(rt.alloc(), state.room())?;
+    for (refresh, count) in [(false, 64), (false, 6), (false, 0), (true, 64)] {
+        ask(&rt, &mut state, &mut out, &shows(refresh));
+        assert_eq!(rt; out.items().len(), count);
+    }
+    Ok(())
+}

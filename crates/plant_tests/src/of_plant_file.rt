@@ -1,0 +1,107 @@
+//! A plant file, and one edit of it for each fault, with the fault's line.
+
+use plant_file::{PlantFault, PlantFile};
+use std::alloc::{AllocError, Global};
+use std::test::Fail;
+
+// A plant file that has each section. Source 3 of matrix 0 stands for source 2 of matrix 1.
+const PLANT: &str = r#"title = "House"
+[server]
+idle_ms = 250
+[[level]]
+matrix = 0
+level = 0
+sources = 4
+destinations = 4
+source_names = ["CAM", "MIX"]
+[[level]]
+matrix = 0
+level = 1
+sources = 1
+destinations = 2
+[[level]]
+matrix = 1
+level = 0
+sources = 4
+destinations = 2
+[[remote]]
+matrix = 0
+level = 0
+source = 3
+from = 1
+from_source = 2
+[[pool]]
+from = 1
+to = 0
+level = 0
+ties = 2
+[[device]]
+name = "mixer"
+matrix = 0
+source = 1
+[[bus]]
+device = "mixer"
+matrix = 0
+destination = 1
+switch_matrix = 0
+switch_level = 1
+switch_destination = 1
+[[air]]
+matrix = 0
+destination = 2
+[[preview]]
+matrix = 0
+destination = 3
+[[display]]
+screen = 1
+index = 0
+matrix = 1
+destination = 0
+[[panel]]
+device = 5
+port = 9000
+"#;
+
+// What stands once in that file, what stands in its place, and the line of the fault.
+const REFUSALS: [(&str, &str, &str); 8] = [
+    ("idle_ms", "idle_ms = 1\nidle_ms", "NotToml"),
+    ("title", "titel", "Missing at top 0 title"),
+    ("250", "1.0", "WrongType at server 0 idle_ms"),
+    (
+        "ties = 2",
+        "ties = -9223372036854775808",
+        "OutOfRange at pool 0 ties: -9223372036854775808 not in 1 to 1024",
+    ),
+    ("MIX", "S3", "Twice at level 0 source_names"),
+    ("to = 0", "to = 2", "NoSuchThing at pool 0 to"),
+    (
+        "source = 1\n",
+        "source = 3\n",
+        "NotLocal at device 0 source",
+    ),
+    (
+        "from = 1\nto = 0",
+        "from = 0\nto = 1",
+        "NoPool at remote 0 from",
+    ),
+];
+
+// The line of a text's fault, or its title where it has none.
+fn line_of(alloc: Global, text: &str) -> Result<String, AllocError> {
+    match PlantFile::read(alloc, text.as_bytes()) {
+        Ok(file) => String::from_str(alloc, file.title().as_str()),
+        Err(PlantFault::NoMemory) => Err(AllocError),
+        Err(fault) => fault.text(alloc),
+    }
+}
+
+#[test]
+fn each_edit_is_refused_with_its_line(rt: HostRuntime) -> Result<(), Fail> {
+    let alloc = rt.alloc();
+    assert_eq!(rt; line_of(alloc, PLANT)?.as_str(), "House");
+    for (old, new, line) in REFUSALS {
+        let text = PLANT.replace(alloc, old, new)?;
+        assert_eq!(rt; line_of(alloc, &text)?.as_str(), line);
+    }
+    Ok(())
+}

@@ -1,0 +1,9 @@
+//! One short use of each crate, which its PROMISES.md shows word for word.
+
+mod of_ctl_io;
+mod of_dle_framing;
+mod of_history_lock;
+mod of_line_text;
+mod of_number_tables;
+mod of_swp08_messages;
+mod of_tsl_umd5;
