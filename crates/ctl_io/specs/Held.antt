@@ -49,7 +49,8 @@ CountsOn before now = (opening : ℕ) → now opening ≡ before (opening + 1)
 -- The openings of every other name stay.
 abbrev pub OtherOpeningsStay : List ℕ → (List ℕ → ℕ → Held) → (List ℕ → ℕ → Held)
     → Type 0
-OtherOpeningsStay name before now = (other : List ℕ) → other ≢ name → Stays (before other) (now other)
+OtherOpeningsStay name before now = (other : List ℕ) → other ≢ name
+    → Stays (before other) (now other)
 
 -- The openings of every name stay, but of the name that an object shows.
 abbrev pub AllStayBut : Option (List ℕ) → (List ℕ → ℕ → Held)

@@ -73,7 +73,8 @@ pub fn read_whole<S: Source>(
     ensures taken { ¬ IsErrOf result WholeFault.TooLong →
         TakesAtMost limit (S.left source.old) (S.left source.new) }
     ensures name { S.name source.new ≡ S.name source.old }
-    ensures count { S.faults source.new ≡ count_after (whole_failed result) (S.faults source.old) }
+    ensures count { S.faults source.new
+        ≡ count_after (whole_failed result) (S.faults source.old) }
 {
     let mut whole = first_room(alloc, source.left_hint(), limit)?;
     let mut count = 0;

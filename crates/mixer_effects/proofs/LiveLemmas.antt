@@ -13,7 +13,7 @@ use Rattle.plant_config.proofs.OriginLemmas.{buses_differ}
 use Rattle.crosspoint_state.specs.Crosspoints.{Crosspoints, source_of}
 use Rattle.mixer_effects.specs.Buses.{is_switch_on, is_bus_on}
 use Rattle.mixer_effects.specs.Live.{carries, is_fed_by, buses_behind, reach, live, is_live, is_origin_seen, is_seen}
-use Rattle.mixer_effects.specs.Laws.{HasRoots, HasBusesBehind, AreClosed, LiveIsLeast, RootsAreSeen, CutIsDark, IsCut, IsNoRoot, SwitchesCut}
+use Rattle.mixer_effects.specs.Laws.{HasRoots, HasBusesBehind, AreClosed, LiveIsLeast, RootsAreSeen, CutIsDark, IsSwitchCut, IsNoRoot, SwitchesCut}
 use Rattle.mixer_effects.proofs.AnyLemmas.{any_place}
 use Rattle.mixer_effects.proofs.ReachLemmas.{any_behind, reach-step, reach-grows, end-fixed}
 
@@ -100,7 +100,7 @@ module _ (plant : PlantData) (points : Crosspoints) (roots : List ℕ) where
           both_ways (carries plant points origin found.1) (none found.1 origin (reach_among is_among closed (length plant.devices) found.1 there) from) found.3)
 
 -- a switch that is cut isn't on
-cut_off : (plant : PlantData) (points : Crosspoints) (switch : ℕ) → IsCut plant points switch → is_switch_on plant points switch ≡ false
+cut_off : (plant : PlantData) (points : Crosspoints) (switch : ℕ) → IsSwitchCut plant points switch → is_switch_on plant points switch ≡ false
 cut_off plant points switch cut = by (source_of points switch) cut
   where
     by : (found : Option ℕ) → MatchOption found Unit (λ source. source_number_of plant source ≡ Some 0) → option_map_or (λ number. not (number == 0)) (option_and_then (source_number_of plant) found) false ≡ false

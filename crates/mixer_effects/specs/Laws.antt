@@ -58,8 +58,8 @@ CutIsDark plant crosspoints roots = (is_among : ℕ → Bool) (source : ℕ)
     → is_seen plant crosspoints roots source ≡ false
 
 -- A switch is cut where it is parked or carries source 0 of its level.
-abbrev pub IsCut : PlantData → Crosspoints → ℕ → Type 0
-IsCut plant crosspoints switch =
+abbrev pub IsSwitchCut : PlantData → Crosspoints → ℕ → Type 0
+IsSwitchCut plant crosspoints switch =
     MatchOption (source_of crosspoints switch) Unit
     (λ source. source_number_of plant source ≡ Some 0)
 
@@ -71,5 +71,5 @@ IsNoRoot roots dest = (place : ℕ) → slice_get roots place ≢ Some dest
 abbrev pub SwitchesCut : PlantData → Crosspoints → List ℕ → Type 0
 SwitchesCut plant crosspoints roots = (place switch : ℕ) (bus : Bus)
     → slice_get plant.buses place ≡ Some bus → bus.switch ≡ Some switch
-    → IsCut plant crosspoints switch → IsNoRoot roots bus.dest
+    → IsSwitchCut plant crosspoints switch → IsNoRoot roots bus.dest
     → is_live plant crosspoints roots bus.dest ≡ false

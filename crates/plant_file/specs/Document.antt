@@ -20,7 +20,8 @@ abbrev pub entries_found : Form → Members → Option Data → List Members
 entries_found Document document found = document ∷ []
 entries_found OneTable document (Some (table entry)) = entry ∷ []
 entries_found OneTable document found = no_members ∷ []
-entries_found (Entries least most) document (Some (array items)) = filter_map as_table (values items)
+entries_found (Entries least most) document (Some (array items)) =
+    filter_map as_table (values items)
 entries_found (Entries least most) document found = []
 
 -- the entries of a section of a document

@@ -133,7 +133,8 @@ data_of document = record {
   devices = map device_entry (section_entries device_keys document);
   buses = map bus_entry (section_entries bus_keys document);
   air = map (root_entry sections.Air) (section_entries (root_keys sections.Air) document);
-  preview = map (root_entry sections.Preview) (section_entries (root_keys sections.Preview) document);
+  preview = map (root_entry sections.Preview)
+      (section_entries (root_keys sections.Preview) document);
   displays = map display_entry (section_entries display_keys document);
   panels = map panel_entry (section_entries panel_keys document);
 }

@@ -202,7 +202,8 @@ pub record CommandStops {T : Type 0} (command : Command) (before now : World)
   pub comes : ComesTo result end before.written now.written
   pub fault : is_file_fault end ≡ stopped_by_files result
   pub file_faults : now.file_faults ≡ count_after (stopped_by_files result) before.file_faults
-  pub output_faults : now.output_faults ≡ count_after (stopped_by_output result) before.output_faults
+  pub output_faults : now.output_faults
+      ≡ count_after (stopped_by_output result) before.output_faults
 
 -- A run came to its report.
 pub record RunStops {T : Type 0} (words : List (List ℕ)) (before now : World)
@@ -212,4 +213,5 @@ pub record RunStops {T : Type 0} (words : List (List ℕ)) (before now : World)
   pub comes : ComesTo result end before.written now.written
   pub fault : is_file_fault end ≡ stopped_by_files result
   pub file_faults : now.file_faults ≡ count_after (stopped_by_files result) before.file_faults
-  pub output_faults : now.output_faults ≡ count_after (stopped_by_output result) before.output_faults
+  pub output_faults : now.output_faults
+      ≡ count_after (stopped_by_output result) before.output_faults

@@ -2,7 +2,8 @@
 //! and how their bytes are read.
 
 ghost use Rattle.std.specs.Prelude.{◌≡◌, map};
-ghost use Rattle.swp08_messages.specs.Row.{source_names_ask, source_name_ask, dest_names_ask, dest_name_ask};
+ghost use Rattle.swp08_messages.specs.Row.{source_names_ask, source_name_ask};
+ghost use Rattle.swp08_messages.specs.Row.{dest_names_ask, dest_name_ask};
 ghost use Rattle.swp08_messages.specs.ReadingInside.{names_message, wide_in};
 
 use crate::behind::{byte_at, level_in, matrix_in};

@@ -4,8 +4,8 @@ ghost use Rattle.std.specs.Prelude.{◌≡◌};
 ghost use Rattle.toml.specs.View.{table_view};
 ghost use Rattle.plant_file.specs.Format.{remote_keys, pool_keys, device_keys, bus_keys};
 ghost use Rattle.plant_file.specs.Format.{root_keys, display_keys, panel_keys};
-ghost use Rattle.plant_file.specs.Reading.{remote_entry, pool_entry, device_entry, switch_entry, bus_entry};
-ghost use Rattle.plant_file.specs.Reading.{root_entry, display_entry, panel_entry};
+ghost use Rattle.plant_file.specs.Reading.{remote_entry, pool_entry, device_entry, switch_entry};
+ghost use Rattle.plant_file.specs.Reading.{bus_entry, root_entry, display_entry, panel_entry};
 ghost use Rattle.plant_file.specs.ReadingInside.{keys_at, keys_answer, entry_answer, switch_keys};
 ghost use Rattle.plant_file.specs.ReadingInside.{present_switch_keys, switch_in};
 
@@ -60,8 +60,8 @@ pub(crate) fn read_device(entry: &Entry) -> Result<DeviceEntry, PlantFault>
 // A bus's switch, where its matrix is there.
 #[tactic(auto, using(crate::proofs::ReadingInside::keys))]
 fn read_present_switch(entry: &Entry) -> Result<SwitchEntry, PlantFault>
-    ensures { result ≡ keys_answer (switch_entry (table_view entry.now.table.now)) entry.now.section
-        entry.now.number (table_view entry.now.table.now) present_switch_keys }
+    ensures { result ≡ keys_answer (switch_entry (table_view entry.now.table.now))
+        entry.now.section entry.now.number (table_view entry.now.table.now) present_switch_keys }
 {
     Ok(SwitchEntry {
         matrix: entry.number(Field::SwitchMatrix, 0, 15)? as u8,

@@ -3,8 +3,8 @@
 ghost use Rattle.std.specs.Prelude.{refl};
 ghost use Rattle.plant_file.specs.Format.{remote_keys, pool_keys, device_keys, bus_keys};
 ghost use Rattle.plant_file.specs.Format.{root_keys, display_keys, panel_keys};
-ghost use Rattle.plant_file.specs.Reading.{remote_entry, pool_entry, device_entry, bus_entry, root_entry};
-ghost use Rattle.plant_file.specs.Reading.{display_entry, panel_entry};
+ghost use Rattle.plant_file.specs.Reading.{remote_entry, pool_entry, device_entry, bus_entry};
+ghost use Rattle.plant_file.specs.Reading.{root_entry, display_entry, panel_entry};
 ghost use Rattle.plant_file.specs.ReadingInside.{keys_at};
 
 use crate::entries::{
