@@ -11,3 +11,5 @@ mod of_panel_session;
 mod of_record_replay;
 #[cfg(test)]
 mod of_trace_audit;
+#[cfg(test)]
+mod studio;

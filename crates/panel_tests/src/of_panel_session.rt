@@ -55,6 +55,18 @@ fn bytes_of(alloc: Global, text: &str) -> Result<Vec<u8>, Fail> {
     Ok(hex::decode(alloc, &digits)?)
 }
 
+// Whether the session of a line's panel is sent what the line says.
+fn is_sent(
+    alloc: Global,
+    session: &mut Session<'_>,
+    board: &mut Board,
+    line: &Line,
+) -> Result<bool, Fail> {
+    let (_, told, wanted) = line;
+    let sent = turn(alloc, session, board, &bytes_of(alloc, told)?)?;
+    Ok(sent.as_slice() == bytes_of(alloc, wanted)?.as_slice())
+}
+
 // Plays lines in one turn each on a new board, and answers the place of the first that was sent something else.
 fn play(alloc: Global, plant: &Plant, names: &Names, lines: &[Line]) -> Result<Option<usize>, Fail>
     requires panels { 2 ≤ length plant.now.panels }
@@ -63,14 +75,13 @@ fn play(alloc: Global, plant: &Plant, names: &Names, lines: &[Line]) -> Result<O
     let mut first = Session::start(alloc, plant, names, PanelNo::of(0))?;
     let mut second = Session::start(alloc, plant, names, PanelNo::of(1))?;
     let mut board = Board::new();
-    for (at, (panel, told, wanted)) in lines.iter().enumerate() {
-        let piece = bytes_of(alloc, told)?;
-        let sent = if *panel == 0 {
-            turn(alloc, &mut first, &mut board, &piece)?
+    for (at, line) in lines.iter().enumerate() {
+        let as_told = if line.0 == 0 {
+            is_sent(alloc, &mut first, &mut board, line)?
         } else {
-            turn(alloc, &mut second, &mut board, &piece)?
+            is_sent(alloc, &mut second, &mut board, line)?
         };
-        if sent.as_slice() != bytes_of(alloc, wanted)?.as_slice() {
+        if !as_told {
             return Ok(Some(at));
         }
     }

@@ -1,5 +1,6 @@
 //! Scripts, and what they give.
 
+use crate::studio::STUDIO;
 use ctl_io::MemSink;
 use plant_config::Plant;
 use plant_names::Names;
@@ -7,68 +8,6 @@ use record_replay::{ReplayFault, replay_script};
 use std::alloc::Global;
 use std::process::Abort;
 use std::test::Fail;
-
-// A studio with two mixers, one bus of which has a switch, and two displays.
-const STUDIO: &[u8] = br#"
-title = "Studio"
-[[level]]
-matrix = 0
-level = 0
-sources = 24
-destinations = 32
-source_names = ["BLACK", "CAM1", "CAM2", "CAM3"]
-[[level]]
-matrix = 0
-level = 1
-sources = 2
-destinations = 4
-[[device]]
-name = "ME1"
-matrix = 0
-source = 20
-[[device]]
-name = "ME2"
-matrix = 0
-source = 21
-[[bus]]
-device = "ME1"
-matrix = 0
-destination = 10
-[[bus]]
-device = "ME1"
-matrix = 0
-destination = 11
-switch_matrix = 0
-switch_level = 1
-switch_destination = 0
-[[bus]]
-device = "ME2"
-matrix = 0
-destination = 12
-[[air]]
-matrix = 0
-destination = 0
-[[preview]]
-matrix = 0
-destination = 1
-[[display]]
-screen = 0
-index = 1
-matrix = 0
-destination = 2
-[[display]]
-screen = 0
-index = 2
-matrix = 0
-destination = 3
-[[panel]]
-device = 1
-port = 9001
-[[panel]]
-device = 2
-port = 9002
-master = true
-"#;
 
 // A plant with a name that has spaces, and with another of no letter.
 const PLANT: &[u8] = br#"

@@ -218,21 +218,16 @@ fn fill(rt: &impl Abort, state: &mut PlantState, out: &mut OutBox<Answer>, count
     }
 }
 
-#[test]
-fn a_wide_plant_fills_a_group_and_a_dump(rt: HostRuntime) -> Result<(), Fail> {
-    let plant = Plant::from_toml(rt.alloc(), WIDE)?;
-    let mut state = PlantState::start(rt.alloc(), &plant)?;
-    assert_eq!(rt; state.room(), 257);
-    let mut out = OutBox::new(rt.alloc(), state.room())?;
-    fill(&rt, &mut state, &mut out, 256);
-    are_answered(&rt, &mut state, &mut out, &rows::FULL);
-
+// A dump of the wide plant tells all its destinations.
+fn is_dumped(rt: &impl Abort, state: &mut PlantState, out: &mut OutBox<Answer>)
+    requires { room_of state.old.plant ≤ out.old.places }
+{
     let at = Point {
         matrix: 0,
         level: 0,
         dest: 0,
     };
-    ask(&rt, &mut state, &mut out, &request_of(0, at, Act::Dumps));
+    ask(rt, state, out, &request_of(0, at, Act::Dumps));
     assert_eq!(rt; out.items().len(), 257);
     let last = Answer::Dumped {
         matrix: 0,
@@ -241,5 +236,16 @@ fn a_wide_plant_fills_a_group_and_a_dump(rt: HostRuntime) -> Result<(), Fail> {
         source: None,
     };
     assert_eq!(rt; out.items().last(), Some(&last));
+}
+
+#[test]
+fn a_wide_plant_fills_a_group_and_a_dump(rt: HostRuntime) -> Result<(), Fail> {
+    let plant = Plant::from_toml(rt.alloc(), WIDE)?;
+    let mut state = PlantState::start(rt.alloc(), &plant)?;
+    assert_eq!(rt; state.room(), 257);
+    let mut out = OutBox::new(rt.alloc(), state.room())?;
+    fill(&rt, &mut state, &mut out, 256);
+    are_answered(&rt, &mut state, &mut out, &rows::FULL);
+    is_dumped(&rt, &mut state, &mut out);
     Ok(())
 }

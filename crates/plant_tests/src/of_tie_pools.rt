@@ -1,6 +1,6 @@
 //! Tests of what no clause says: that calls succeed, and that the clauses say what was meant.
 
-ghost use Rattle.std.specs.Prelude.{◌≡◌};
+ghost use Rattle.std.specs.Prelude.{◌≡◌, ◌<◌};
 ghost use Rattle.plant_config.specs.Plant.{destinations_of};
 ghost use Rattle.crosspoint_state.specs.Crosspoints.{NamesOnce};
 ghost use Rattle.crosspoint_state.specs.Ties.{HaveValidTies};
@@ -9,6 +9,7 @@ ghost use Rattle.tie_pools.specs.Counts.{AreCountsOf};
 
 use crosspoint_state::{Crosspoints, Spot, ties_stay_valid};
 use plant_config::{Change, DestId, Plant, PoolId, SourceId, TieNo};
+use std::process::Abort;
 use std::test::Fail;
 use tie_pools::{Exhausted, Ties};
 
@@ -59,15 +60,15 @@ fn take_all(
     Ok(())
 }
 
-#[test]
-fn a_tie_goes_to_another_origin_with_all_its_destinations(rt: HostRuntime) -> Result<(), Fail> {
-    let plant = Plant::from_toml(rt.alloc(), PLANT)?;
-    let mut points = Crosspoints::new(rt.alloc(), plant.destination_count())?;
-    let mut ties = Ties::new(rt.alloc(), &plant)?;
-    ties_stay_valid();
-    assert!(rt; 2 < plant.destination_count());
+// Both destinations carry the camera, neither goes over to the replay alone, and both do at once.
+fn both_go_over(rt: &impl Abort, plant: &Plant, ties: &mut Ties, points: &mut Crosspoints)
+    requires dests { 2 < destinations_of plant.now }
+    requires room { points.old.room ≡ destinations_of plant.now }
+    requires counts { AreCountsOf plant.now points.old.entries ties.old }
+    requires valid { HaveValidTies plant.now points.old.entries }
+{
     let camera = [change(1, 2), change(2, 2)];
-    let taken = take_all(&plant, &mut ties, &mut points, &camera);
+    let taken = take_all(plant, ties, points, &camera);
     assert_eq!(rt; taken, Ok(()));
 
     let refused = Err(Exhausted {
@@ -75,13 +76,23 @@ fn a_tie_goes_to_another_origin_with_all_its_destinations(rt: HostRuntime) -> Re
         wanted: 2,
         size: 1,
     });
-    let first_alone = take_all(&plant, &mut ties, &mut points, &[change(1, 3)]);
+    let first_alone = take_all(plant, ties, points, &[change(1, 3)]);
     assert_eq!(rt; first_alone, refused);
-    let second_alone = take_all(&plant, &mut ties, &mut points, &[change(2, 3)]);
+    let second_alone = take_all(plant, ties, points, &[change(2, 3)]);
     assert_eq!(rt; second_alone, refused);
     let replay = [change(1, 3), change(2, 3)];
-    let both = take_all(&plant, &mut ties, &mut points, &replay);
+    let both = take_all(plant, ties, points, &replay);
     assert_eq!(rt; both, Ok(()));
+}
+
+#[test]
+fn a_tie_goes_to_another_origin_with_all_its_destinations(rt: HostRuntime) -> Result<(), Fail> {
+    let plant = Plant::from_toml(rt.alloc(), PLANT)?;
+    let mut points = Crosspoints::new(rt.alloc(), plant.destination_count())?;
+    let mut ties = Ties::new(rt.alloc(), &plant)?;
+    ties_stay_valid();
+    assert!(rt; 2 < plant.destination_count());
+    both_go_over(&rt, &plant, &mut ties, &mut points);
     let spot = Some(Spot {
         source: SourceId::of(3),
         tie: Some(TieNo::of(0)),

@@ -1,6 +1,6 @@
 //! A lock round a counter, in one thread and in two, and the laws at it.
 
-ghost use Rattle.std.specs.Prelude.{◌≡◌, ◌+◌, ◌%◌, ◌^◌, [], ◌∷◌, IfOk};
+ghost use Rattle.std.specs.Prelude.{◌≡◌, ◌≤◌, ◌+◌, ◌%◌, ◌^◌, [], ◌∷◌, IfOk};
 
 use history_lock::{
     Closed, HistoryLock, Machine, OutBox, Seat, fronts_are_legal, requests_fix_answers,
@@ -8,6 +8,7 @@ use history_lock::{
 };
 use std::alloc::{AllocError, Global};
 use std::hint::spin_loop;
+use std::process::Abort;
 use std::sync::Wait;
 use std::test::Fail;
 use std::thread::{Threads, join};
@@ -94,20 +95,39 @@ fn closed(
     Ok(lock.close(seats))
 }
 
+/// Both seats of a new lock call, the first one tries, and the second then sees what the first has seen.
+fn are_answered<R: Wait + Abort>(
+    rt: &R,
+    lock: &HistoryLock<Counter>,
+    first: &mut Seat<Counter>,
+    second: &mut Seat<Counter>,
+    out: &mut OutBox<u64>,
+)
+    requires first { first.old.lock ≡ lock.now.id }
+    requires second { second.old.lock ≡ lock.now.id }
+    requires empty { out.old.items ≡ [] }
+    requires places { 1 ≤ out.old.places }
+    ensures first { (first.new.lock ≡ first.old.lock) × (first.new.number ≡ first.old.number) }
+    ensures second { (second.new.lock ≡ second.old.lock)
+        × (second.new.number ≡ second.old.number) }
+{
+    assert_eq!(rt; lock.call(rt, first, &(), out), Ok(0));
+    assert_eq!(rt; out.items(), [0].as_slice());
+    out.clear();
+    assert_eq!(rt; lock.call(rt, second, &(), out), Ok(1));
+    out.clear();
+    assert_eq!(rt; lock.try_call(first, &(), out), Ok(2));
+    assert_eq!(rt; out.items(), [2].as_slice());
+    let note = lock.note(first);
+    lock.meet(second, note);
+}
+
 #[test]
 fn two_seats_call_and_try(rt: HostRuntime) -> Result<(), Fail> {
     let (lock, mut first, mut second) = counted(rt.alloc(), 0)?;
     let mut out = OutBox::new(rt.alloc(), lock.room())?;
     assert_eq!(rt; lock.seats(), 2);
-    assert_eq!(rt; lock.call(&rt, &mut first, &(), &mut out), Ok(0));
-    assert_eq!(rt; out.items(), [0].as_slice());
-    out.clear();
-    assert_eq!(rt; lock.call(&rt, &mut second, &(), &mut out), Ok(1));
-    out.clear();
-    assert_eq!(rt; lock.try_call(&mut first, &(), &mut out), Ok(2));
-    assert_eq!(rt; out.items(), [2].as_slice());
-    let note = lock.note(&mut first);
-    lock.meet(&mut second, note);
+    are_answered(&rt, &lock, &mut first, &mut second, &mut out);
     let Closed {
         machine,
         entries,

@@ -1,4 +1,4 @@
-//! Uses of `panel_session`: an interrogate, and the plant's answer; the line of a trace that tells both.
+//! Uses of `panel_session`: an interrogate, and the plant's answer; the line of a trace that tells both, and that of a leave.
 
 ghost use Rattle.std.specs.Prelude.{◌≡◌, [], ◌∷◌, IfOk};
 
@@ -8,6 +8,7 @@ use plant_config::{PanelNo, Plant};
 use plant_core::{Answer, Request};
 use plant_names::Names;
 use std::alloc::{AllocError, Global};
+use std::process::Abort;
 use std::test::Fail;
 use swp08_messages::{Message, Point};
 
@@ -15,26 +16,23 @@ const INTERROGATE: &[u8] = b"\x10\x02\x01\x00\x00\x05\x04\xF6\x10\x03";
 
 const TALLY: &[u8] = b"\x10\x02\x03\x00\x07\x05\x7F\x05\x6D\x10\x03";
 
-#[test]
-fn an_interrogate_is_answered(rt: HostRuntime) -> Result<(), Fail> {
-    let alloc = rt.alloc();
-    let plant = Plant::bench(alloc)?;
-    let names = Names::new(alloc, &plant)?;
-    let panel = PanelNo::of(0);
+// An interrogate is answered by ACK, and by the tally that the plant answers.
+fn an_interrogate_is_told(
+    rt: &impl Abort,
+    alloc: Global,
+    session: &mut Session<'_>,
+) -> Result<(), AllocError> {
     let at = Point {
         matrix: 0,
         level: 0,
         dest: 5,
     };
-    let mut session = Session::start(alloc, &plant, &names, panel)?;
-
     assert_eq!(rt; session.act(INTERROGATE), (10, Act::Send));
     assert_eq!(rt; session.outgoing(), b"\x10\x06".as_slice());
-    let message = Message::Interrogate { at };
     let told = Request::Told {
-        panel,
+        panel: PanelNo::of(0),
         at: 0,
-        message,
+        message: Message::Interrogate { at },
     };
     assert_eq!(rt; session.act(&[]), (0, Act::Ask(told)));
     let tally = Message::Tally { at, source: None };
@@ -42,10 +40,17 @@ fn an_interrogate_is_answered(rt: HostRuntime) -> Result<(), Fail> {
     session.answered();
     assert_eq!(rt; session.act(&[]), (0, Act::Send));
     assert_eq!(rt; session.outgoing(), TALLY);
+    Ok(())
+}
 
-    // A poll without an answer ends the turn.
+// A poll without an answer ends the turn.
+fn the_turn_ends(
+    rt: &impl Abort,
+    alloc: Global,
+    session: &mut Session<'_>,
+) -> Result<(), AllocError> {
     let poll = Request::Poll {
-        panel,
+        panel: PanelNo::of(0),
         at: 1,
         turn: 0,
     };
@@ -56,12 +61,22 @@ fn an_interrogate_is_answered(rt: HostRuntime) -> Result<(), Fail> {
     Ok(())
 }
 
-// The line of the entry, and that of the panel's leave behind it.
+#[test]
+fn an_interrogate_is_answered(rt: HostRuntime) -> Result<(), Fail> {
+    let alloc = rt.alloc();
+    let plant = Plant::bench(alloc)?;
+    let names = Names::new(alloc, &plant)?;
+    let mut session = Session::start(alloc, &plant, &names, PanelNo::of(0))?;
+    an_interrogate_is_told(&rt, alloc, &mut session)?;
+    the_turn_ends(&rt, alloc, &mut session)?;
+    Ok(())
+}
+
+// The line of the entry.
 #[test]
 fn an_entry_has_its_line(rt: HostRuntime) -> Result<(), Fail> {
     let alloc = rt.alloc();
     let plant = Plant::bench(alloc)?;
-    let names = Names::new(alloc, &plant)?;
     let panel = PanelNo::of(0);
     let at = Point {
         matrix: 0,
@@ -79,8 +94,16 @@ fn an_entry_has_its_line(rt: HostRuntime) -> Result<(), Fail> {
     lines.append(&plant, 3, &told, &[tally], &mut trace);
     let line = b"3 told 0 0 01000005 = 1002030007057F056D1003\n";
     assert_eq!(rt; trace.as_slice(), line.as_slice());
+    Ok(())
+}
 
-    let mut session = Session::start(alloc, &plant, &names, panel)?;
+// The line of the panel's leave behind it.
+#[test]
+fn a_leave_has_its_line(rt: HostRuntime) -> Result<(), Fail> {
+    let alloc = rt.alloc();
+    let plant = Plant::bench(alloc)?;
+    let names = Names::new(alloc, &plant)?;
+    let mut session = Session::start(alloc, &plant, &names, PanelNo::of(0))?;
     assert_eq!(rt; session.leave_line(4), b"4 leave 0 = -\n".as_slice());
     Ok(())
 }

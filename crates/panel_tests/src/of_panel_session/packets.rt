@@ -1,39 +1,16 @@
-//! Packets of the displays of a studio.
+//! Packets of the two displays of the studio, of index 1 and 2 on screen 0.
 
 ghost use Rattle.std.specs.Prelude.{IfSome};
 ghost use Rattle.panel_session.specs.DisplayPacket.{MayShow};
 
 use super::bytes_of;
+use crate::studio::STUDIO;
 use change_boards::Value;
 use panel_session::display_packet;
 use plant_config::{DisplayId, Plant, SourceId};
 use plant_core::Answer;
 use std::alloc::{AllocError, Global};
 use std::test::Fail;
-
-// Two displays of screen 0, of index 1 and 2.
-const STUDIO: &[u8] = br#"
-title = "Studio"
-[[level]]
-matrix = 0
-level = 0
-sources = 24
-destinations = 32
-source_names = ["BLACK", "CAM1", "CAM2", "CAM3"]
-[[display]]
-screen = 0
-index = 1
-matrix = 0
-destination = 2
-[[display]]
-screen = 0
-index = 2
-matrix = 0
-destination = 3
-[[panel]]
-device = 1
-port = 9001
-"#;
 
 // A display and what it shows: the source, whether that is on air, and whether on preview.
 type Lamp = (u32, Option<u32>, bool, bool);

@@ -1,10 +1,31 @@
 //! One short use of `plant_core`.
 
+ghost use Rattle.std.specs.Prelude.{◌≤◌};
+ghost use Rattle.plant_core.specs.Answer.{room_of};
+
 use history_lock::{Machine, OutBox};
 use plant_config::{PanelNo, Plant};
 use plant_core::{Answer, PlantState, Request};
+use std::process::Abort;
 use std::test::Fail;
 use swp08_messages::{Message, Point};
+
+// The plant answers a request so.
+fn is_answered(
+    rt: &impl Abort,
+    state: &mut PlantState,
+    out: &mut OutBox<Answer>,
+    request: &Request,
+    answers: &[Answer],
+)
+    requires { room_of state.old.plant ≤ out.old.places }
+    ensures { room_of state.new.plant ≤ out.new.places }
+{
+    assert!(rt; state.fits(request));
+    out.clear();
+    state.step(request, out);
+    assert_eq!(rt; out.items(), answers);
+}
 
 #[test]
 fn one_panel_connects_and_another_hears_of_it(rt: HostRuntime) -> Result<(), Fail> {
@@ -17,26 +38,21 @@ fn one_panel_connects_and_another_hears_of_it(rt: HostRuntime) -> Result<(), Fai
         dest: 5,
     };
     let source = Some(3);
-    let made = Message::Connected { at, source };
+    let made = Answer::Say(Message::Connected { at, source });
 
     let connect = Request::Told {
         panel: PanelNo::of(1),
         at: 0,
         message: Message::Connect { at, source },
     };
-    state.step(&connect, &mut out);
-    assert_eq!(rt; out.items(), [Answer::Say(made)].as_slice());
+    is_answered(&rt, &mut state, &mut out, &connect, &[made]);
 
     let poll = Request::Poll {
         panel: PanelNo::of(0),
         at: 0,
         turn: 0,
     };
-    out.clear();
-    state.step(&poll, &mut out);
-    assert_eq!(rt; out.items(), [Answer::Say(made)].as_slice());
-    out.clear();
-    state.step(&poll, &mut out);
-    assert!(rt; out.items().is_empty());
+    is_answered(&rt, &mut state, &mut out, &poll, &[made]);
+    is_answered(&rt, &mut state, &mut out, &poll, &[]);
     Ok(())
 }

@@ -2,6 +2,7 @@
 
 use plant_file::PlantFile;
 use std::alloc::Global;
+use std::process::Abort;
 use std::test::Fail;
 
 const STUDIO: &str = r#"
@@ -25,18 +26,23 @@ fn refusal(alloc: Global, text: &[u8]) -> Result<String, Fail> {
     }
 }
 
+// It has the title and the names of the text, where the last source has no name.
+fn is_the_studio(rt: &impl Abort, file: &PlantFile) -> Result<(), Fail> {
+    assert_eq!(rt; file.title().as_str(), "Studio");
+    let level = file.levels().first().ok_or("a level")?;
+    for (name, want) in level.source_names().iter().zip(["BLACK", "CAM 1", "S2"]) {
+        assert_eq!(rt; name.as_bytes(), want.as_bytes());
+    }
+    Ok(())
+}
+
 #[test]
 fn a_text_is_read(rt: HostRuntime) -> Result<(), Fail> {
     let alloc = rt.alloc();
     let Ok(file) = PlantFile::read(alloc, STUDIO.as_bytes()) else {
         return Err(Fail::from("it has a fault"));
     };
-    assert_eq!(rt; file.title().as_str(), "Studio");
-    let level = file.levels().first().ok_or("a level")?;
-    // The last source has no name in the file.
-    for (name, want) in level.source_names().iter().zip(["BLACK", "CAM 1", "S2"]) {
-        assert_eq!(rt; name.as_bytes(), want.as_bytes());
-    }
+    is_the_studio(&rt, &file)?;
 
     let line = refusal(alloc, b"title = \"Studio\"\nlevel = 1")?;
     assert_eq!(rt; line.as_str(), "WrongType at level 0 entries");

@@ -7,6 +7,7 @@ ghost use Rattle.tie_pools.specs.Counts.{AreCountsOf};
 
 use crosspoint_state::{Crosspoints, Spot, ties_stay_valid};
 use plant_config::{Change, DestId, Plant, PoolId, SourceId, TieNo};
+use std::process::Abort;
 use std::test::Fail;
 use tie_pools::{Exhausted, Ties};
 
@@ -48,6 +49,40 @@ fn take(
     Ok(())
 }
 
+// Two sources share the tie, of which a third one gets it only when both are parked.
+fn share_a_tie(rt: &impl Abort, plant: &Plant, ties: &mut Ties, points: &mut Crosspoints)
+    requires dests { 2 < destinations_of plant.now }
+    requires room { points.old.room ≡ destinations_of plant.now }
+    requires counts { AreCountsOf plant.now points.old.entries ties.old }
+    requires valid { HaveValidTies plant.now points.old.entries }
+{
+    let (first, second) = (DestId::of(1), DestId::of(2));
+    let (camera, same_camera, replay) = (SourceId::of(2), SourceId::of(3), SourceId::of(4));
+    let over_the_tie = |source| Some(Spot {
+        source,
+        tie: Some(TieNo::of(0)),
+    });
+
+    let taken = take(plant, ties, points, first, Some(camera));
+    assert_eq!(rt; taken, Ok(()));
+    let refused = take(plant, ties, points, second, Some(replay));
+    let fault = Exhausted {
+        pool: PoolId::of(0),
+        wanted: 2,
+        size: 1,
+    };
+    assert_eq!(rt; refused, Err(fault));
+    let shared = take(plant, ties, points, second, Some(same_camera));
+    assert_eq!(rt; shared, Ok(()));
+    assert_eq!(rt; points.at(second), over_the_tie(same_camera));
+
+    assert_eq!(rt; take(plant, ties, points, first, None), Ok(()));
+    assert_eq!(rt; take(plant, ties, points, second, None), Ok(()));
+    let taken = take(plant, ties, points, second, Some(replay));
+    assert_eq!(rt; taken, Ok(()));
+    assert_eq!(rt; points.at(second), over_the_tie(replay));
+}
+
 #[test]
 fn one_origin_comes_by_one_tie(rt: HostRuntime) -> Result<(), Fail> {
     let plant = Plant::from_toml(rt.alloc(), PLANT)?;
@@ -56,30 +91,6 @@ fn one_origin_comes_by_one_tie(rt: HostRuntime) -> Result<(), Fail> {
     // The ties are valid where nothing is carried.
     ties_stay_valid();
     assert!(rt; 2 < plant.destination_count());
-    let (first, second) = (DestId::of(1), DestId::of(2));
-    let (camera, same_camera, replay) = (SourceId::of(2), SourceId::of(3), SourceId::of(4));
-    let over_the_tie = |source| Some(Spot {
-        source,
-        tie: Some(TieNo::of(0)),
-    });
-
-    let taken = take(&plant, &mut ties, &mut points, first, Some(camera));
-    assert_eq!(rt; taken, Ok(()));
-    let refused = take(&plant, &mut ties, &mut points, second, Some(replay));
-    let fault = Exhausted {
-        pool: PoolId::of(0),
-        wanted: 2,
-        size: 1,
-    };
-    assert_eq!(rt; refused, Err(fault));
-    let shared = take(&plant, &mut ties, &mut points, second, Some(same_camera));
-    assert_eq!(rt; shared, Ok(()));
-    assert_eq!(rt; points.at(second), over_the_tie(same_camera));
-
-    assert_eq!(rt; take(&plant, &mut ties, &mut points, first, None), Ok(()));
-    assert_eq!(rt; take(&plant, &mut ties, &mut points, second, None), Ok(()));
-    let taken = take(&plant, &mut ties, &mut points, second, Some(replay));
-    assert_eq!(rt; taken, Ok(()));
-    assert_eq!(rt; points.at(second), over_the_tie(replay));
+    share_a_tie(&rt, &plant, &mut ties, &mut points);
     Ok(())
 }

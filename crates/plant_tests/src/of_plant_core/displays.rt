@@ -179,6 +179,20 @@ fn are_told(rt: &impl Abort, state: &mut PlantState, out: &mut OutBox<Answer>)
     }
 }
 
+// Nothing differs any more, and when both panels have left, all is finished.
+fn are_finished(rt: &impl Abort, state: &mut PlantState, out: &mut OutBox<Answer>)
+    requires { room_of state.old.plant ≤ out.old.places }
+{
+    for panel in 0..2 {
+        let panel = PanelNo::of(panel);
+        ask(rt, state, out, &shows(false));
+        assert!(rt; out.items().is_empty());
+        ask(rt, state, out, &Request::Leave { panel });
+    }
+    ask(rt, state, out, &shows(false));
+    assert_eq!(rt; out.items(), [Answer::Finished].as_slice());
+}
+
 #[test]
 fn displays_are_told_until_all_is_finished(rt: HostRuntime) -> Result<(), Fail> {
     let plant = Plant::from_toml(rt.alloc(), STUDIO.as_bytes())?;
@@ -187,14 +201,7 @@ fn displays_are_told_until_all_is_finished(rt: HostRuntime) -> Result<(), Fail> 
     are_told(&rt, &mut state, &mut out);
     assert!(rt; state.is_live(Roots::Air, DestId::of(12)));
     assert!(rt; !state.is_live(Roots::Preview, DestId::of(12)));
-    for panel in 0..2 {
-        let panel = PanelNo::of(panel);
-        ask(&rt, &mut state, &mut out, &shows(false));
-        assert!(rt; out.items().is_empty());
-        ask(&rt, &mut state, &mut out, &Request::Leave { panel });
-    }
-    ask(&rt, &mut state, &mut out, &shows(false));
-    assert_eq!(rt; out.items(), [Answer::Finished].as_slice());
+    are_finished(&rt, &mut state, &mut out);
     Ok(())
 }
 
@@ -214,14 +221,21 @@ fn many(alloc: Global) -> Result<Plant, Fail> {
     Ok(Plant::from_toml(alloc, text.as_bytes())?)
 }
 
+// Polls tell the displays of a plant of 70: 64, the others, none, and again 64 where all are told anew.
+fn are_counted(rt: &impl Abort, state: &mut PlantState, out: &mut OutBox<Answer>)
+    requires { room_of state.old.plant ≤ out.old.places }
+{
+    for (refresh, count) in [(false, 64), (false, 6), (false, 0), (true, 64)] {
+        ask(rt, state, out, &shows(refresh));
+        assert_eq!(rt; out.items().len(), count);
+    }
+}
+
 #[test]
 fn a_poll_tells_64_displays_at_most(rt: HostRuntime) -> Result<(), Fail> {
     let plant = many(rt.alloc())?;
     let mut state = PlantState::start(rt.alloc(), &plant)?;
     let mut out = OutBox::new(rt.alloc(), state.room())?;
-    for (refresh, count) in [(false, 64), (false, 6), (false, 0), (true, 64)] {
-        ask(&rt, &mut state, &mut out, &shows(refresh));
-        assert_eq!(rt; out.items().len(), count);
-    }
+    are_counted(&rt, &mut state, &mut out);
     Ok(())
 }

@@ -156,19 +156,30 @@ fn carries_the_last(rt: &impl Abort, state: &PlantState) {
     }
 }
 
+// What a lock round the plant is closed with after the turns of both. False where a request didn't fit, or wasn't answered.
+fn after_turns<R: Threads + Wait + Sync>(
+    rt: &R,
+    alloc: Global,
+    plant: &Plant,
+) -> Result<(Closed<PlantState>, bool), AllocError> {
+    let fresh = PlantState::start(alloc, plant)?;
+    let (lock, zero, one) = locked(alloc, PlantState::start(alloc, plant)?)?;
+    let ((zero, all_of_zero), (one, all_of_one)) = both(rt, alloc, &lock, &fresh, zero, one);
+    let end = closed(alloc, lock, zero, one)?;
+    Ok((end, all_of_zero && all_of_one))
+}
+
 #[test]
 fn two_threads_connect_and_poll(rt: HostRuntime) -> Result<(), Fail> {
     let alloc = rt.alloc();
     let plant = Plant::bench(alloc)?;
-    let fresh = PlantState::start(alloc, &plant)?;
-    let (lock, zero, one) = locked(alloc, PlantState::start(alloc, &plant)?)?;
-    let ((zero, all_of_zero), (one, all_of_one)) = both(&rt, alloc, &lock, &fresh, zero, one);
-    assert!(rt; all_of_zero && all_of_one);
+    let (end, all) = after_turns(&rt, alloc, &plant)?;
     let Closed {
         machine,
         entries,
         past: _,
-    } = closed(alloc, lock, zero, one)?;
+    } = end;
+    assert!(rt; all);
     assert_eq!(rt; entries, 832);
     carries_the_last(&rt, &machine);
     Ok(())

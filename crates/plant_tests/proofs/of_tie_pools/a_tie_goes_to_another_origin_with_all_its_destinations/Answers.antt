@@ -1,18 +1,4 @@
-use Rattle.std.proofs.Common.{arith}
-use Rattle.crosspoint_state.proofs.ChangeLists.{IsDistinct-one, IsDistinct-two}
 use Rattle.plant_tests.proofs.of_tie_pools.a_tie_goes_to_another_origin_with_all_its_destinations.Goals as goal
 
-pub take_all-taken-requires-clause-once : goal.take_all-taken-requires-clause-once
-take_all-taken-requires-clause-once g c = IsDistinct-two _ _ (λ e. omega (arith, c.change.ensures, c.change-2.ensures, e))
-
-pub take_all-taken-requires-clause-valid : goal.take_all-taken-requires-clause-valid
-take_all-taken-requires-clause-valid g c = rw c.in_ok-points.ensures.parked (c.ties_stay_valid.ensures.none _)
-
-pub take_all-first_alone-requires-clause-once : goal.take_all-first_alone-requires-clause-once
-take_all-first_alone-requires-clause-once g c = IsDistinct-one _
-
-pub take_all-second_alone-requires-clause-once : goal.take_all-second_alone-requires-clause-once
-take_all-second_alone-requires-clause-once g c = IsDistinct-one _
-
-pub take_all-both-requires-clause-once : goal.take_all-both-requires-clause-once
-take_all-both-requires-clause-once g c = IsDistinct-two _ _ (λ e. omega (arith, c.change-5.ensures, c.change-6.ensures, e))
+pub both_go_over-requires-clause-valid : goal.both_go_over-requires-clause-valid
+both_go_over-requires-clause-valid g c = rw c.in_ok-points.ensures.parked (c.ties_stay_valid.ensures.none _)
