@@ -17,13 +17,13 @@ use Rattle.plant_core.specs.declared.request.Request.TheVariants.{Poll}
 use Rattle.panel_session.specs.declared.asked.Asked.{Asked}
 use Rattle.panel_session.specs.declared.asked.Asked.TheVariants.{Nothing, Repeat, Refused, Noted, Named, Sent}
 use Rattle.panel_session.specs.declared.session.Session.{Session}
-use Rattle.panel_session.specs.declared.stage.Stage.{Stage}
-use Rattle.panel_session.specs.declared.stage.Stage.TheVariants.{Read, Poll as PollStage, End}
+use Rattle.panel_session.specs.declared.phase.Phase.{Phase}
+use Rattle.panel_session.specs.declared.phase.Phase.TheVariants.{Read, Poll as PollStage, End}
 use Rattle.panel_session.specs.Asked.{Asks}
 use Rattle.panel_session.specs.AskedInside.{FoundAsks, MayAsk}
 use Rattle.panel_session.specs.Counted.{goods_of, bads_of}
-use Rattle.panel_session.specs.SoFar.{Past, read_so_far, with_bytes, with_sent, with_entry, with_turn, nothing_yet, IsOver, IsSoFar}
-use Rattle.panel_session.specs.TakenInside.{taken_stage, sent_by}
+use Rattle.panel_session.specs.SoFar.{Progress, read_so_far, with_bytes, with_sent, with_entry, with_turn, nothing_yet, IsOver, IsSoFar}
+use Rattle.panel_session.specs.TakenInside.{taken_phase, sent_by}
 use Rattle.panel_session.specs.Text.{frames_of, with_frames, nothing_sent}
 use Rattle.panel_session.specs.StandsInside.{Kept, Keeps, IsAtStage}
 use Rattle.panel_session.specs.Session.{Stands, kept_of}
@@ -33,22 +33,22 @@ use Rattle.panel_session.specs.MovesInside.{next, took, took_answers, ended_turn
 use Rattle.panel_session.proofs.KeptTurnLemmas.{keeps_so_far, keeps_polled_more, keeps_turn, keeps_nothing, keeps_text, turn_over, bytes_of-append}
 use Rattle.panel_session.proofs.KeptItemLemmas.{reading, read-more}
 use Rattle.panel_session.proofs.KeepsLemmas.{keeps_polled_last}
-use Rattle.panel_session.proofs.StandsLemmas.{next-small, fewer_items, stage-is, kept_same, at_stage, stands_item, stands_none, stands_with}
+use Rattle.panel_session.proofs.StandsLemmas.{next-small, fewer_items, phase-is, kept_same, at_phase, stands_item, stands_none, stands_with}
 
 -- The plant answered the last poll of a turn.
-pub stands_polled_last : (plant : PlantData) (panel seat : ℕ) (session : Session) (past : Past) (polls : ℕ) (answers : List Answer) (unsent : Bool) → Stands plant panel session past
-    → session.stage ≡ PollStage → session.unsent ≡ false → (unsent ≡ false → (with_frames (frames_of answers) (emptied session.sender.output)).bytes ≡ [])
+pub stands_polled_last : (plant : PlantData) (panel seat : ℕ) (session : Session) (past : Progress) (polls : ℕ) (answers : List Answer) (unsent : Bool) → Stands plant panel session past
+    → session.phase ≡ PollStage → session.unsent ≡ false → (unsent ≡ false → (with_frames (frames_of answers) (emptied session.sender.output)).bytes ≡ [])
     → (unsent ≡ true → (with_frames (frames_of answers) (emptied session.sender.output)).bytes ≢ [])
     → polls ≡ session.polls + 1 → (answers ≡ []) ⊎ (polls ≡ 32)
-    → Stands plant panel (took_answers answers unsent (record session { stage = End; polls = polls }))
+    → Stands plant panel (took_answers answers unsent (record session { phase = End; polls = polls }))
     (with_entry (record { seat = seat; request = Poll session.panel session.items session.counts.turns; answers = answers }) past)
 stands_polled_last plant panel seat session past polls answers unsent stands poll none empty some is last =
     let KeepsOf : Kept → Type 0 = λ kept. Keeps plant kept past in
-    let k = subst KeepsOf (at_stage session PollStage poll none) stands.keeps in
+    let k = subst KeepsOf (at_phase session PollStage poll none) stands.keeps in
     let later = with_entry (record { seat = seat; request = Poll session.panel session.items session.counts.turns; answers = answers }) past in
     let KeepsAt : ℕ → Type 0 = λ polls. Keeps plant (record {
       panel = session.panel;
-      stage = End;
+      phase = End;
       items = session.items;
       turns = session.counts.turns;
       polls = polls;
@@ -56,49 +56,49 @@ stands_polled_last plant panel seat session past polls answers unsent stands pol
       unsent = unsent;
     }) later in
     let full : (answers ≡ []) ⊎ (session.polls + 1 ≡ 32) = elim last [ (inl none) ↦ inl none | (inr full) ↦ inr (sym is ∙ full) ] in
-    stands_with plant panel session (took_answers answers unsent (record session { stage = End; polls = polls })) past later stands refl refl refl refl refl refl refl refl
+    stands_with plant panel session (took_answers answers unsent (record session { phase = End; polls = polls })) past later stands refl refl refl refl refl refl refl refl
     (subst KeepsAt (sym is) (keeps_polled_last plant session.panel session.items session.counts.turns session.polls seat session.sender.output past answers unsent k empty full))
     some
 
 -- It answered another.
-pub stands_polled_more : (plant : PlantData) (panel seat : ℕ) (session : Session) (past : Past) (polls : ℕ) (answers : List Answer) (unsent : Bool) → Stands plant panel session past
-    → session.stage ≡ PollStage → session.unsent ≡ false → (unsent ≡ false → (with_frames (frames_of answers) (emptied session.sender.output)).bytes ≡ [])
+pub stands_polled_more : (plant : PlantData) (panel seat : ℕ) (session : Session) (past : Progress) (polls : ℕ) (answers : List Answer) (unsent : Bool) → Stands plant panel session past
+    → session.phase ≡ PollStage → session.unsent ≡ false → (unsent ≡ false → (with_frames (frames_of answers) (emptied session.sender.output)).bytes ≡ [])
     → (unsent ≡ true → (with_frames (frames_of answers) (emptied session.sender.output)).bytes ≢ [])
     → polls ≡ session.polls + 1 → answers ≢ [] → polls ≢ 32
-    → Stands plant panel (took_answers answers unsent (record session { stage = PollStage; polls = polls }))
+    → Stands plant panel (took_answers answers unsent (record session { phase = PollStage; polls = polls }))
     (with_entry (record { seat = seat; request = Poll session.panel session.items session.counts.turns; answers = answers }) past)
 stands_polled_more plant panel seat session past polls answers unsent stands poll none empty some is one below =
     let KeepsOf : Kept → Type 0 = λ kept. Keeps plant kept past in
-    let k = subst KeepsOf (at_stage session PollStage poll none) stands.keeps in
+    let k = subst KeepsOf (at_phase session PollStage poll none) stands.keeps in
     let later = with_entry (record { seat = seat; request = Poll session.panel session.items session.counts.turns; answers = answers }) past in
     let KeepsAt : ℕ → Type 0 = λ polls. Keeps plant (record {
       panel = session.panel;
-      stage = PollStage;
+      phase = PollStage;
       items = session.items;
       turns = session.counts.turns;
       polls = polls;
       output = with_frames (frames_of answers) (emptied session.sender.output);
       unsent = unsent;
     }) later in
-    stands_with plant panel session (took_answers answers unsent (record session { stage = PollStage; polls = polls })) past later stands refl refl refl refl refl refl refl refl
+    stands_with plant panel session (took_answers answers unsent (record session { phase = PollStage; polls = polls })) past later stands refl refl refl refl refl refl refl refl
     (subst KeepsAt (sym is) (keeps_polled_more plant session.panel session.items session.counts.turns session.polls seat session.sender.output past answers unsent k empty one (λ full. below (is ∙ full))))
     some
 
 -- a session that polls has polled fewer than 32 times in the turn
-pub polls_below : (plant : PlantData) (panel : ℕ) (session : Session) (past : Past) → Stands plant panel session past → session.stage ≡ PollStage → session.polls < 32
+pub polls_below : (plant : PlantData) (panel : ℕ) (session : Session) (past : Progress) → Stands plant panel session past → session.phase ≡ PollStage → session.polls < 32
 polls_below plant panel session past stands poll =
     let k = stands.keeps in
     let at : IsAtStage PollStage session.panel (length (items (bytes_of past.turns))) k.before k.asked past =
-    (let P : Stage → Type 0 = λ stage. IsAtStage stage session.panel (length (items (bytes_of past.turns))) k.before k.asked past in subst P poll k.stage) in
+    (let P : Phase → Type 0 = λ phase. IsAtStage phase session.panel (length (items (bytes_of past.turns))) k.before k.asked past in subst P poll k.phase) in
     let are : session.polls ≡ length past.now.polls = k.polls_are in
     omega (arith, at.1.more)
 
 -- The turn is over.
-pub stands_turn : (plant : PlantData) (panel : ℕ) (session : Session) (past : Past) → Stands plant panel session past → session.stage ≡ End → session.unsent ≡ false → length past.turns < 2 ^ 62
+pub stands_turn : (plant : PlantData) (panel : ℕ) (session : Session) (past : Progress) → Stands plant panel session past → session.phase ≡ End → session.unsent ≡ false → length past.turns < 2 ^ 62
     → IsOver plant panel past × Stands plant panel (ended_turn session) (with_turn past)
 stands_turn plant panel session past stands over none small =
     let KeepsOf : Kept → Type 0 = λ kept. Keeps plant kept past in
-    let k = subst KeepsOf (at_stage session End over none) stands.keeps in
+    let k = subst KeepsOf (at_phase session End over none) stands.keeps in
     let KeepsThen : Kept → Type 0 = λ kept. Keeps plant kept (with_turn past) in
     let turns_are : session.counts.turns ≡ length past.turns = k.turns_are in
     let one_more : next session.counts.turns ≡ session.counts.turns + 1 = next-small session.counts.turns (omega arith) in
@@ -135,17 +135,17 @@ stands_new plant panel session plant_is names_are panel_is has_panel fed kept un
       places = places;
     }
 
-pub stands_so_far_lem : (plant : PlantData) (panel : ℕ) (session : Session) (past : Past) → Stands plant panel session past → IsSoFar plant panel past
+pub stands_so_far_lem : (plant : PlantData) (panel : ℕ) (session : Session) (past : Progress) → Stands plant panel session past → IsSoFar plant panel past
 stands_so_far_lem plant panel session past stands =
     let P : ℕ → Type 0 = λ panel. IsSoFar plant panel past in
     subst P stands.panel_is (keeps_so_far plant (kept_of session) past stands.keeps)
 
 -- No bytes more change nothing.
-pub no_bytes : (past : Past) → with_bytes [] past ≡ past
+pub no_bytes : (past : Progress) → with_bytes [] past ≡ past
 no_bytes past = ap (λ (piece : List ℕ). record past { now = record past.now { piece = piece } }) (append-nil past.now.piece)
 
 -- Bytes of a piece, and then bytes of its rest.
-pub bytes_on : (past : Past) (piece rest : List ℕ) (used more : ℕ) → rest ≡ drop used piece → with_bytes (take more rest) (with_bytes (take used piece) past) ≡ with_bytes (take (used + more) piece) past
+pub bytes_on : (past : Progress) (piece rest : List ℕ) (used more : ℕ) → rest ≡ drop used piece → with_bytes (take more rest) (with_bytes (take used piece) past) ≡ with_bytes (take (used + more) piece) past
 bytes_on past piece rest used more is =
     let joined : past.now.piece ++ take used piece ++ take more rest ≡ past.now.piece ++ take (used + more) piece =
     append_assoc past.now.piece (take used piece) (take more rest)
@@ -154,7 +154,7 @@ bytes_on past piece rest used more is =
     ap (λ (piece : List ℕ). record past { now = record past.now { piece = piece } }) joined
 
 -- What was read with what is left of the piece.
-pub read_rest : (past : Past) (piece rest : List ℕ) (used : ℕ) → rest ≡ drop used piece → read_so_far (with_bytes (take used piece) past) ++ rest ≡ read_so_far past ++ piece
+pub read_rest : (past : Progress) (piece rest : List ℕ) (used : ℕ) → rest ≡ drop used piece → read_so_far (with_bytes (take used piece) past) ++ rest ≡ read_so_far past ++ piece
 read_rest past piece rest used is =
     ap (λ (text : List ℕ). text ++ rest) (sym (read-more past (take used piece)))
     ∙ append_assoc (read_so_far past) (take used piece) rest
@@ -177,19 +177,19 @@ no_item : (item : Option (Item (List ℕ))) → MayAsk item None → item ≡ No
 no_item None asks = refl
 no_item (Some one) asks = absurd asks
 
-no_poll_stage : (a : Asked) → taken_stage a ≡ PollStage → ⊥
-no_poll_stage Nothing is = cc
-no_poll_stage Repeat is = cc
-no_poll_stage Refused is = cc
-no_poll_stage Noted is = cc
-no_poll_stage (Named message) is = cc
-no_poll_stage (Sent message) is = cc
+no_poll_phase : (a : Asked) → taken_phase a ≡ PollStage → ⊥
+no_poll_phase Nothing is = cc
+no_poll_phase Repeat is = cc
+no_poll_phase Refused is = cc
+no_poll_phase Noted is = cc
+no_poll_phase (Named message) is = cc
+no_poll_phase (Sent message) is = cc
 
 -- An item was taken, and something is to be sent or not.
-pub has_read_item : (plant : PlantData) (panel : ℕ) (session after : Session) (past : Past) (piece : List ℕ) (used : ℕ) (a : Asked) (framer_then : Framer) (send : Bool) → IsReading plant panel session past
+pub has_read_item : (plant : PlantData) (panel : ℕ) (session after : Session) (past : Progress) (piece : List ℕ) (used : ℕ) (a : Asked) (framer_then : Framer) (send : Bool) → IsReading plant panel session past
     → length (items (read_so_far past ++ piece)) < 2 ^ 62 → FoundAsks (read_so_far past) piece used (Some a) → framer.StandsFor framer_then (read_so_far past ++ take used piece)
     → after ≡ took plant a (record session { framer = framer_then }) → (send ≡ true → sent_by plant a session.sender.output ≢ []) → (send ≡ true → after.sender.output.bytes ≡ sent_by plant a session.sender.output)
-    → (send ≡ false → sent_by plant a session.sender.output ≡ []) → (send ≡ false → after.stage ≡ session.stage)
+    → (send ≡ false → sent_by plant a session.sender.output ≡ []) → (send ≡ false → after.phase ≡ session.phase)
     → HasRead plant panel (with_bytes (take used piece) past) send after
 has_read_item plant panel session after past piece used a framer_then send reading small found fed is some sent none quiet =
     let now = with_bytes (take used piece) past in
@@ -198,39 +198,39 @@ has_read_item plant panel session after past piece used a framer_then send readi
     found.feeds.adds ∙ ap (λ (item : Option (Item (List ℕ))). items (read_so_far past) ++ option_to_list item) one.1 in
     let At : Session → Type 0 = λ after. Stands plant panel after (with_sent (sent_by plant a session.sender.output) now) in
     let stands : Stands plant panel after (with_sent (sent_by plant a session.sender.output) now) =
-    subst At (sym is) (stands_item plant panel session past (take used piece) one.0 a framer_then reading.stands reading.stage reading.none_unsent adds one.2 fed (front_small (read_so_far past) piece used small)) in
+    subst At (sym is) (stands_item plant panel session past (take used piece) one.0 a framer_then reading.stands reading.phase reading.none_unsent adds one.2 fed (front_small (read_so_far past) piece used small)) in
     let SentAt : List ℕ → Type 0 = λ bytes. Stands plant panel after (with_sent bytes now) in
     let empty : after.outbox.items ≡ [] = ap (λ (session : Session). session.outbox.items) is ∙ reading.none_asked in
     let quiet_then : after.unsent ≡ false = ap (λ (session : Session). session.unsent) is ∙ reading.none_unsent in
-    let staged : after.stage ≡ taken_stage a = ap (λ (session : Session). session.stage) is ∙ stage-is a session.stage reading.stage in
+    let staged : after.phase ≡ taken_phase a = ap (λ (session : Session). session.phase) is ∙ phase-is a session.phase reading.phase in
     (elim send as (λ send. (send ≡ true → sent_by plant a session.sender.output ≢ []) → (send ≡ true → after.sender.output.bytes ≡ sent_by plant a session.sender.output)
-    → (send ≡ false → sent_by plant a session.sender.output ≡ []) → (send ≡ false → after.stage ≡ session.stage) → HasRead plant panel now send after) [
+    → (send ≡ false → sent_by plant a session.sender.output ≡ []) → (send ≡ false → after.phase ≡ session.phase) → HasRead plant panel now send after) [
       | true ↦ λ some sent none quiet. (
         subst SentAt (sym (sent refl)) stands,
         empty,
         quiet_then,
         (λ gone. some refl (sym (sent refl) ∙ gone)),
-        (λ poll. no_poll_stage a (sym staged ∙ poll)),
+        (λ poll. no_poll_phase a (sym staged ∙ poll)),
       )
       | false ↦ λ some sent none quiet. record {
-        stands = (let NowAt : Past → Type 0 = λ past. Stands plant panel after past in
+        stands = (let NowAt : Progress → Type 0 = λ past. Stands plant panel after past in
             subst NowAt (ap (λ (bytes : List ℕ). record now { sent = bytes }) (append-nil now.sent)) (subst SentAt (none refl) stands));
         none_asked = empty;
-        stage = quiet refl ∙ reading.stage;
+        phase = quiet refl ∙ reading.phase;
         none_unsent = quiet_then;
       }
     ]) some sent none quiet
 
 -- No item ended in the piece.
-pub has_read_none : (plant : PlantData) (panel : ℕ) (session : Session) (past : Past) (piece : List ℕ) (used : ℕ) (framer_then : Framer) → IsReading plant panel session past
+pub has_read_none : (plant : PlantData) (panel : ℕ) (session : Session) (past : Progress) (piece : List ℕ) (used : ℕ) (framer_then : Framer) → IsReading plant panel session past
     → FoundAsks (read_so_far past) piece used None → framer.StandsFor framer_then (read_so_far past ++ take used piece)
     → IsReading plant panel (record session { framer = framer_then }) (with_bytes (take used piece) past)
 has_read_none plant panel session past piece used framer_then reading found fed =
     let adds : items (read_so_far past ++ take used piece) ≡ items (read_so_far past) =
     found.feeds.adds ∙ ap (λ (item : Option (Item (List ℕ))). items (read_so_far past) ++ option_to_list item) (no_item found.item found.asks) ∙ append-nil (items (read_so_far past)) in
     record {
-      stands = stands_none plant panel session past (take used piece) framer_then reading.stands reading.stage reading.none_unsent adds fed;
+      stands = stands_none plant panel session past (take used piece) framer_then reading.stands reading.phase reading.none_unsent adds fed;
       none_asked = reading.none_asked;
-      stage = reading.stage;
+      phase = reading.phase;
       none_unsent = reading.none_unsent;
     }

@@ -12,28 +12,28 @@ use Rattle.plant_core.specs.declared.request.Request.{Request}
 use Rattle.plant_core.specs.declared.request.Request.TheVariants.{Told, Poll}
 use Rattle.panel_session.specs.declared.asked.Asked.{Asked}
 use Rattle.panel_session.specs.declared.asked.Asked.TheVariants.{Sent}
-use Rattle.panel_session.specs.declared.stage.Stage.{Stage}
-use Rattle.panel_session.specs.declared.stage.Stage.TheVariants.{Read, Tell, Poll as PollStage, End}
+use Rattle.panel_session.specs.declared.phase.Phase.{Phase}
+use Rattle.panel_session.specs.declared.phase.Phase.TheVariants.{Read, Tell, Poll as PollStage, End}
 use Rattle.panel_session.specs.Entry.{PlantEntry}
 use Rattle.panel_session.specs.Asked.{sent_to_plant}
 use Rattle.panel_session.specs.Turns.{bytes_of, entries_of_turns, Turn}
 use Rattle.panel_session.specs.Text.{Output, frames_of, with_frames, nothing_sent, output_from, told_at, polled_by, polled_at, with_control}
 use Rattle.panel_session.specs.OutgoingInside.{emptied}
-use Rattle.panel_session.specs.SoFar.{Past, read_so_far, entries_so_far, with_sent, with_entry}
+use Rattle.panel_session.specs.SoFar.{Progress, read_so_far, entries_so_far, with_sent, with_entry}
 use Rattle.panel_session.specs.StandsInside.{Kept, Keeps, AllTold, NoneFrom, behind, pending, IsAtStage}
 use Rattle.panel_session.proofs.OutputLemmas.{told_output, output_more, output_later, frames-behind, sent-behind}
 use Rattle.panel_session.proofs.EntryLemmas.{all_told-append, all_told-same, sent-append, says_told, says_poll, polled_at-same, polled_at-poll, told_at-told, none_from-told, none_from-poll}
 use Rattle.panel_session.proofs.KeptItemLemmas.{length-asked, length-before, no_polls}
 
--- The stage says the same once bytes were sent.
-stage-sent : (stage : Stage) (panel first : ℕ) (before asked : List Asked) (past : Past) (sent : List ℕ) → IsAtStage stage panel first before asked past → IsAtStage stage panel first before asked (with_sent sent past)
-stage-sent Read panel first before asked past sent at = at
-stage-sent (Tell message) panel first before asked past sent at = at
-stage-sent PollStage panel first before asked past sent at = at
-stage-sent End panel first before asked past sent at = at
+-- The phase says the same once bytes were sent.
+phase-sent : (phase : Phase) (panel first : ℕ) (before asked : List Asked) (past : Progress) (sent : List ℕ) → IsAtStage phase panel first before asked past → IsAtStage phase panel first before asked (with_sent sent past)
+phase-sent Read panel first before asked past sent at = at
+phase-sent (Tell message) panel first before asked past sent at = at
+phase-sent PollStage panel first before asked past sent at = at
+phase-sent End panel first before asked past sent at = at
 
 -- What was to be sent is sent.
-pub keeps_sent : (plant : PlantData) (kept : Kept) (past : Past) → kept.unsent ≡ true → Keeps plant kept past → Keeps plant (record kept { unsent = false }) (with_sent kept.output.bytes past)
+pub keeps_sent : (plant : PlantData) (kept : Kept) (past : Progress) → kept.unsent ≡ true → Keeps plant kept past → Keeps plant (record kept { unsent = false }) (with_sent kept.output.bytes past)
 keeps_sent plant kept past is k =
     let all : pending kept ≡ kept.output = ap (λ (test : Bool). if test then kept.output else emptied kept.output) is in
     record {
@@ -49,7 +49,7 @@ keeps_sent plant kept past is k =
       polls_are = k.polls_are;
       within = k.within;
       polls = k.polls;
-      stage = stage-sent kept.stage kept.panel (length (items (bytes_of past.turns))) k.before k.asked past kept.output.bytes k.stage;
+      phase = phase-sent kept.phase kept.panel (length (items (bytes_of past.turns))) k.before k.asked past kept.output.bytes k.phase;
       none_from = k.none_from;
       output = k.output ∙ ap (behind past.sent) all ∙ sent-behind past.sent kept.output;
     }
@@ -72,15 +72,15 @@ entries-polled turns told polls entry =
     ∙ sym (append_assoc (entries_of_turns turns) (told ++ polls) (entry ∷ []))
 
 -- The plant answered what an item sent to it.
-pub keeps_told : (plant : PlantData) (panel count turns polls seat : ℕ) (message : Message) (output : Output) (past : Past) (answers : List Answer) (unsent : Bool)
-    → Keeps plant (record { panel = panel; stage = Tell message; items = count; turns = turns; polls = polls; output = output; unsent = false }) past
+pub keeps_told : (plant : PlantData) (panel count turns polls seat : ℕ) (message : Message) (output : Output) (past : Progress) (answers : List Answer) (unsent : Bool)
+    → Keeps plant (record { panel = panel; phase = Tell message; items = count; turns = turns; polls = polls; output = output; unsent = false }) past
     → (unsent ≡ false → (with_frames (frames_of answers) (emptied output)).bytes ≡ [])
-    → Keeps plant (record { panel = panel; stage = Read; items = count; turns = turns; polls = polls; output = with_frames (frames_of answers) (emptied output); unsent = unsent })
+    → Keeps plant (record { panel = panel; phase = Read; items = count; turns = turns; polls = polls; output = with_frames (frames_of answers) (emptied output); unsent = unsent })
     (with_entry (record { seat = seat; request = Told panel (count - 1) message; answers = answers }) past)
 keeps_told plant panel count turns polls seat message output past answers unsent k none =
-    let kept : Kept = record { panel = panel; stage = Tell message; items = count; turns = turns; polls = polls; output = output; unsent = false } in
-    let front = k.stage.0 in
-    let asked_is : k.asked ≡ front ++ Sent message ∷ [] = k.stage.1 in
+    let kept : Kept = record { panel = panel; phase = Tell message; items = count; turns = turns; polls = polls; output = output; unsent = false } in
+    let front = k.phase.0 in
+    let asked_is : k.asked ≡ front ++ Sent message ∷ [] = k.phase.1 in
     let first = length (items (bytes_of past.turns)) in
     let E = entries_so_far past in
     let all = length-asked plant kept past k in
@@ -91,9 +91,9 @@ keeps_told plant panel count turns polls seat message output past answers unsent
     let there : n ≡ 0 + length (k.before ++ front) = omega (arith, length-append k.before front) in
     let entry : PlantEntry = record { seat = seat; request = Told panel (count - 1) message; answers = answers } in
     let is : entry.request ≡ Told panel n message = ap (λ (n : ℕ). Told panel n message) number in
-    let more : entries_so_far (with_entry entry past) ≡ E ++ entry ∷ [] = entries-told past.turns past.now.told past.now.polls entry k.stage.3 in
+    let more : entries_so_far (with_entry entry past) ≡ E ++ entry ∷ [] = entries-told past.turns past.now.told past.now.polls entry k.phase.3 in
     let says = says_told n panel message E entry is in
-    let told_there : told_at n (E ++ entry ∷ []) ≡ Some answers = told_at-told n panel message E entry is (k.stage.5.told n (omega arith)) in
+    let told_there : told_at n (E ++ entry ∷ []) ≡ Some answers = told_at-told n panel message E entry is (k.phase.5.told n (omega arith)) in
     let Told_all : List PlantEntry → Type 0 = λ entries. AllTold 0 (k.before ++ k.asked) entries in
     let joined : k.before ++ k.asked ≡ (k.before ++ front) ++ Sent message ∷ [] = ap (λ (asked : List Asked). k.before ++ asked) asked_is ∙ sym (append_assoc k.before front (Sent message ∷ [])) in
     let Told_of : List Asked → Type 0 = λ asked. AllTold 0 asked (E ++ entry ∷ []) in
@@ -101,27 +101,27 @@ keeps_told plant panel count turns polls seat message output past answers unsent
     let all_told : AllTold 0 (k.before ++ k.asked) (E ++ entry ∷ []) =
     subst Told_of (sym joined)
     (all_told-append (k.before ++ front) (Sent message) 0 n (E ++ entry ∷ []) there
-    (all_told-same (k.before ++ front) 0 n E (E ++ entry ∷ []) there says k.stage.4)
+    (all_told-same (k.before ++ front) 0 n E (E ++ entry ∷ []) there says k.phase.4)
     (subst IsThere (sym told_there) refl)) in
     let NoneOf : ℕ → Type 0 = λ n. NoneFrom n (E ++ entry ∷ []) in
-    let none_of : NoneFrom (length (items (read_so_far past))) (E ++ entry ∷ []) = subst NoneOf behind_n (none_from-told n panel message E entry is k.stage.5) in
+    let none_of : NoneFrom (length (items (read_so_far past))) (E ++ entry ∷ []) = subst NoneOf behind_n (none_from-told n panel message E entry is k.phase.5) in
     let NoneIn : List PlantEntry → Type 0 = λ entries. NoneFrom (length (items (read_so_far past))) entries in
     let X = output_from plant 0 (k.before ++ front) E nothing_sent in
     let was : with_control ack X ≡ behind past.sent (emptied output) =
-    ap (λ (told : Option (List Answer)). told_output n E told X) (sym (k.stage.5.told n (omega arith)))
-    ∙ sym (output_more plant (k.before ++ front) (Sent message) 0 n E nothing_sent there k.stage.4)
+    ap (λ (told : Option (List Answer)). told_output n E told X) (sym (k.phase.5.told n (omega arith)))
+    ∙ sym (output_more plant (k.before ++ front) (Sent message) 0 n E nothing_sent there k.phase.4)
     ∙ ap (λ (asked : List Asked). output_from plant 0 asked E nothing_sent) (sym joined)
     ∙ k.output in
     let same_front : output_from plant 0 (k.before ++ front) (E ++ entry ∷ []) nothing_sent ≡ X =
-    output_later plant (k.before ++ front) 0 n E (E ++ entry ∷ []) [] nothing_sent there k.stage.4 says
+    output_later plant (k.before ++ front) 0 n E (E ++ entry ∷ []) [] nothing_sent there k.phase.4 says
     (polled_at-same n E entry (ap (λ (request : Request). polled_by n request answers) is) ∙ sym (append-nil (polled_at n E))) in
     let now : output_from plant 0 (k.before ++ k.asked) (E ++ entry ∷ []) nothing_sent ≡ behind past.sent (with_frames (frames_of answers) (emptied output)) =
     ap (λ (asked : List Asked). output_from plant 0 asked (E ++ entry ∷ []) nothing_sent) joined
-    ∙ output_more plant (k.before ++ front) (Sent message) 0 n (E ++ entry ∷ []) nothing_sent there (all_told-same (k.before ++ front) 0 n E (E ++ entry ∷ []) there says k.stage.4)
+    ∙ output_more plant (k.before ++ front) (Sent message) 0 n (E ++ entry ∷ []) nothing_sent there (all_told-same (k.before ++ front) 0 n E (E ++ entry ∷ []) there says k.phase.4)
     ∙ ap (λ (told : Option (List Answer)). told_output n (E ++ entry ∷ []) told (output_from plant 0 (k.before ++ front) (E ++ entry ∷ []) nothing_sent)) told_there
     ∙ ap (told_output n (E ++ entry ∷ []) (Some answers)) same_front
     ∙ no_polls (n + 1) (E ++ entry ∷ []) (with_frames (frames_of answers) (with_control ack X))
-    (polled_at-same (n + 1) E entry (ap (λ (request : Request). polled_by (n + 1) request answers) is) ∙ k.stage.5.polled (n + 1) (omega arith))
+    (polled_at-same (n + 1) E entry (ap (λ (request : Request). polled_by (n + 1) request answers) is) ∙ k.phase.5.polled (n + 1) (omega arith))
     ∙ ap (with_frames (frames_of answers)) was
     ∙ frames-behind (frames_of answers) past.sent (emptied output) in
     let OutputIn : List PlantEntry → Type 0 = λ entries. output_from plant 0 (k.before ++ k.asked) entries nothing_sent
@@ -139,13 +139,13 @@ keeps_told plant panel count turns polls seat message output past answers unsent
       polls_are = k.polls_are;
       within = k.within;
       polls = k.polls;
-      stage = (
+      phase = (
         map-append (λ (entry : PlantEntry). entry.request) past.now.told (entry ∷ [])
-            ∙ ap (λ (told : List Request). told ++ Told panel (count - 1) message ∷ []) k.stage.2
+            ∙ ap (λ (told : List Request). told ++ Told panel (count - 1) message ∷ []) k.phase.2
             ∙ ap (λ (n : ℕ). sent_to_plant panel first front ++ Told panel n message ∷ []) number
             ∙ sym (sent-append front (Sent message) panel first n refl)
             ∙ ap (sent_to_plant panel first) (sym asked_is),
-        k.stage.3,
+        k.phase.3,
         subst Told_all (sym more) all_told,
       );
       none_from = subst NoneIn (sym more) none_of;
@@ -153,21 +153,21 @@ keeps_told plant panel count turns polls seat message output past answers unsent
     }
 
 -- Polls are over where one has no answer or was the 32nd, and else may go on.
-abbrev pub polled_stage : List Answer → ℕ → Stage
-polled_stage [] polls = End
-polled_stage (answer ∷ answers) polls = if nat_eq (polls + 1) 32 then End else PollStage
+abbrev pub polled_phase : List Answer → ℕ → Phase
+polled_phase [] polls = End
+polled_phase (answer ∷ answers) polls = if nat_eq (polls + 1) 32 then End else PollStage
 
--- The plant answered a poll. What comes next is the stage with these facts of it.
-pub keeps_polled_to : (plant : PlantData) (stage : Stage) (panel count turns polls seat : ℕ) (output : Output) (past : Past) (answers : List Answer) (unsent : Bool)
-    → Keeps plant (record { panel = panel; stage = PollStage; items = count; turns = turns; polls = polls; output = output; unsent = false }) past
+-- The plant answered a poll. What comes next is the phase with these facts of it.
+pub keeps_polled_to : (plant : PlantData) (phase : Phase) (panel count turns polls seat : ℕ) (output : Output) (past : Progress) (answers : List Answer) (unsent : Bool)
+    → Keeps plant (record { panel = panel; phase = PollStage; items = count; turns = turns; polls = polls; output = output; unsent = false }) past
     → (unsent ≡ false → (with_frames (frames_of answers) (emptied output)).bytes ≡ [])
     → ((before asked : List Asked) → IsAtStage PollStage panel (length (items (bytes_of past.turns))) before asked past
     → AllTold 0 (before ++ asked) (entries_so_far (with_entry (record { seat = seat; request = Poll panel count turns; answers = answers }) past))
-    → IsAtStage stage panel (length (items (bytes_of past.turns))) before asked (with_entry (record { seat = seat; request = Poll panel count turns; answers = answers }) past))
-    → Keeps plant (record { panel = panel; stage = stage; items = count; turns = turns; polls = polls + 1; output = with_frames (frames_of answers) (emptied output); unsent = unsent })
+    → IsAtStage phase panel (length (items (bytes_of past.turns))) before asked (with_entry (record { seat = seat; request = Poll panel count turns; answers = answers }) past))
+    → Keeps plant (record { panel = panel; phase = phase; items = count; turns = turns; polls = polls + 1; output = with_frames (frames_of answers) (emptied output); unsent = unsent })
     (with_entry (record { seat = seat; request = Poll panel count turns; answers = answers }) past)
-keeps_polled_to plant stage panel count turns polls seat output past answers unsent k none stage_then =
-    let kept : Kept = record { panel = panel; stage = PollStage; items = count; turns = turns; polls = polls; output = output; unsent = false } in
+keeps_polled_to plant phase panel count turns polls seat output past answers unsent k none phase_then =
+    let kept : Kept = record { panel = panel; phase = PollStage; items = count; turns = turns; polls = polls; output = output; unsent = false } in
     let E = entries_so_far past in
     let n = length (items (read_so_far past)) in
     let entry : PlantEntry = record { seat = seat; request = Poll panel count turns; answers = answers } in
@@ -175,11 +175,11 @@ keeps_polled_to plant stage panel count turns polls seat output past answers uns
     let there : n ≡ 0 + length (k.before ++ k.asked) = omega (arith, length-asked plant kept past k) in
     let more : entries_so_far (with_entry entry past) ≡ E ++ entry ∷ [] = entries-polled past.turns past.now.told past.now.polls entry in
     let says = says_poll n panel turns E entry is in
-    let all_told : AllTold 0 (k.before ++ k.asked) (E ++ entry ∷ []) = all_told-same (k.before ++ k.asked) 0 n E (E ++ entry ∷ []) there says k.stage.2 in
+    let all_told : AllTold 0 (k.before ++ k.asked) (E ++ entry ∷ []) = all_told-same (k.before ++ k.asked) 0 n E (E ++ entry ∷ []) there says k.phase.2 in
     let Told_all : List PlantEntry → Type 0 = λ entries. AllTold 0 (k.before ++ k.asked) entries in
     let NoneIn : List PlantEntry → Type 0 = λ entries. NoneFrom n entries in
     let now : output_from plant 0 (k.before ++ k.asked) (E ++ entry ∷ []) nothing_sent ≡ behind past.sent (with_frames (frames_of answers) (emptied output)) =
-    output_later plant (k.before ++ k.asked) 0 n E (E ++ entry ∷ []) (frames_of answers) nothing_sent there k.stage.2 says (polled_at-poll n panel turns E entry is)
+    output_later plant (k.before ++ k.asked) 0 n E (E ++ entry ∷ []) (frames_of answers) nothing_sent there k.phase.2 says (polled_at-poll n panel turns E entry is)
     ∙ ap (with_frames (frames_of answers)) k.output
     ∙ frames-behind (frames_of answers) past.sent (emptied output) in
     let OutputIn : List PlantEntry → Type 0 = λ entries. output_from plant 0 (k.before ++ k.asked) entries nothing_sent
@@ -195,19 +195,19 @@ keeps_polled_to plant stage panel count turns polls seat output past answers uns
       items_are = k.items_are;
       turns_are = k.turns_are;
       polls_are = ap (λ (n : ℕ). n + 1) k.polls_are ∙ sym (length-append past.now.polls (entry ∷ []));
-      within = omega (arith, length-append past.now.polls (entry ∷ []), k.stage.1.more);
+      within = omega (arith, length-append past.now.polls (entry ∷ []), k.phase.1.more);
       polls = All-push (λ (entry : PlantEntry). entry.request ≡ Poll panel n (length past.turns)) past.now.polls entry k.polls (is ∙ ap (Poll panel n) k.turns_are);
-      stage = stage_then k.before k.asked k.stage (subst Told_all (sym more) all_told);
+      phase = phase_then k.before k.asked k.phase (subst Told_all (sym more) all_told);
       none_from = subst NoneIn (sym more) (none_from-poll n panel turns E entry is k.none_from);
       output = subst OutputIn (sym more) (now ∙ ap (behind past.sent) (pending_all unsent (with_frames (frames_of answers) (emptied output)) none));
     }
 
 -- a poll that is the last
-pub keeps_polled_last : (plant : PlantData) (panel count turns polls seat : ℕ) (output : Output) (past : Past) (answers : List Answer) (unsent : Bool)
-    → Keeps plant (record { panel = panel; stage = PollStage; items = count; turns = turns; polls = polls; output = output; unsent = false }) past
+pub keeps_polled_last : (plant : PlantData) (panel count turns polls seat : ℕ) (output : Output) (past : Progress) (answers : List Answer) (unsent : Bool)
+    → Keeps plant (record { panel = panel; phase = PollStage; items = count; turns = turns; polls = polls; output = output; unsent = false }) past
     → (unsent ≡ false → (with_frames (frames_of answers) (emptied output)).bytes ≡ [])
     → (answers ≡ []) ⊎ (polls + 1 ≡ 32)
-    → Keeps plant (record { panel = panel; stage = End; items = count; turns = turns; polls = polls + 1; output = with_frames (frames_of answers) (emptied output); unsent = unsent })
+    → Keeps plant (record { panel = panel; phase = End; items = count; turns = turns; polls = polls + 1; output = with_frames (frames_of answers) (emptied output); unsent = unsent })
     (with_entry (record { seat = seat; request = Poll panel count turns; answers = answers }) past)
 keeps_polled_last plant panel count turns polls seat output past answers unsent k none last =
     let n = length (items (read_so_far past)) in

@@ -14,8 +14,8 @@ use Rattle.plant_core.specs.declared.request.Request.{Request}
 use Rattle.plant_core.specs.declared.request.Request.TheVariants.{Poll}
 use Rattle.panel_session.specs.declared.asked.Asked.{Asked}
 use Rattle.panel_session.specs.declared.asked.Asked.TheVariants.{Nothing, Repeat, Refused, Noted, Named, Sent}
-use Rattle.panel_session.specs.declared.stage.Stage.{Stage}
-use Rattle.panel_session.specs.declared.stage.Stage.TheVariants.{Read, Tell, Poll as PollStage, End}
+use Rattle.panel_session.specs.declared.phase.Phase.{Phase}
+use Rattle.panel_session.specs.declared.phase.Phase.TheVariants.{Read, Tell, Poll as PollStage, End}
 use Rattle.panel_session.specs.Entry.{PlantEntry}
 use Rattle.plant_core.specs.State.{IsForPlant}
 use Rattle.panel_session.specs.Asked.{Asks, sent_to_plant}
@@ -23,23 +23,23 @@ use Rattle.panel_session.specs.Turns.{bytes_of}
 use Rattle.panel_session.specs.Text.{Output, with_frames, nothing_sent, output_from, polled_at, with_control, repeated, with_polls}
 use Rattle.panel_session.specs.NamePages.{name_frames}
 use Rattle.panel_session.specs.OutgoingInside.{emptied}
-use Rattle.panel_session.specs.SoFar.{Past, read_so_far, entries_so_far, with_bytes, with_sent}
+use Rattle.panel_session.specs.SoFar.{Progress, read_so_far, entries_so_far, with_bytes, with_sent}
 use Rattle.panel_session.specs.StandsInside.{Kept, Keeps, IsTold, AllTold, NoneFrom, behind, MayPoll, IsAtStage}
-use Rattle.panel_session.specs.TakenInside.{taken_output, taken_stage, sent_by}
+use Rattle.panel_session.specs.TakenInside.{taken_output, taken_phase, sent_by}
 use Rattle.panel_session.proofs.OutputLemmas.{told_output, output_with, output_more, control-behind, frames-behind, repeated-behind, sent-behind}
 use Rattle.panel_session.proofs.EntryLemmas.{length-ask, all_ask-append, all_told-append, sent-append, none_from-more}
 
 -- as many things are asked as there are items
-pub length-asked : (plant : PlantData) (kept : Kept) (past : Past) (k : Keeps plant kept past) → length (k.before ++ k.asked) ≡ length (items (read_so_far past))
+pub length-asked : (plant : PlantData) (kept : Kept) (past : Progress) (k : Keeps plant kept past) → length (k.before ++ k.asked) ≡ length (items (read_so_far past))
 length-asked plant kept past k =
     length-ask (items (bytes_of past.turns) ++ k.ended) (k.before ++ k.asked) (all_ask-append (items (bytes_of past.turns)) k.ended k.before k.asked k.ask_before k.ask)
     ∙ ap (length {A = Item (List ℕ)}) (sym k.end_in)
 
-pub length-before : (plant : PlantData) (kept : Kept) (past : Past) (k : Keeps plant kept past) → length k.before ≡ length (items (bytes_of past.turns))
+pub length-before : (plant : PlantData) (kept : Kept) (past : Progress) (k : Keeps plant kept past) → length k.before ≡ length (items (bytes_of past.turns))
 length-before plant kept past k = length-ask (items (bytes_of past.turns)) k.before k.ask_before
 
 -- bytes more of the present piece
-pub read-more : (past : Past) (bytes : List ℕ) → read_so_far past ++ bytes ≡ read_so_far (with_bytes bytes past)
+pub read-more : (past : Progress) (bytes : List ℕ) → read_so_far past ++ bytes ≡ read_so_far (with_bytes bytes past)
 read-more past bytes = append_assoc (bytes_of past.turns) past.now.piece bytes
 
 -- where no item is behind, polls there give nothing
@@ -82,53 +82,53 @@ for_plant Bad message asks = cc
 for_plant Ack message asks = cc
 for_plant Nak message asks = cc
 
--- The stage behind an item that sends the plant nothing.
-quiet_stage : (a : Asked) (panel first n : ℕ) (before asked : List Asked) (past : Past) → sent_to_plant panel n (a ∷ []) ≡ [] → IsTold n a (entries_so_far past)
+-- The phase behind an item that sends the plant nothing.
+quiet_phase : (a : Asked) (panel first n : ℕ) (before asked : List Asked) (past : Progress) → sent_to_plant panel n (a ∷ []) ≡ [] → IsTold n a (entries_so_far past)
     → IsAtStage Read panel first before asked past → n ≡ first + length asked → n ≡ 0 + length (before ++ asked)
     → IsAtStage Read panel first before (asked ++ a ∷ []) past
-quiet_stage a panel first n before asked past quiet told stage here all = (
-  stage.0 ∙ sym (sent-append asked a panel first n here ∙ ap (λ (more : List Request). sent_to_plant panel first asked ++ more) quiet ∙ append-nil (sent_to_plant panel first asked)),
-  stage.1,
+quiet_phase a panel first n before asked past quiet told phase here all = (
+  phase.0 ∙ sym (sent-append asked a panel first n here ∙ ap (λ (more : List Request). sent_to_plant panel first asked ++ more) quiet ∙ append-nil (sent_to_plant panel first asked)),
+  phase.1,
   (let P : List Asked → Type 0 = λ asked. AllTold 0 asked (entries_so_far past) in
-      subst P (append_assoc before asked (a ∷ [])) (all_told-append (before ++ asked) a 0 n (entries_so_far past) all stage.2 told)),
+      subst P (append_assoc before asked (a ∷ [])) (all_told-append (before ++ asked) a 0 n (entries_so_far past) all phase.2 told)),
 )
 
--- The stage behind an item.
-item_stage : (a : Asked) (item : Item (List ℕ)) (panel first n : ℕ) (before asked : List Asked) (past : Past) → Asks item a → IsAtStage Read panel first before asked past
+-- The phase behind an item.
+item_phase : (a : Asked) (item : Item (List ℕ)) (panel first n : ℕ) (before asked : List Asked) (past : Progress) → Asks item a → IsAtStage Read panel first before asked past
     → NoneFrom n (entries_so_far past) → n ≡ first + length asked → n ≡ 0 + length (before ++ asked)
-    → IsAtStage (taken_stage a) panel first before (asked ++ a ∷ []) past
-item_stage Nothing item panel first n before asked past asks stage none here all = quiet_stage Nothing panel first n before asked past refl tt stage here all
-item_stage Repeat item panel first n before asked past asks stage none here all = quiet_stage Repeat panel first n before asked past refl tt stage here all
-item_stage Refused item panel first n before asked past asks stage none here all = quiet_stage Refused panel first n before asked past refl tt stage here all
-item_stage Noted item panel first n before asked past asks stage none here all = quiet_stage Noted panel first n before asked past refl tt stage here all
-item_stage (Named message) item panel first n before asked past asks stage none here all = quiet_stage (Named message) panel first n before asked past refl tt stage here all
-item_stage (Sent message) item panel first n before asked past asks stage none here all = (
+    → IsAtStage (taken_phase a) panel first before (asked ++ a ∷ []) past
+item_phase Nothing item panel first n before asked past asks phase none here all = quiet_phase Nothing panel first n before asked past refl tt phase here all
+item_phase Repeat item panel first n before asked past asks phase none here all = quiet_phase Repeat panel first n before asked past refl tt phase here all
+item_phase Refused item panel first n before asked past asks phase none here all = quiet_phase Refused panel first n before asked past refl tt phase here all
+item_phase Noted item panel first n before asked past asks phase none here all = quiet_phase Noted panel first n before asked past refl tt phase here all
+item_phase (Named message) item panel first n before asked past asks phase none here all = quiet_phase (Named message) panel first n before asked past refl tt phase here all
+item_phase (Sent message) item panel first n before asked past asks phase none here all = (
   asked,
   refl,
-  stage.0,
-  stage.1,
-  stage.2,
+  phase.0,
+  phase.1,
+  phase.2,
   (let P : ℕ → Type 0 = λ n. NoneFrom n (entries_so_far past) in subst P here none),
   for_plant item message asks,
 )
 
 -- a session that reads, with nothing to be sent
 abbrev pub reading : ℕ → ℕ → ℕ → ℕ → Output → Kept
-reading panel items turns polls output = record { panel = panel; stage = Read; items = items; turns = turns; polls = polls; output = output; unsent = false }
+reading panel items turns polls output = record { panel = panel; phase = Read; items = items; turns = turns; polls = polls; output = output; unsent = false }
 
 -- what an item makes of it
 abbrev pub taken : PlantData → Asked → ℕ → ℕ → ℕ → ℕ → Output → Kept
 taken plant a panel items turns polls output =
-    record { panel = panel; stage = taken_stage a; items = items + 1; turns = turns; polls = polls; output = taken_output plant a output; unsent = false }
+    record { panel = panel; phase = taken_phase a; items = items + 1; turns = turns; polls = polls; output = taken_output plant a output; unsent = false }
 
--- The stage says the same of a past in which more bytes were used and sent.
-stage-past : (stage : Stage) (panel first : ℕ) (before asked : List Asked) (past : Past) (bytes sent : List ℕ) → (stage ≡ End → ⊥) → IsAtStage stage panel first before asked past → IsAtStage stage panel first before asked (with_sent sent (with_bytes bytes past))
-stage-past Read panel first before asked past bytes sent running at = at
-stage-past (Tell message) panel first before asked past bytes sent running at = at
-stage-past PollStage panel first before asked past bytes sent running at = at
-stage-past End panel first before asked past bytes sent running at = absurd (running refl)
+-- The phase says the same of a past in which more bytes were used and sent.
+phase-past : (phase : Phase) (panel first : ℕ) (before asked : List Asked) (past : Progress) (bytes sent : List ℕ) → (phase ≡ End → ⊥) → IsAtStage phase panel first before asked past → IsAtStage phase panel first before asked (with_sent sent (with_bytes bytes past))
+phase-past Read panel first before asked past bytes sent running at = at
+phase-past (Tell message) panel first before asked past bytes sent running at = at
+phase-past PollStage panel first before asked past bytes sent running at = at
+phase-past End panel first before asked past bytes sent running at = absurd (running refl)
 
-not_end : (a : Asked) → taken_stage a ≡ End → ⊥
+not_end : (a : Asked) → taken_phase a ≡ End → ⊥
 not_end Nothing is = cc
 not_end Repeat is = cc
 not_end Refused is = cc
@@ -137,7 +137,7 @@ not_end (Named message) is = cc
 not_end (Sent message) is = cc
 
 -- An item more was read.
-pub keeps_item : (plant : PlantData) (a : Asked) (item : Item (List ℕ)) (panel count turns polls : ℕ) (output : Output) (past : Past) (bytes : List ℕ) → Keeps plant (reading panel count turns polls output) past
+pub keeps_item : (plant : PlantData) (a : Asked) (item : Item (List ℕ)) (panel count turns polls : ℕ) (output : Output) (past : Progress) (bytes : List ℕ) → Keeps plant (reading panel count turns polls output) past
     → items (read_so_far past ++ bytes) ≡ items (read_so_far past) ++ item ∷ [] → Asks item a
     → Keeps plant (taken plant a panel count turns polls output) (with_sent (sent_by plant a output) (with_bytes bytes past))
 keeps_item plant a item panel count turns polls output past bytes k adds asks =
@@ -164,12 +164,12 @@ keeps_item plant a item panel count turns polls output past bytes k adds asks =
       turns_are = k.turns_are;
       polls_are = k.polls_are;
       within = k.within;
-      polls = no_poll (λ (entry : PlantEntry). entry.request ≡ Poll panel (length (items (read_so_far (with_bytes bytes past)))) (length past.turns)) past.now.polls k.stage.1;
-      stage = stage-past (taken_stage a) panel first k.before (k.asked ++ a ∷ []) past bytes (sent_by plant a output) (not_end a)
-          (item_stage a item panel first (length (items text)) k.before k.asked past asks k.stage none here there);
+      polls = no_poll (λ (entry : PlantEntry). entry.request ≡ Poll panel (length (items (read_so_far (with_bytes bytes past)))) (length past.turns)) past.now.polls k.phase.1;
+      phase = phase-past (taken_phase a) panel first k.before (k.asked ++ a ∷ []) past bytes (sent_by plant a output) (not_end a)
+          (item_phase a item panel first (length (items text)) k.before k.asked past asks k.phase none here there);
       none_from = subst NoneAt (sym counted) (none_from-more (length (items text)) (entries_so_far past) none);
       output = subst OutputOf (append_assoc k.before k.asked (a ∷ []))
-          (output_more plant (k.before ++ k.asked) a 0 (length (items text)) (entries_so_far past) nothing_sent there k.stage.2
+          (output_more plant (k.before ++ k.asked) a 0 (length (items text)) (entries_so_far past) nothing_sent there k.phase.2
           ∙ ap (λ (output : Output). output_with plant (length (items text)) a (entries_so_far past) output) k.output
           ∙ item_output plant a (length (items text)) (entries_so_far past) past.sent output none);
     } where
@@ -177,7 +177,7 @@ keeps_item plant a item panel count turns polls output past bytes k adds asks =
       no_poll P polls is = let Q : List PlantEntry → Type 0 = λ polls. All P polls in subst Q (sym is) (All-nil P)
 
 -- Bytes in which no item ends were read.
-pub keeps_none : (plant : PlantData) (panel count turns polls : ℕ) (output : Output) (past : Past) (bytes : List ℕ) → Keeps plant (reading panel count turns polls output) past
+pub keeps_none : (plant : PlantData) (panel count turns polls : ℕ) (output : Output) (past : Progress) (bytes : List ℕ) → Keeps plant (reading panel count turns polls output) past
     → items (read_so_far past ++ bytes) ≡ items (read_so_far past) → Keeps plant (reading panel count turns polls output) (with_bytes bytes past)
 keeps_none plant panel count turns polls output past bytes k none =
     let same : items (read_so_far (with_bytes bytes past)) ≡ items (read_so_far past) = ap items (sym (read-more past bytes)) ∙ none in
@@ -197,14 +197,14 @@ keeps_none plant panel count turns polls output past bytes k none =
       polls_are = k.polls_are;
       within = k.within;
       polls = subst PollsAt (sym counted) k.polls;
-      stage = k.stage;
+      phase = k.phase;
       none_from = subst NoneAt (sym counted) k.none_from;
       output = k.output;
     }
 
 -- The piece is used up, and polls come.
-pub keeps_to_poll : (plant : PlantData) (panel count turns polls : ℕ) (output : Output) (past : Past) → Keeps plant (reading panel count turns polls output) past
-    → Keeps plant (record { panel = panel; stage = PollStage; items = count; turns = turns; polls = polls; output = output; unsent = false }) past
+pub keeps_to_poll : (plant : PlantData) (panel count turns polls : ℕ) (output : Output) (past : Progress) → Keeps plant (reading panel count turns polls output) past
+    → Keeps plant (record { panel = panel; phase = PollStage; items = count; turns = turns; polls = polls; output = output; unsent = false }) past
 keeps_to_poll plant panel count turns polls output past k = record {
   turns = k.turns;
   before = k.before;
@@ -218,7 +218,7 @@ keeps_to_poll plant panel count turns polls output past k = record {
   polls_are = k.polls_are;
   within = k.within;
   polls = k.polls;
-  stage = (k.stage.0, (let P : List PlantEntry → Type 0 = λ polls. MayPoll polls in subst P (sym k.stage.1) none), k.stage.2);
+  phase = (k.phase.0, (let P : List PlantEntry → Type 0 = λ polls. MayPoll polls in subst P (sym k.phase.1) none), k.phase.2);
   none_from = k.none_from;
   output = k.output;
 } where

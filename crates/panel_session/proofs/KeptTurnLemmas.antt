@@ -12,26 +12,26 @@ use Rattle.plant_core.specs.declared.request.Request.{Request}
 use Rattle.plant_core.specs.declared.request.Request.TheVariants.{Poll}
 use Rattle.panel_session.specs.declared.asked.Asked.{Asked}
 use Rattle.panel_session.specs.declared.asked.Asked.TheVariants.{Sent}
-use Rattle.panel_session.specs.declared.stage.Stage.{Stage}
-use Rattle.panel_session.specs.declared.stage.Stage.TheVariants.{Read, Tell, Poll as PollStage, End}
+use Rattle.panel_session.specs.declared.phase.Phase.{Phase}
+use Rattle.panel_session.specs.declared.phase.Phase.TheVariants.{Read, Tell, Poll as PollStage, End}
 use Rattle.panel_session.specs.Entry.{PlantEntry}
 use Rattle.panel_session.specs.Asked.{AllAsk, sent_to_plant}
 use Rattle.panel_session.specs.Turns.{bytes_of, entries_of_turns, requests, AreTurns, IsTurn, Turn}
 use Rattle.panel_session.specs.Text.{Output, frames_of, with_frames, nothing_sent, output_from, IsText}
 use Rattle.panel_session.specs.OutgoingInside.{emptied}
 use mathlib.Core.List.{IsPrefix}
-use Rattle.panel_session.specs.SoFar.{IsSoFar, Past, nothing_yet, read_so_far, entries_so_far, with_entry, with_turn}
+use Rattle.panel_session.specs.SoFar.{IsSoFar, Progress, nothing_yet, read_so_far, entries_so_far, with_entry, with_turn}
 use Rattle.panel_session.specs.StandsInside.{Kept, Keeps, AllTold, NoneFrom, behind, pending, IsAtStage}
 use Rattle.panel_session.proofs.EntryLemmas.{all_ask-append, sent-append}
 use Rattle.panel_session.proofs.KeptItemLemmas.{reading}
 use Rattle.panel_session.proofs.KeepsLemmas.{keeps_polled_to}
 
 -- a poll that isn't
-pub keeps_polled_more : (plant : PlantData) (panel count turns polls seat : ℕ) (output : Output) (past : Past) (answers : List Answer) (unsent : Bool)
-    → Keeps plant (record { panel = panel; stage = PollStage; items = count; turns = turns; polls = polls; output = output; unsent = false }) past
+pub keeps_polled_more : (plant : PlantData) (panel count turns polls seat : ℕ) (output : Output) (past : Progress) (answers : List Answer) (unsent : Bool)
+    → Keeps plant (record { panel = panel; phase = PollStage; items = count; turns = turns; polls = polls; output = output; unsent = false }) past
     → (unsent ≡ false → (with_frames (frames_of answers) (emptied output)).bytes ≡ [])
     → answers ≢ [] → polls + 1 ≢ 32
-    → Keeps plant (record { panel = panel; stage = PollStage; items = count; turns = turns; polls = polls + 1; output = with_frames (frames_of answers) (emptied output); unsent = unsent })
+    → Keeps plant (record { panel = panel; phase = PollStage; items = count; turns = turns; polls = polls + 1; output = with_frames (frames_of answers) (emptied output); unsent = unsent })
     (with_entry (record { seat = seat; request = Poll panel count turns; answers = answers }) past)
 keeps_polled_more plant panel count turns polls seat output past answers unsent k none some below =
     let entry : PlantEntry = record { seat = seat; request = Poll panel count turns; answers = answers } in
@@ -74,13 +74,13 @@ entries_of-append turns turn =
     flat_map-append (λ (turn : Turn). turn.told ++ turn.polls) turns (turn ∷ []) ∙ ap (λ (now : List PlantEntry). entries_of_turns turns ++ now) (append-nil (turn.told ++ turn.polls))
 
 -- A turn that is over is one.
-pub turn_over : (plant : PlantData) (panel count turns polls : ℕ) (output : Output) (past : Past)
-    → Keeps plant (record { panel = panel; stage = End; items = count; turns = turns; polls = polls; output = output; unsent = false }) past → IsTurn panel past.turns past.now
-turn_over plant panel count turns polls output past k = record { ended = k.ended; end_in = k.end_in; asked = k.asked; ask = k.ask; told = k.stage.0; polls = k.stage.1 }
+pub turn_over : (plant : PlantData) (panel count turns polls : ℕ) (output : Output) (past : Progress)
+    → Keeps plant (record { panel = panel; phase = End; items = count; turns = turns; polls = polls; output = output; unsent = false }) past → IsTurn panel past.turns past.now
+turn_over plant panel count turns polls output past k = record { ended = k.ended; end_in = k.end_in; asked = k.asked; ask = k.ask; told = k.phase.0; polls = k.phase.1 }
 
 -- The next turn begins.
-pub keeps_turn : (plant : PlantData) (panel count turns polls : ℕ) (output : Output) (past : Past)
-    → Keeps plant (record { panel = panel; stage = End; items = count; turns = turns; polls = polls; output = output; unsent = false }) past
+pub keeps_turn : (plant : PlantData) (panel count turns polls : ℕ) (output : Output) (past : Progress)
+    → Keeps plant (record { panel = panel; phase = End; items = count; turns = turns; polls = polls; output = output; unsent = false }) past
     → Keeps plant (reading panel count (turns + 1) 0 output) (with_turn past)
 keeps_turn plant panel count turns polls output past k =
     let later = with_turn past in
@@ -106,7 +106,7 @@ keeps_turn plant panel count turns polls output past k =
       polls_are = refl;
       within = omega arith;
       polls = All-nil _;
-      stage = (refl, refl, subst Told_in (sym entries) (subst Told_of (sym (append-nil (k.before ++ k.asked))) k.stage.2));
+      phase = (refl, refl, subst Told_in (sym entries) (subst Told_of (sym (append-nil (k.before ++ k.asked))) k.phase.2));
       none_from = subst NoneIn (sym entries) (subst NoneOf (sym counted) k.none_from);
       output = ap (λ (asked : List Asked). output_from plant 0 asked (entries_so_far later) nothing_sent) (append-nil (k.before ++ k.asked))
           ∙ ap (λ (entries : List PlantEntry). output_from plant 0 (k.before ++ k.asked) entries nothing_sent) entries
@@ -128,7 +128,7 @@ keeps_nothing plant panel = record {
   polls_are = refl;
   within = omega arith;
   polls = All-nil _;
-  stage = (refl, refl, tt);
+  phase = (refl, refl, tt);
   none_from = record { told = λ k from. refl; polled = λ k from. refl };
   output = refl;
 } where
@@ -139,7 +139,7 @@ keeps_nothing plant panel = record {
   NoneAsk its = AllAsk its []
 
 -- The session's whole text was sent, where nothing is to be sent.
-pub keeps_text : (plant : PlantData) (kept : Kept) (past : Past) → kept.unsent ≡ false → Keeps plant kept past → IsText plant (items (read_so_far past)) (entries_so_far past) past.sent
+pub keeps_text : (plant : PlantData) (kept : Kept) (past : Progress) → kept.unsent ≡ false → Keeps plant kept past → IsText plant (items (read_so_far past)) (entries_so_far past) past.sent
 keeps_text plant kept past is k =
     let AskOf : List (Item (List ℕ)) → Type 0 = λ its. AllAsk its (k.before ++ k.asked) in
     let nothing : pending kept ≡ emptied kept.output = ap (λ (test : Bool). if test then kept.output else emptied kept.output) is in
@@ -150,7 +150,7 @@ keeps_text plant kept past is k =
     }
 
 -- What was told of a turn so far is a front of what its items send, and all of it where polls were made.
-told_front : (stage : Stage) (panel first : ℕ) (before asked : List Asked) (past : Past) → IsAtStage stage panel first before asked past → IsPrefix (requests past.now.told) (sent_to_plant panel first asked)
+told_front : (phase : Phase) (panel first : ℕ) (before asked : List Asked) (past : Progress) → IsAtStage phase panel first before asked past → IsPrefix (requests past.now.told) (sent_to_plant panel first asked)
 told_front Read panel first before asked past at = ([], append-nil _ ∙ at.0)
 told_front (Tell message) panel first before asked past at = (
   sent_to_plant panel (first + length at.0) (Sent message ∷ []),
@@ -161,14 +161,14 @@ told_front (Tell message) panel first before asked past at = (
 told_front PollStage panel first before asked past at = ([], append-nil _ ∙ at.0)
 told_front End panel first before asked past at = ([], append-nil _ ∙ at.0)
 
-told_all : (stage : Stage) (panel first : ℕ) (before asked : List Asked) (past : Past) → IsAtStage stage panel first before asked past → past.now.polls ≢ [] → requests past.now.told ≡ sent_to_plant panel first asked
+told_all : (phase : Phase) (panel first : ℕ) (before asked : List Asked) (past : Progress) → IsAtStage phase panel first before asked past → past.now.polls ≢ [] → requests past.now.told ≡ sent_to_plant panel first asked
 told_all Read panel first before asked past at some = at.0
 told_all (Tell message) panel first before asked past at some = absurd (some at.3)
 told_all PollStage panel first before asked past at some = at.0
 told_all End panel first before asked past at some = at.0
 
 -- What is kept is of a past that fits.
-pub keeps_so_far : (plant : PlantData) (kept : Kept) (past : Past) → Keeps plant kept past → IsSoFar plant kept.panel past
+pub keeps_so_far : (plant : PlantData) (kept : Kept) (past : Progress) → Keeps plant kept past → IsSoFar plant kept.panel past
 keeps_so_far plant kept past k =
     let AskOf : List (Item (List ℕ)) → Type 0 = λ its. AllAsk its (k.before ++ k.asked) in
     let first = length (items (bytes_of past.turns)) in
@@ -178,9 +178,9 @@ keeps_so_far plant kept past k =
       end_in = k.end_in;
       asked = k.asked;
       ask = k.ask;
-      told = told_front kept.stage kept.panel first k.before k.asked past k.stage;
+      told = told_front kept.phase kept.panel first k.before k.asked past k.phase;
       polls = k.polls;
-      told_first = told_all kept.stage kept.panel first k.before k.asked past k.stage;
+      told_first = told_all kept.phase kept.panel first k.before k.asked past k.phase;
       within = k.within;
       text = (output_from plant 0 (k.before ++ k.asked) (entries_so_far past) nothing_sent).bytes;
       is_text = record {

@@ -9,9 +9,9 @@ use Rattle.swp08_messages.specs.declared.message.Message.{Message}
 use Rattle.panel_session.specs.declared.asked.Asked.{Asked}
 use Rattle.panel_session.specs.declared.asked.Asked.TheVariants.{Nothing, Repeat, Refused, Noted, Named, Sent}
 use Rattle.panel_session.specs.declared.session.Session.{Session}
-use Rattle.panel_session.specs.declared.stage.Stage.{Stage}
+use Rattle.panel_session.specs.declared.phase.Phase.{Phase}
 use Rattle.panel_session.specs.AskedInside.{FoundAsks}
-use Rattle.panel_session.specs.MovesInside.{took, stage_with}
+use Rattle.panel_session.specs.MovesInside.{took, phase_with}
 use Rattle.panel_session.specs.ReadingInside.{HasReadOn}
 use Rattle.panel_session.specs.SoFar.{read_so_far}
 use Rattle.panel_session.specs.TakenInside.{sent_by, IsSending}
@@ -22,7 +22,7 @@ pub has_taken : (session after : Session) (framer_then : Framer) (piece : List �
     → ((text : List ℕ) → framer.StandsFor session.framer text → FoundAsks text piece used (Some a))
     → after ≡ took session.sender.names a (record session { framer = framer_then }) → (send ≡ true → sent_by session.sender.names a session.sender.output ≢ [])
     → (send ≡ true → IsSending session.sender.names a session.sender.output after.sender.output) → (send ≡ false → sent_by session.sender.names a session.sender.output ≡ [])
-    → (send ≡ false → after.stage ≡ session.stage) → HasReadOn session piece used send after
+    → (send ≡ false → after.phase ≡ session.phase) → HasReadOn session piece used send after
 has_taken session after framer_then piece used a send goes_over finds taken some sending none quiet = λ plant panel past reading small.
     let Took : PlantData → Type 0 = λ names. after ≡ took names a (record session { framer = framer_then }) in
     let Some : PlantData → Type 0 = λ names. send ≡ true → sent_by names a session.sender.output ≢ [] in
@@ -49,10 +49,10 @@ has_told session framer_then piece used message goes_over finds =
     has_taken session (told_by framer_then message session) framer_then piece used (Sent message) true goes_over finds refl (λ _ none. cc) (λ _. refl) (λ no. absurd (false≢true (sym no))) (λ no. absurd (false≢true (sym no)))
 
 -- Other items leave what a session does next.
-pub stage_stays : (a : Asked) (stage : Stage) → ((message : Message) → a ≡ Sent message → ⊥) → stage_with a stage ≡ stage
-stage_stays Nothing stage other = refl
-stage_stays Repeat stage other = refl
-stage_stays Refused stage other = refl
-stage_stays Noted stage other = refl
-stage_stays (Named message) stage other = refl
-stage_stays (Sent message) stage other = absurd (other message refl)
+pub phase_stays : (a : Asked) (phase : Phase) → ((message : Message) → a ≡ Sent message → ⊥) → phase_with a phase ≡ phase
+phase_stays Nothing phase other = refl
+phase_stays Repeat phase other = refl
+phase_stays Refused phase other = refl
+phase_stays Noted phase other = refl
+phase_stays (Named message) phase other = refl
+phase_stays (Sent message) phase other = absurd (other message refl)

@@ -19,7 +19,7 @@ use Rattle.panel_session.specs.Entry.{PlantEntry}
 use Rattle.panel_session.specs.Run.{MayTurn, HasRun}
 use Rattle.panel_session.specs.RunInside.{IsUnderWay}
 use Rattle.panel_session.specs.Session.{StandsFor, outgoing_of}
-use Rattle.panel_session.specs.SoFar.{Past, unread, read_so_far, with_bytes, with_sent, with_entry}
+use Rattle.panel_session.specs.SoFar.{Progress, unread, read_so_far, with_bytes, with_sent, with_entry}
 use Rattle.panel_session.specs.Turns.{Turn, bytes_of, entries_in, entries_of_turns, IsTurn}
 use Rattle.panel_session.specs.Text.{IsText}
 
@@ -37,7 +37,7 @@ told_behind told polls entry none =
     subst P (sym none) (append-nil (told ++ entry ∷ []) ∙ ap (λ (told : List PlantEntry). told ++ entry ∷ []) (sym (append-nil told)))
 
 module _ {State : Type 0} {step : State → Request → Stepped State Answer} {Fits : State → Request → Type 0}
-    {plant : PlantData} {panel : ℕ} {past : Past} {piece : List ℕ} {machine : State} where
+    {plant : PlantData} {panel : ℕ} {past : Progress} {piece : List ℕ} {machine : State} where
   -- a turn begins
   pub way_begins : {most : State → ℕ} {session : Session} → MayTurn step Fits most plant panel session past machine piece
       → IsUnderWay step Fits plant panel past piece machine machine session piece past []
@@ -57,7 +57,7 @@ module _ {State : Type 0} {step : State → Request → Stepped State Answer} {F
       }
 
   -- what is left of the piece may go on the turn so far
-  pub may_go_on : {most : State → ℕ} {machine_now : State} {session session_now : Session} {now : Past} {rest more : List ℕ}
+  pub may_go_on : {most : State → ℕ} {machine_now : State} {session session_now : Session} {now : Progress} {rest more : List ℕ}
       → MayTurn step Fits most plant panel session past machine piece
       → IsUnderWay step Fits plant panel past piece machine machine_now session_now rest now more → MayGoOn now rest
   may_go_on {now = now} {rest = rest} may way =
@@ -76,7 +76,7 @@ module _ {State : Type 0} {step : State → Request → Stepped State Answer} {F
       }
 
   -- what a call of `act` does on the way
-  pub acts_on_way : {most : State → ℕ} {machine_now : State} {session session_now : Session} {now : Past} {rest more : List ℕ}
+  pub acts_on_way : {most : State → ℕ} {machine_now : State} {session session_now : Session} {now : Progress} {rest more : List ℕ}
       (used : ℕ) (act done : Act) (after : Session) → MayTurn step Fits most plant panel session past machine piece
       → IsUnderWay step Fits plant panel past piece machine machine_now session_now rest now more
       → ActsOn session_now rest used act after → act ≡ done → Acts plant panel (with_bytes (take used rest) now) rest used done after
@@ -85,7 +85,7 @@ module _ {State : Type 0} {step : State → Request → Stepped State Answer} {F
       subst At is (acts plant panel now way.stands (may_go_on may way))
 
   -- the machine's answers to a request that it takes can be sent
-  pub sayable_now : {most : State → ℕ} {machine_now : State} {session session_now : Session} {now : Past} {rest more : List ℕ}
+  pub sayable_now : {most : State → ℕ} {machine_now : State} {session session_now : Session} {now : Progress} {rest more : List ℕ}
       (request : Request) → MayTurn step Fits most plant panel session past machine piece
       → IsUnderWay step Fits plant panel past piece machine machine_now session_now rest now more
       → Fits machine_now request → All IsSayable (step machine_now request).answers
@@ -95,7 +95,7 @@ module _ {State : Type 0} {step : State → Request → Stepped State Answer} {F
       subst SayableIn (sym way.machine_is) (may.serves.sayable (entries_in now.now) request way.legal (subst FitsIn way.machine_is fits))
 
   -- more of the piece was used
-  pub used_more : {machine_now : State} {session_now : Session} {now : Past} {rest more : List ℕ} (used : ℕ)
+  pub used_more : {machine_now : State} {session_now : Session} {now : Progress} {rest more : List ℕ} (used : ℕ)
       → IsUnderWay step Fits plant panel past piece machine machine_now session_now rest now more
       → (now.now.piece ++ take used rest) ++ drop used rest ≡ piece
   used_more {now = now} {rest = rest} used way =
@@ -103,7 +103,7 @@ module _ {State : Type 0} {step : State → Request → Stepped State Answer} {F
       ∙ ap (λ (bytes : List ℕ). now.now.piece ++ bytes) (take-append-drop used rest) ∙ way.piece_is
 
   -- bytes were sent
-  pub way_sent : {machine_now : State} {session_now after : Session} {now : Past} {rest left more : List ℕ} (used : ℕ)
+  pub way_sent : {machine_now : State} {session_now after : Session} {now : Progress} {rest left more : List ℕ} (used : ℕ)
       → IsUnderWay step Fits plant panel past piece machine machine_now session_now rest now more → left ≡ drop used rest
       → Acts plant panel (with_bytes (take used rest) now) rest used Send after
       → IsUnderWay step Fits plant panel past piece machine machine_now after left
@@ -120,7 +120,7 @@ module _ {State : Type 0} {step : State → Request → Stepped State Answer} {F
   }
 
   -- A request was answered, with its entry behind the others, and bytes were sent.
-  pub asked_behind : {machine_now machine_then : State} {session_now after : Session} {now later : Past} {rest left more : List ℕ}
+  pub asked_behind : {machine_now machine_then : State} {session_now after : Session} {now later : Progress} {rest left more : List ℕ}
       (used : ℕ) (request : Request) (added : List ℕ)
       → IsUnderWay step Fits plant panel past piece machine machine_now session_now rest now more → left ≡ drop used rest
       → Fits machine_now request → machine_then ≡ (step machine_now request).state → StandsFor plant panel after later
@@ -150,7 +150,7 @@ module _ {State : Type 0} {step : State → Request → Stepped State Answer} {F
       }
 
   -- no bytes more were sent
-  no_more : {machine_now : State} {session_now : Session} {now : Past} {rest more : List ℕ}
+  no_more : {machine_now : State} {session_now : Session} {now : Progress} {rest more : List ℕ}
       → IsUnderWay step Fits plant panel past piece machine machine_now session_now rest now (more ++ [])
       → IsUnderWay step Fits plant panel past piece machine machine_now session_now rest now more
   no_more {machine_now = machine_now} {session_now = session_now} {now = now} {rest = rest} {more = more} way =
@@ -158,7 +158,7 @@ module _ {State : Type 0} {step : State → Request → Stepped State Answer} {F
       subst Sent (append-nil more) way
 
   -- the machine answered a request
-  pub way_asked : {machine_now machine_then : State} {session_now after : Session} {now : Past} {rest left more : List ℕ}
+  pub way_asked : {machine_now machine_then : State} {session_now after : Session} {now : Progress} {rest left more : List ℕ}
       (used : ℕ) (request : Request)
       → IsUnderWay step Fits plant panel past piece machine machine_now session_now rest now more → left ≡ drop used rest
       → IsInPlace (with_bytes (take used rest) now) request used rest
@@ -178,7 +178,7 @@ module _ {State : Type 0} {step : State → Request → Stepped State Answer} {F
   way_asked used (DisplayPoll screen refresh) way is place fits state stands = absurd place
 
   -- the turn is over
-  pub way_over : {machine_now : State} {session_now after : Session} {now : Past} {rest more : List ℕ} (used : ℕ)
+  pub way_over : {machine_now : State} {session_now after : Session} {now : Progress} {rest more : List ℕ} (used : ℕ)
       → IsUnderWay step Fits plant panel past piece machine machine_now session_now rest now more
       → Acts plant panel (with_bytes (take used rest) now) rest used Rest after
       → HasRun step Fits plant panel past piece machine machine_now after more
@@ -188,7 +188,7 @@ module _ {State : Type 0} {step : State → Request → Stepped State Answer} {F
       let TurnBehind : List Turn → Type 0 = λ turns. IsTurn panel turns turn in
       let TextBehind : List Turn → Type 0 = λ turns. IsText plant (items (bytes_of turns ++ turn.piece)) (entries_of_turns turns ++ entries_in turn) now.sent in
       let TextOf : List ℕ → Type 0 = λ sent. IsText plant (items (bytes_of past.turns ++ turn.piece)) (entries_of_turns past.turns ++ entries_in turn) sent in
-      let At : Past → Type 0 = λ past. StandsFor plant panel after past in
+      let At : Progress → Type 0 = λ past. StandsFor plant panel after past in
       record {
         turn = turn;
         piece_is = ap (λ (bytes : List ℕ). now.now.piece ++ bytes) all ∙ way.piece_is;
@@ -205,8 +205,8 @@ module _ {State : Type 0} {step : State → Request → Stepped State Answer} {F
       }
 
 -- A turn that went on, with bytes more,
-pub goes_more : {State : Type 0} {step : State → Request → Stepped State Answer} {Fits : State → Request → Type 0} {plant : PlantData} {panel : ℕ} {past : Past} {piece : List ℕ} {first machine : State}
-    {session : Session} {rest : List ℕ} {now : Past} (more added bytes : List ℕ)
+pub goes_more : {State : Type 0} {step : State → Request → Stepped State Answer} {Fits : State → Request → Type 0} {plant : PlantData} {panel : ℕ} {past : Progress} {piece : List ℕ} {first machine : State}
+    {session : Session} {rest : List ℕ} {now : Progress} (more added bytes : List ℕ)
     → IsUnderWay step Fits plant panel past piece first machine session rest now ((more ++ added) ++ bytes)
     → IsUnderWay step Fits plant panel past piece first machine session rest now (more ++ (added ++ bytes))
 goes_more {step = step} {Fits = Fits} {plant = plant} {panel = panel} {past = past} {piece = piece} {first = first} {machine = machine} {session = session} {rest = rest} {now = now} more added bytes way =
@@ -214,8 +214,8 @@ goes_more {step = step} {Fits = Fits} {plant = plant} {panel = panel} {past = pa
     subst More (append_assoc more added bytes) way
 
 -- with no bytes more,
-pub goes_none : {State : Type 0} {step : State → Request → Stepped State Answer} {Fits : State → Request → Type 0} {plant : PlantData} {panel : ℕ} {past : Past} {piece : List ℕ} {first machine : State}
-    {session : Session} {rest : List ℕ} {now : Past} {more : List ℕ}
+pub goes_none : {State : Type 0} {step : State → Request → Stepped State Answer} {Fits : State → Request → Type 0} {plant : PlantData} {panel : ℕ} {past : Progress} {piece : List ℕ} {first machine : State}
+    {session : Session} {rest : List ℕ} {now : Progress} {more : List ℕ}
     → IsUnderWay step Fits plant panel past piece first machine session rest now more
     → IsUnderWay step Fits plant panel past piece first machine session rest now (more ++ [])
 goes_none {step = step} {Fits = Fits} {plant = plant} {panel = panel} {past = past} {piece = piece} {first = first} {machine = machine} {session = session} {rest = rest} {now = now} {more = more} way =
@@ -223,8 +223,8 @@ goes_none {step = step} {Fits = Fits} {plant = plant} {panel = panel} {past = pa
     subst More (sym (append-nil more)) way
 
 -- with bytes that were sent for an item,
-pub goes_sent : {State : Type 0} {step : State → Request → Stepped State Answer} {Fits : State → Request → Type 0} {plant : PlantData} {panel : ℕ} {past : Past} {piece : List ℕ} {first machine : State}
-    {session : Session} {rest left : List ℕ} {now : Past} (more added bytes : List ℕ) (send : Bool) → send ≡ true → left ≡ rest
+pub goes_sent : {State : Type 0} {step : State → Request → Stepped State Answer} {Fits : State → Request → Type 0} {plant : PlantData} {panel : ℕ} {past : Progress} {piece : List ℕ} {first machine : State}
+    {session : Session} {rest left : List ℕ} {now : Progress} (more added bytes : List ℕ) (send : Bool) → send ≡ true → left ≡ rest
     → IsUnderWay step Fits plant panel past piece first machine session rest now ((more ++ added) ++ (if send then bytes else []))
     → IsUnderWay step Fits plant panel past piece first machine session left now (more ++ (added ++ bytes))
 goes_sent {step = step} {Fits = Fits} {plant = plant} {panel = panel} {past = past} {piece = piece} {first = first} {machine = machine} {session = session} {rest = rest} {now = now} more added bytes send loud is way =
@@ -234,8 +234,8 @@ goes_sent {step = step} {Fits = Fits} {plant = plant} {panel = panel} {past = pa
     subst Left (sym is) (subst (Way rest) (append_assoc more added bytes) (subst Sends loud way))
 
 -- or with none.
-pub goes_quiet : {State : Type 0} {step : State → Request → Stepped State Answer} {Fits : State → Request → Type 0} {plant : PlantData} {panel : ℕ} {past : Past} {piece : List ℕ} {first machine : State}
-    {session : Session} {rest left : List ℕ} {now : Past} (more bytes : List ℕ) (send : Bool) → send ≡ false → left ≡ rest
+pub goes_quiet : {State : Type 0} {step : State → Request → Stepped State Answer} {Fits : State → Request → Type 0} {plant : PlantData} {panel : ℕ} {past : Progress} {piece : List ℕ} {first machine : State}
+    {session : Session} {rest left : List ℕ} {now : Progress} (more bytes : List ℕ) (send : Bool) → send ≡ false → left ≡ rest
     → IsUnderWay step Fits plant panel past piece first machine session rest now (more ++ (if send then bytes else []))
     → IsUnderWay step Fits plant panel past piece first machine session left now more
 goes_quiet {step = step} {Fits = Fits} {plant = plant} {panel = panel} {past = past} {piece = piece} {first = first} {machine = machine} {session = session} {rest = rest} {now = now} more bytes send quiet is way =

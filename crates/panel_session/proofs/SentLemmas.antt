@@ -11,8 +11,8 @@ use Rattle.plant_core.specs.declared.request.Request.{Request}
 use Rattle.plant_core.specs.declared.request.Request.TheVariants.{Told}
 use Rattle.swp08_messages.specs.declared.message.Message.{Message}
 use Rattle.panel_session.specs.declared.session.Session.{Session}
-use Rattle.panel_session.specs.declared.stage.Stage.{Stage}
-use Rattle.panel_session.specs.declared.stage.Stage.TheVariants.{Read, Tell, Poll as PollStage, End}
+use Rattle.panel_session.specs.declared.phase.Phase.{Phase}
+use Rattle.panel_session.specs.declared.phase.Phase.TheVariants.{Read, Tell, Poll as PollStage, End}
 use Rattle.panel_session.specs.declared.asked.Asked.{Asked}
 use Rattle.panel_session.specs.declared.asked.Asked.TheVariants.{Sent}
 use Rattle.panel_session.specs.Entry.{PlantEntry}
@@ -23,7 +23,7 @@ use Rattle.panel_session.specs.ReadingInside.{IsReading}
 use Rattle.panel_session.specs.RoomsInside.{fitting}
 use Rattle.panel_session.specs.SenderKept.{sending}
 use Rattle.panel_session.specs.Session.{StandsFor, Awaits, AsksAt, kept_of, outgoing_of, with_outbox}
-use Rattle.panel_session.specs.SoFar.{Past, unread, read_so_far, with_sent, with_entry}
+use Rattle.panel_session.specs.SoFar.{Progress, unread, read_so_far, with_sent, with_entry}
 use Rattle.panel_session.specs.StandsInside.{Kept, Keeps, IsAtStage, behind}
 use Rattle.panel_session.specs.Text.{Output, frames_of, with_frames}
 use Rattle.panel_session.specs.Turns.{Turn, bytes_of}
@@ -31,7 +31,7 @@ use Rattle.panel_session.proofs.ActsLemmas.{no_bytes}
 use Rattle.panel_session.proofs.KeptItemLemmas.{length-asked, length-before}
 use Rattle.panel_session.proofs.OutputLemmas.{frames-behind}
 use Rattle.panel_session.proofs.SessionLemmas.{answered_poll, answered_told, awaits_with, sends_unsent}
-use Rattle.panel_session.proofs.StandsLemmas.{at_stage, stands_with}
+use Rattle.panel_session.proofs.StandsLemmas.{at_phase, stands_with}
 
 -- What is to be sent with frames behind it.
 pub behind_frames : (frames : List (List ℕ)) (output : Output) → with_frames frames output ≡ behind output.bytes (with_frames frames (emptied output))
@@ -40,16 +40,16 @@ behind_frames frames output =
     subst P (append-nil output.bytes) (frames-behind frames output.bytes (emptied output))
 
 -- A session stands for the same past, whatever it has sent.
-pub stands_whatever : (plant : PlantData) (panel : ℕ) (session : Session) (past : Past) (bytes : List ℕ) → StandsFor plant panel session past → session.unsent ≡ false
+pub stands_whatever : (plant : PlantData) (panel : ℕ) (session : Session) (past : Progress) (bytes : List ℕ) → StandsFor plant panel session past → session.unsent ≡ false
     → StandsFor plant panel (record session { sender = sending (record session.sender.output { bytes = bytes }) session.sender }) past
 unfolding StandsFor
 stands_whatever plant panel session past bytes stands none =
     let after = record session { sender = sending (record session.sender.output { bytes = bytes }) session.sender } in
     let KeepsOf : Kept → Type 0 = λ kept. Keeps plant kept past in
-    let k = subst KeepsOf (at_stage session session.stage refl none) stands.0.keeps in
+    let k = subst KeepsOf (at_phase session session.phase refl none) stands.0.keeps in
     let same : Keeps plant (record {
       panel = session.panel;
-      stage = session.stage;
+      phase = session.phase;
       items = session.items;
       turns = session.counts.turns;
       polls = session.polls;
@@ -68,18 +68,18 @@ stands_whatever plant panel session past bytes stands none =
       polls_are = k.polls_are;
       within = k.within;
       polls = k.polls;
-      stage = k.stage;
+      phase = k.phase;
       none_from = k.none_from;
       output = k.output;
     } in (
       stands_with plant panel session after past past stands.0 refl refl refl refl refl refl refl refl
-          (subst KeepsOf (sym (at_stage after session.stage refl none)) same) (λ unsent. absurd (false≢true (sym none ∙ unsent))),
+          (subst KeepsOf (sym (at_phase after session.phase refl none)) same) (λ unsent. absurd (false≢true (sym none ∙ unsent))),
       stands.1,
       stands.2,
     )
 
 -- The frames of answers that were taken are sent.
-once_sent : (plant : PlantData) (panel : ℕ) (session : Session) (past : Past) (answers : List Answer) (bytes : List ℕ) → (with_frames (frames_of answers) (emptied session.sender.output)).bytes ≡ bytes
+once_sent : (plant : PlantData) (panel : ℕ) (session : Session) (past : Progress) (answers : List Answer) (bytes : List ℕ) → (with_frames (frames_of answers) (emptied session.sender.output)).bytes ≡ bytes
     → ((unsent : Bool) → (unsent ≡ true → (with_frames (frames_of answers) (emptied session.sender.output)).bytes ≢ [])
     → (unsent ≡ false → (with_frames (frames_of answers) (emptied session.sender.output)).bytes ≡ []) → StandsFor plant panel (took_answers answers unsent session) past)
     → StandsFor plant panel (took_answers answers false session) (with_sent bytes past)
@@ -90,37 +90,37 @@ once_sent plant panel session past answers (byte ∷ bytes) is stands =
     let after = took_answers answers true session in
     let acts = sends_unsent plant panel after past [] (stands true (λ _ none. cc) (λ no. absurd (false≢true (sym no)))) refl in
     let At : List ℕ → Type 0 = λ bytes. StandsFor plant panel (took_answers answers false session) (with_sent bytes past) in
-    let Now : Past → Type 0 = λ now. StandsFor plant panel (took_answers answers false session) (with_sent (outgoing_of after) now) in
+    let Now : Progress → Type 0 = λ now. StandsFor plant panel (took_answers answers false session) (with_sent (outgoing_of after) now) in
     subst At is (subst Now (no_bytes past) acts.1)
 
 -- The plant answered what an item sent to it, and the frames of the answers are sent.
-pub told_sent : (plant : PlantData) (panel seat : ℕ) (session : Session) (past : Past) (request : Request) (message : Message) (answers : List Answer) → Awaits plant panel session past request
-    → length answers ≤ room_of plant → session.stage ≡ Tell message
-    → StandsFor plant panel (took_answers (fitting session.sender.names answers) false (record session { stage = Read }))
+pub told_sent : (plant : PlantData) (panel seat : ℕ) (session : Session) (past : Progress) (request : Request) (message : Message) (answers : List Answer) → Awaits plant panel session past request
+    → length answers ≤ room_of plant → session.phase ≡ Tell message
+    → StandsFor plant panel (took_answers (fitting session.sender.names answers) false (record session { phase = Read }))
     (with_sent (with_frames (frames_of (fitting session.sender.names answers)) (emptied session.sender.output)).bytes (with_entry (record { seat = seat; request = request; answers = answers }) past))
 told_sent plant panel seat session past request message answers awaits few tell =
     let box : Placed Answer = record session.outbox { items = answers } in
     let fit = fitting session.sender.names answers in
     let waits = awaits_with plant panel session past request box awaits refl in
-    once_sent plant panel (record session { stage = Read }) (with_entry (record { seat = seat; request = request; answers = answers }) past) fit _ refl
-    (λ unsent some none. answered_told plant panel seat (with_outbox session box) (took_answers fit unsent (record session { stage = Read })) past request message waits few tell refl some none)
+    once_sent plant panel (record session { phase = Read }) (with_entry (record { seat = seat; request = request; answers = answers }) past) fit _ refl
+    (λ unsent some none. answered_told plant panel seat (with_outbox session box) (took_answers fit unsent (record session { phase = Read })) past request message waits few tell refl some none)
 
 -- So it is with a poll.
-pub polled_sent : (plant : PlantData) (panel seat : ℕ) (session : Session) (past : Past) (request : Request) (stage : Stage) (polls : ℕ) (answers : List Answer) → Awaits plant panel session past request
-    → length answers ≤ room_of plant → session.stage ≡ PollStage → polls ≡ (session.polls + 1) % 2 ^ 32 → HasPolled answers polls stage
-    → StandsFor plant panel (took_answers (fitting session.sender.names answers) false (record session { stage = stage; polls = polls }))
+pub polled_sent : (plant : PlantData) (panel seat : ℕ) (session : Session) (past : Progress) (request : Request) (phase : Phase) (polls : ℕ) (answers : List Answer) → Awaits plant panel session past request
+    → length answers ≤ room_of plant → session.phase ≡ PollStage → polls ≡ (session.polls + 1) % 2 ^ 32 → HasPolled answers polls phase
+    → StandsFor plant panel (took_answers (fitting session.sender.names answers) false (record session { phase = phase; polls = polls }))
     (with_sent (with_frames (frames_of (fitting session.sender.names answers)) (emptied session.sender.output)).bytes (with_entry (record { seat = seat; request = request; answers = answers }) past))
-polled_sent plant panel seat session past request stage polls answers awaits few poll counted polled =
+polled_sent plant panel seat session past request phase polls answers awaits few poll counted polled =
     let box : Placed Answer = record session.outbox { items = answers } in
     let fit = fitting session.sender.names answers in
     let waits = awaits_with plant panel session past request box awaits refl in
-    once_sent plant panel (record session { stage = stage; polls = polls }) (with_entry (record { seat = seat; request = request; answers = answers }) past) fit _ refl
-    (λ unsent some none. answered_poll plant panel seat (with_outbox session box) (took_answers fit unsent (record session { stage = stage; polls = polls })) past request stage polls waits few poll counted polled refl some none)
+    once_sent plant panel (record session { phase = phase; polls = polls }) (with_entry (record { seat = seat; request = request; answers = answers }) past) fit _ refl
+    (λ unsent some none. answered_poll plant panel seat (with_outbox session box) (took_answers fit unsent (record session { phase = phase; polls = polls })) past request phase polls waits few poll counted polled refl some none)
 
 -- A session that reads stands for its past.
-pub reading_stands : (plant : PlantData) (panel : ℕ) (session : Session) (past : Past) → IsReading plant panel session past → StandsFor plant panel session past
+pub reading_stands : (plant : PlantData) (panel : ℕ) (session : Session) (past : Progress) → IsReading plant panel session past → StandsFor plant panel session past
 unfolding StandsFor
-reading_stands plant panel session past reading = (reading.stands, reading.none_asked, λ poll. (let read = reading.stage in cc))
+reading_stands plant panel session past reading = (reading.stands, reading.none_asked, λ poll. (let read = reading.phase in cc))
 
 -- The answers were taken from an outbox with as many places.
 pub taken_too : (session : Session) (box : Placed Answer) (answers : List Answer) → box.items ≡ answers → box.places ≡ session.outbox.places → answered_too box.items (with_outbox session box) ≡ answered_too answers session
@@ -129,30 +129,30 @@ taken_too session box answers items places =
     ap (λ (places : ℕ). taken places box.items) places ∙ ap (taken session.outbox.places) items
 
 -- what a session asks that is to tell the plant a message
-pub told_is : (plant : PlantData) (panel : ℕ) (session : Session) (past : Past) (request : Request) (message : Message) → Awaits plant panel session past request → session.stage ≡ Tell message
+pub told_is : (plant : PlantData) (panel : ℕ) (session : Session) (past : Progress) (request : Request) (message : Message) → Awaits plant panel session past request → session.phase ≡ Tell message
     → request ≡ Told session.panel (session.items - 1) message
 unfolding Awaits
 told_is plant panel session past request message awaits tell =
-    let AskAt : Stage → Type 0 = λ stage. AsksAt stage (kept_of session) request in
+    let AskAt : Phase → Type 0 = λ phase. AsksAt phase (kept_of session) request in
     subst AskAt tell awaits.2
 
 -- a session that reads has not polled in the turn
-pub polls_none : (plant : PlantData) (panel : ℕ) (session : Session) (past : Past) → IsReading plant panel session past → session.polls ≡ 0
+pub polls_none : (plant : PlantData) (panel : ℕ) (session : Session) (past : Progress) → IsReading plant panel session past → session.polls ≡ 0
 polls_none plant panel session past reading =
     let k = reading.stands.keeps in
-    let StageAt : Stage → Type 0 = λ stage. IsAtStage stage session.panel (length (items (bytes_of past.turns))) k.before k.asked past in
-    let at = subst StageAt reading.stage k.stage in
+    let StageAt : Phase → Type 0 = λ phase. IsAtStage phase session.panel (length (items (bytes_of past.turns))) k.before k.asked past in
+    let at = subst StageAt reading.phase k.phase in
     let polls_are : session.polls ≡ length past.now.polls = k.polls_are in
     polls_are ∙ ap (length {A = PlantEntry}) at.1
 
 -- A session that stands for a past whose present turn read nothing and made no poll reads.
-pub reads_unread : (plant : PlantData) (panel : ℕ) (session : Session) (past : Past) (stage : Stage) → session.stage ≡ stage → StandsFor plant panel session past → past.now ≡ unread → session.stage ≡ Read
+pub reads_unread : (plant : PlantData) (panel : ℕ) (session : Session) (past : Progress) (phase : Phase) → session.phase ≡ phase → StandsFor plant panel session past → past.now ≡ unread → session.phase ≡ Read
 unfolding StandsFor
 reads_unread plant panel session past Read is stands begins = is
 reads_unread plant panel session past (Tell message) is stands begins =
     let k = stands.0.keeps in
-    let StageAt : Stage → Type 0 = λ stage. IsAtStage stage session.panel (length (items (bytes_of past.turns))) k.before k.asked past in
-    let at = subst StageAt is k.stage in
+    let StageAt : Phase → Type 0 = λ phase. IsAtStage phase session.panel (length (items (bytes_of past.turns))) k.before k.asked past in
+    let at = subst StageAt is k.phase in
     let all = length-asked plant (kept_of session) past k in
     let front = length-before plant (kept_of session) past k in
     let asked_is : k.asked ≡ at.0 ++ Sent message ∷ [] = at.1 in
@@ -169,11 +169,11 @@ reads_unread plant panel session past (Tell message) is stands begins =
 reads_unread plant panel session past PollStage is stands begins = absurd (stands.2 is (ap (λ (turn : Turn). turn.polls) begins))
 reads_unread plant panel session past End is stands begins =
     let k = stands.0.keeps in
-    let StageAt : Stage → Type 0 = λ stage. IsAtStage stage session.panel (length (items (bytes_of past.turns))) k.before k.asked past in
-    let at = subst StageAt is k.stage in
+    let StageAt : Phase → Type 0 = λ phase. IsAtStage phase session.panel (length (items (bytes_of past.turns))) k.before k.asked past in
+    let at = subst StageAt is k.phase in
     let none : past.now.polls ≡ [] = ap (λ (turn : Turn). turn.polls) begins in
     absurd (omega (arith, ap (length {A = PlantEntry}) at.1.polls_are, ap (length {A = PlantEntry}) none, length-append at.1.answered (at.1.last ∷ [])))
 
 -- A poll that isn't the last has answers, and isn't the 32nd.
-pub polls_again : (answers : List Answer) (polls : ℕ) (stage : Stage) → HasPolled answers polls stage → (stage ≡ End → ⊥) → (stage ≡ PollStage) × (polls ≢ 32)
-polls_again answers polls stage polled goes_on = elim polled [ (inl last) ↦ absurd (goes_on last.0) | (inr more) ↦ (more.0, more.2) ]
+pub polls_again : (answers : List Answer) (polls : ℕ) (phase : Phase) → HasPolled answers polls phase → (phase ≡ End → ⊥) → (phase ≡ PollStage) × (polls ≢ 32)
+polls_again answers polls phase polled goes_on = elim polled [ (inl last) ↦ absurd (goes_on last.0) | (inr more) ↦ (more.0, more.2) ]

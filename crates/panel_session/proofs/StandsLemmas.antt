@@ -18,17 +18,17 @@ use Rattle.plant_core.specs.declared.request.Request.TheVariants.{Told}
 use Rattle.panel_session.specs.declared.asked.Asked.{Asked}
 use Rattle.panel_session.specs.declared.asked.Asked.TheVariants.{Nothing, Repeat, Refused, Noted, Named, Sent}
 use Rattle.panel_session.specs.declared.session.Session.{Session}
-use Rattle.panel_session.specs.declared.stage.Stage.{Stage}
-use Rattle.panel_session.specs.declared.stage.Stage.TheVariants.{Read, Tell, Poll as PollStage}
+use Rattle.panel_session.specs.declared.phase.Phase.{Phase}
+use Rattle.panel_session.specs.declared.phase.Phase.TheVariants.{Read, Tell, Poll as PollStage}
 use Rattle.panel_session.specs.Asked.{Asks}
 use Rattle.panel_session.specs.declared.counts.Counts.{Counts}
 use Rattle.panel_session.specs.Counted.{is_good_item, is_bad_item, goods_of, bads_of}
-use Rattle.panel_session.specs.SoFar.{Past, read_so_far, with_bytes, with_sent, with_entry}
-use Rattle.panel_session.specs.TakenInside.{taken_stage, taken_output, sent_by}
+use Rattle.panel_session.specs.SoFar.{Progress, read_so_far, with_bytes, with_sent, with_entry}
+use Rattle.panel_session.specs.TakenInside.{taken_phase, taken_output, sent_by}
 use Rattle.panel_session.specs.Text.{Output, frames_of, with_frames}
 use Rattle.panel_session.specs.StandsInside.{Kept, Keeps}
 use Rattle.panel_session.specs.Session.{Stands, kept_of}
-use Rattle.panel_session.specs.MovesInside.{next, counts_with, stage_with, took, took_answers}
+use Rattle.panel_session.specs.MovesInside.{next, counts_with, phase_with, took, took_answers}
 use Rattle.panel_session.proofs.KeptItemLemmas.{reading, read-more, keeps_item, keeps_none, keeps_to_poll}
 use Rattle.panel_session.proofs.KeepsLemmas.{keeps_sent, keeps_told}
 
@@ -109,33 +109,33 @@ turns-with Noted counts = refl
 turns-with (Named message) counts = refl
 turns-with (Sent message) counts = refl
 
-pub stage-is : (a : Asked) (stage : Stage) → stage ≡ Read → stage_with a stage ≡ taken_stage a
-stage-is Nothing stage read = read
-stage-is Repeat stage read = read
-stage-is Refused stage read = read
-stage-is Noted stage read = read
-stage-is (Named message) stage read = read
-stage-is (Sent message) stage read = refl
+pub phase-is : (a : Asked) (phase : Phase) → phase ≡ Read → phase_with a phase ≡ taken_phase a
+phase-is Nothing phase read = read
+phase-is Repeat phase read = read
+phase-is Refused phase read = read
+phase-is Noted phase read = read
+phase-is (Named message) phase read = read
+phase-is (Sent message) phase read = refl
 
 -- what is kept, by its parts
-pub kept_same : (panel polls : ℕ) (output : Output) (stage stage_then : Stage) (count count_then turns turns_then : ℕ) (unsent unsent_then : Bool) → stage ≡ stage_then → count ≡ count_then → turns ≡ turns_then → unsent ≡ unsent_then
-    → let kept : Stage → ℕ → ℕ → Bool → Kept = λ stage count turns unsent. record { panel = panel; stage = stage; items = count; turns = turns; polls = polls; output = output; unsent = unsent } in
-    kept stage count turns unsent ≡ kept stage_then count_then turns_then unsent_then
-kept_same panel polls output stage stage_then count count_then turns turns_then unsent unsent_then same_stage same_count same_turns same_unsent =
-    let kept : Stage → ℕ → ℕ → Bool → Kept = λ stage count turns unsent. record { panel = panel; stage = stage; items = count; turns = turns; polls = polls; output = output; unsent = unsent } in
-    ap (λ (stage : Stage). kept stage count turns unsent) same_stage
-    ∙ ap (λ (count : ℕ). kept stage_then count turns unsent) same_count
-    ∙ ap (λ (turns : ℕ). kept stage_then count_then turns unsent) same_turns
-    ∙ ap (λ (unsent : Bool). kept stage_then count_then turns_then unsent) same_unsent
+pub kept_same : (panel polls : ℕ) (output : Output) (phase phase_then : Phase) (count count_then turns turns_then : ℕ) (unsent unsent_then : Bool) → phase ≡ phase_then → count ≡ count_then → turns ≡ turns_then → unsent ≡ unsent_then
+    → let kept : Phase → ℕ → ℕ → Bool → Kept = λ phase count turns unsent. record { panel = panel; phase = phase; items = count; turns = turns; polls = polls; output = output; unsent = unsent } in
+    kept phase count turns unsent ≡ kept phase_then count_then turns_then unsent_then
+kept_same panel polls output phase phase_then count count_then turns turns_then unsent unsent_then same_phase same_count same_turns same_unsent =
+    let kept : Phase → ℕ → ℕ → Bool → Kept = λ phase count turns unsent. record { panel = panel; phase = phase; items = count; turns = turns; polls = polls; output = output; unsent = unsent } in
+    ap (λ (phase : Phase). kept phase count turns unsent) same_phase
+    ∙ ap (λ (count : ℕ). kept phase_then count turns unsent) same_count
+    ∙ ap (λ (turns : ℕ). kept phase_then count_then turns unsent) same_turns
+    ∙ ap (λ (unsent : Bool). kept phase_then count_then turns_then unsent) same_unsent
 
--- a session at a stage, with nothing to be sent
-pub at_stage : (session : Session) (stage : Stage) → session.stage ≡ stage → session.unsent ≡ false
-    → kept_of session ≡ record { panel = session.panel; stage = stage; items = session.items; turns = session.counts.turns; polls = session.polls; output = session.sender.output; unsent = false }
-at_stage session stage at none = kept_same session.panel session.polls session.sender.output session.stage stage session.items session.items session.counts.turns session.counts.turns session.unsent false at refl refl none
+-- a session at a phase, with nothing to be sent
+pub at_phase : (session : Session) (phase : Phase) → session.phase ≡ phase → session.unsent ≡ false
+    → kept_of session ≡ record { panel = session.panel; phase = phase; items = session.items; turns = session.counts.turns; polls = session.polls; output = session.sender.output; unsent = false }
+at_phase session phase at none = kept_same session.panel session.polls session.sender.output session.phase phase session.items session.items session.counts.turns session.counts.turns session.unsent false at refl refl none
 
 -- An item was read.
-pub stands_item : (plant : PlantData) (panel : ℕ) (session : Session) (past : Past) (bytes : List ℕ) (item : Item (List ℕ)) (a : Asked) (framer_then : Framer) → Stands plant panel session past
-    → session.stage ≡ Read → session.unsent ≡ false → items (read_so_far past ++ bytes) ≡ items (read_so_far past) ++ item ∷ [] → Asks item a
+pub stands_item : (plant : PlantData) (panel : ℕ) (session : Session) (past : Progress) (bytes : List ℕ) (item : Item (List ℕ)) (a : Asked) (framer_then : Framer) → Stands plant panel session past
+    → session.phase ≡ Read → session.unsent ≡ false → items (read_so_far past ++ bytes) ≡ items (read_so_far past) ++ item ∷ [] → Asks item a
     → framer.StandsFor framer_then (read_so_far past ++ bytes) → length (items (read_so_far past ++ bytes)) < 2 ^ 62
     → Stands plant panel (took plant a (record session { framer = framer_then })) (with_sent (sent_by plant a session.sender.output) (with_bytes bytes past))
 stands_item plant panel session past bytes item a framer_then stands read none adds asks fed small =
@@ -143,7 +143,7 @@ stands_item plant panel session past bytes item a framer_then stands read none a
     let later = with_bytes bytes past in
     let counted : length (items (read_so_far past ++ bytes)) ≡ length its + 1 = ap (length {A = Item (List ℕ)}) adds ∙ length-append its (item ∷ []) in
     let KeepsOf : Kept → Type 0 = λ kept. Keeps plant kept past in
-    let k : Keeps plant (reading session.panel session.items session.counts.turns session.polls session.sender.output) past = subst KeepsOf (at_stage session Read read none) stands.keeps in
+    let k : Keeps plant (reading session.panel session.items session.counts.turns session.polls session.sender.output) past = subst KeepsOf (at_phase session Read read none) stands.keeps in
     let KeepsThen : Kept → Type 0 = λ kept. Keeps plant kept (with_sent (sent_by plant a session.sender.output) later) in
     let FedOf : List ℕ → Type 0 = λ text. framer.StandsFor framer_then text in
     let all : items (read_so_far later) ≡ its ++ item ∷ [] = ap items (sym (read-more past bytes)) ∙ adds in
@@ -157,9 +157,9 @@ stands_item plant panel session past bytes item a framer_then stands read none a
       has_panel = stands.has_panel;
       framer = subst FedOf (read-more past bytes) fed;
       keeps = subst KeepsThen
-          (sym (kept_same session.panel session.polls (taken_output plant a session.sender.output) (stage_with a session.stage) (taken_stage a) (next session.items) (session.items + 1)
+          (sym (kept_same session.panel session.polls (taken_output plant a session.sender.output) (phase_with a session.phase) (taken_phase a) (next session.items) (session.items + 1)
           (counts_with a session.counts).turns session.counts.turns session.unsent false
-          (stage-is a session.stage read) (next-small session.items (omega arith)) (turns-with a session.counts) none))
+          (phase-is a session.phase read) (next-small session.items (omega arith)) (turns-with a session.counts) none))
           (keeps_item plant a item session.panel session.items session.counts.turns session.polls session.sender.output past bytes k adds asks);
       goods = goods-with a item session.counts asks goods_small ∙ ap (λ (n : ℕ). n + goods_of (item ∷ [])) stands.goods ∙ sym (goods-more its item) ∙ ap goods_of (sym all);
       bads = bads-with a item session.counts asks bads_small ∙ ap (λ (n : ℕ). n + bads_of (item ∷ [])) stands.bads ∙ sym (bads-more its item) ∙ ap bads_of (sym all);
@@ -168,13 +168,13 @@ stands_item plant panel session past bytes item a framer_then stands read none a
     }
 
 -- Bytes in which no item ends were read.
-pub stands_none : (plant : PlantData) (panel : ℕ) (session : Session) (past : Past) (bytes : List ℕ) (framer_then : Framer) → Stands plant panel session past
-    → session.stage ≡ Read → session.unsent ≡ false → items (read_so_far past ++ bytes) ≡ items (read_so_far past)
+pub stands_none : (plant : PlantData) (panel : ℕ) (session : Session) (past : Progress) (bytes : List ℕ) (framer_then : Framer) → Stands plant panel session past
+    → session.phase ≡ Read → session.unsent ≡ false → items (read_so_far past ++ bytes) ≡ items (read_so_far past)
     → framer.StandsFor framer_then (read_so_far past ++ bytes) → Stands plant panel (record session { framer = framer_then }) (with_bytes bytes past)
 stands_none plant panel session past bytes framer_then stands read none adds fed =
     let later = with_bytes bytes past in
     let KeepsOf : Kept → Type 0 = λ kept. Keeps plant kept past in
-    let k : Keeps plant (reading session.panel session.items session.counts.turns session.polls session.sender.output) past = subst KeepsOf (at_stage session Read read none) stands.keeps in
+    let k : Keeps plant (reading session.panel session.items session.counts.turns session.polls session.sender.output) past = subst KeepsOf (at_phase session Read read none) stands.keeps in
     let KeepsThen : Kept → Type 0 = λ kept. Keeps plant kept later in
     let FedOf : List ℕ → Type 0 = λ text. framer.StandsFor framer_then text in
     let all : items (read_so_far later) ≡ items (read_so_far past) = ap items (sym (read-more past bytes)) ∙ adds in
@@ -184,7 +184,7 @@ stands_none plant panel session past bytes framer_then stands read none adds fed
       panel_is = stands.panel_is;
       has_panel = stands.has_panel;
       framer = subst FedOf (read-more past bytes) fed;
-      keeps = subst KeepsThen (sym (at_stage session Read read none)) (keeps_none plant session.panel session.items session.counts.turns session.polls session.sender.output past bytes k adds);
+      keeps = subst KeepsThen (sym (at_phase session Read read none)) (keeps_none plant session.panel session.items session.counts.turns session.polls session.sender.output past bytes k adds);
       goods = stands.goods ∙ ap goods_of (sym all);
       bads = stands.bads ∙ ap bads_of (sym all);
       some = λ unsent. absurd (false≢true (sym none ∙ unsent));
@@ -192,7 +192,7 @@ stands_none plant panel session past bytes framer_then stands read none adds fed
     }
 
 -- Other parts of a session that keep the same past.
-pub stands_with : (plant : PlantData) (panel : ℕ) (session after : Session) (past later : Past) → Stands plant panel session past → read_so_far later ≡ read_so_far past → after.plant ≡ session.plant → after.sender.names ≡ session.sender.names → after.framer ≡ session.framer
+pub stands_with : (plant : PlantData) (panel : ℕ) (session after : Session) (past later : Progress) → Stands plant panel session past → read_so_far later ≡ read_so_far past → after.plant ≡ session.plant → after.sender.names ≡ session.sender.names → after.framer ≡ session.framer
     → after.counts.goods ≡ session.counts.goods → after.counts.bads ≡ session.counts.bads → after.outbox.places ≡ session.outbox.places → after.panel ≡ session.panel
     → Keeps plant (kept_of after) later → (after.unsent ≡ true → after.sender.output.bytes ≢ []) → Stands plant panel after later
 stands_with plant panel session after past later stands read same_plant same_names same_framer same_goods same_bads same_places same_panel keeps some =
@@ -212,17 +212,17 @@ stands_with plant panel session after past later stands read same_plant same_nam
     }
 
 -- The piece is used up, and polls come.
-pub stands_to_poll : (plant : PlantData) (panel : ℕ) (session : Session) (past : Past) → Stands plant panel session past → session.stage ≡ Read → session.unsent ≡ false
-    → Stands plant panel (record session { stage = PollStage }) past
+pub stands_to_poll : (plant : PlantData) (panel : ℕ) (session : Session) (past : Progress) → Stands plant panel session past → session.phase ≡ Read → session.unsent ≡ false
+    → Stands plant panel (record session { phase = PollStage }) past
 stands_to_poll plant panel session past stands read none =
     let KeepsOf : Kept → Type 0 = λ kept. Keeps plant kept past in
-    let k : Keeps plant (reading session.panel session.items session.counts.turns session.polls session.sender.output) past = subst KeepsOf (at_stage session Read read none) stands.keeps in
-    stands_with plant panel session (record session { stage = PollStage }) past past stands refl refl refl refl refl refl refl refl
-    (subst KeepsOf (sym (at_stage (record session { stage = PollStage }) PollStage refl none)) (keeps_to_poll plant session.panel session.items session.counts.turns session.polls session.sender.output past k))
+    let k : Keeps plant (reading session.panel session.items session.counts.turns session.polls session.sender.output) past = subst KeepsOf (at_phase session Read read none) stands.keeps in
+    stands_with plant panel session (record session { phase = PollStage }) past past stands refl refl refl refl refl refl refl refl
+    (subst KeepsOf (sym (at_phase (record session { phase = PollStage }) PollStage refl none)) (keeps_to_poll plant session.panel session.items session.counts.turns session.polls session.sender.output past k))
     stands.some
 
 -- What was to be sent is sent.
-pub stands_sent : (plant : PlantData) (panel : ℕ) (session : Session) (past : Past) → Stands plant panel session past → session.unsent ≡ true
+pub stands_sent : (plant : PlantData) (panel : ℕ) (session : Session) (past : Progress) → Stands plant panel session past → session.unsent ≡ true
     → Stands plant panel (record session { unsent = false }) (with_sent session.sender.output.bytes past)
 stands_sent plant panel session past stands unsent =
     stands_with plant panel session (record session { unsent = false }) past (with_sent session.sender.output.bytes past) stands refl refl refl refl refl refl refl refl
@@ -230,15 +230,15 @@ stands_sent plant panel session past stands unsent =
     (λ unsent. absurd (false≢true unsent))
 
 -- The plant answered what an item sent to it.
-pub stands_told : (plant : PlantData) (panel seat : ℕ) (session : Session) (past : Past) (message : Message) (answers : List Answer) (unsent : Bool) → Stands plant panel session past
-    → session.stage ≡ Tell message → session.unsent ≡ false → (unsent ≡ false → (with_frames (frames_of answers) (emptied session.sender.output)).bytes ≡ [])
+pub stands_told : (plant : PlantData) (panel seat : ℕ) (session : Session) (past : Progress) (message : Message) (answers : List Answer) (unsent : Bool) → Stands plant panel session past
+    → session.phase ≡ Tell message → session.unsent ≡ false → (unsent ≡ false → (with_frames (frames_of answers) (emptied session.sender.output)).bytes ≡ [])
     → (unsent ≡ true → (with_frames (frames_of answers) (emptied session.sender.output)).bytes ≢ [])
-    → Stands plant panel (took_answers answers unsent (record session { stage = Read }))
+    → Stands plant panel (took_answers answers unsent (record session { phase = Read }))
     (with_entry (record { seat = seat; request = Told session.panel (session.items - 1) message; answers = answers }) past)
 stands_told plant panel seat session past message answers unsent stands tell none empty some =
     let KeepsOf : Kept → Type 0 = λ kept. Keeps plant kept past in
-    let k = subst KeepsOf (at_stage session (Tell message) tell none) stands.keeps in
-    stands_with plant panel session (took_answers answers unsent (record session { stage = Read })) past
+    let k = subst KeepsOf (at_phase session (Tell message) tell none) stands.keeps in
+    stands_with plant panel session (took_answers answers unsent (record session { phase = Read })) past
     (with_entry (record { seat = seat; request = Told session.panel (session.items - 1) message; answers = answers }) past) stands refl refl refl refl refl refl refl refl
     (keeps_told plant session.panel session.items session.counts.turns session.polls seat message session.sender.output past answers unsent k empty)
     some

@@ -18,15 +18,15 @@ use Rattle.plant_core.specs.declared.request.Request.{Request}
 use Rattle.plant_core.specs.declared.request.Request.TheVariants.{Told, Poll}
 use Rattle.panel_session.specs.declared.asked.Asked.{Asked}
 use Rattle.panel_session.specs.declared.asked.Asked.TheVariants.{Nothing, Repeat, Refused, Noted, Named, Sent}
-use Rattle.panel_session.specs.declared.stage.Stage.{Stage}
-use Rattle.panel_session.specs.declared.stage.Stage.TheVariants.{Read, Tell, Poll as PollStage, End}
+use Rattle.panel_session.specs.declared.phase.Phase.{Phase}
+use Rattle.panel_session.specs.declared.phase.Phase.TheVariants.{Read, Tell, Poll as PollStage, End}
 use Rattle.panel_session.specs.Entry.{PlantEntry}
 use Rattle.panel_session.specs.OutgoingInside.{emptied}
 use Rattle.panel_session.specs.Run.{IsWorked, turned}
 use Rattle.panel_session.specs.SettledInside.{Settled}
-use Rattle.panel_session.specs.SoFar.{Past, nothing_yet, unread, read_so_far, with_sent}
+use Rattle.panel_session.specs.SoFar.{Progress, nothing_yet, unread, read_so_far, with_sent}
 use Rattle.panel_session.specs.StandsInside.{Kept, Keeps}
-use Rattle.panel_session.specs.TakenInside.{taken_output, taken_stage, sent_by}
+use Rattle.panel_session.specs.TakenInside.{taken_output, taken_phase, sent_by}
 use Rattle.panel_session.specs.Text.{Output, nothing_sent, with_frames, frames_of}
 use Rattle.panel_session.specs.Turns.{Turn, entries_in}
 use Rattle.panel_session.proofs.AsksExist.{item_asks}
@@ -53,27 +53,27 @@ over (answer ∷ answers) polls = elim (eqb_tells polls 32) [
   | (inr more) ↦ inr (λ is. cc, more.1)
 ]
 
-module _ {State : Type 0} (step : State → Request → Stepped State Answer) (Fits : State → Request → Type 0) (plant : PlantData) (panel : ℕ) (past : Past) (machine : State) where
+module _ {State : Type 0} (step : State → Request → Stepped State Answer) (Fits : State → Request → Type 0) (plant : PlantData) (panel : ℕ) (past : Progress) (machine : State) where
   -- the past with a turn that is on its way, in which these bytes were sent
-  abbrev at : Turn → List ℕ → Past
+  abbrev at : Turn → List ℕ → Progress
   at turn more = record { turns = past.turns; now = turn; sent = past.sent ++ more }
 
-  -- A turn is on its way, with nothing to be sent: what is kept at this stage, what was sent in the turn, and that its entries
+  -- A turn is on its way, with nothing to be sent: what is kept at this phase, what was sent in the turn, and that its entries
   -- so far are the panel's and are answered as the machine answers them.
-  record Goes (stage : Stage) (turn : Turn) : Type 0 where
+  record Goes (phase : Phase) (turn : Turn) : Type 0 where
     count : ℕ
     turns : ℕ
     polls : ℕ
     output : Output
     more : List ℕ
-    keeps : Keeps plant (record { panel = panel; stage = stage; items = count; turns = turns; polls = polls; output = output; unsent = false }) (at turn more)
+    keeps : Keeps plant (record { panel = panel; phase = phase; items = count; turns = turns; polls = polls; output = output; unsent = false }) (at turn more)
     seats : All (λ entry. entry.seat ≡ panel) (entries_in turn)
     legal : IsLegal step Fits machine (entries_in turn)
 
   -- The turn begins.
   goes_begin : Settled plant panel past → Goes Read unread
   goes_begin settled =
-      let kept : Kept = record { panel = panel; stage = Read; items = settled.count; turns = settled.turns; polls = 0; output = settled.output; unsent = false } in
+      let kept : Kept = record { panel = panel; phase = Read; items = settled.count; turns = settled.turns; polls = 0; output = settled.output; unsent = false } in
       let begun : past ≡ at unread [] = λ i. record { turns = past.turns; now = settled.begins i; sent = (sym (append-nil past.sent)) i } in
       record {
         count = settled.count;
@@ -93,11 +93,11 @@ module _ {State : Type 0} (step : State → Request → Stepped State Answer) (F
       subst KeepsSent (append_assoc past.sent more bytes) k
 
   -- What was to be sent is sent.
-  goes_sent : (stage : Stage) (turn : Turn) (more : List ℕ) (count turns polls : ℕ) (output : Output)
-      → Keeps plant (record { panel = panel; stage = stage; items = count; turns = turns; polls = polls; output = output; unsent = true }) (at turn more)
-      → All (λ entry. entry.seat ≡ panel) (entries_in turn) → IsLegal step Fits machine (entries_in turn) → Goes stage turn
-  goes_sent stage turn more count turns polls output k seats legal =
-      let kept : Kept = record { panel = panel; stage = stage; items = count; turns = turns; polls = polls; output = output; unsent = true } in
+  goes_sent : (phase : Phase) (turn : Turn) (more : List ℕ) (count turns polls : ℕ) (output : Output)
+      → Keeps plant (record { panel = panel; phase = phase; items = count; turns = turns; polls = polls; output = output; unsent = true }) (at turn more)
+      → All (λ entry. entry.seat ≡ panel) (entries_in turn) → IsLegal step Fits machine (entries_in turn) → Goes phase turn
+  goes_sent phase turn more count turns polls output k seats legal =
+      let kept : Kept = record { panel = panel; phase = phase; items = count; turns = turns; polls = polls; output = output; unsent = true } in
       record {
         count = count;
         turns = turns;
@@ -141,12 +141,12 @@ module _ {State : Type 0} (step : State → Request → Stepped State Answer) (F
         let entry : PlantEntry = entry_at step (run step machine (entries_in turn)) panel request in
         let now : Turn = record turn { told = turn.told ++ entry ∷ [] } in
         let output = with_frames (frames_of entry.answers) (emptied goes.output) in
-        let so = answered (entries_in turn) (entries_in now) request (told_behind turn.told turn.polls entry goes.keeps.stage.3) (has_panel, goes.keeps.stage.6) goes.seats goes.legal in
+        let so = answered (entries_in turn) (entries_in now) request (told_behind turn.told turn.polls entry goes.keeps.phase.3) (has_panel, goes.keeps.phase.6) goes.seats goes.legal in
         let told = keeps_told plant panel goes.count goes.turns goes.polls panel message goes.output (at turn goes.more) entry.answers true goes.keeps (λ is. absurd (true≢false is)) in
         (now, refl, goes_sent Read now goes.more goes.count goes.turns goes.polls output told so.0 so.1)
 
     -- An item is taken: of what it asks only a message to the plant is yet to be told.
-    goes_taken : (asked : Asked) (turn : Turn) → Goes (taken_stage asked) turn → (now : Turn) × (now.piece ≡ turn.piece) × Goes Read now
+    goes_taken : (asked : Asked) (turn : Turn) → Goes (taken_phase asked) turn → (now : Turn) × (now.piece ≡ turn.piece) × Goes Read now
     goes_taken Nothing turn goes = (turn, refl, goes)
     goes_taken Repeat turn goes = (turn, refl, goes)
     goes_taken Refused turn goes = (turn, refl, goes)
@@ -199,16 +199,16 @@ module _ {State : Type 0} (step : State → Request → Stepped State Answer) (F
 
     -- The machine answers polls, until one has no answer or is the 32nd.
     goes_polls : (left : ℕ) (turn : Turn) → Goes PollStage turn → 32 ≤ left + length turn.polls → (now : Turn) × (now.piece ≡ turn.piece) × Goes End now
-    goes_polls zero turn goes within = absurd (omega (arith, within, goes.keeps.stage.1.more))
+    goes_polls zero turn goes within = absurd (omega (arith, within, goes.keeps.phase.1.more))
     goes_polls (suc left) turn goes within =
         let request = Poll panel goes.count goes.turns in
         let entry : PlantEntry = entry_at step (run step machine (entries_in turn)) panel request in
         let now : Turn = record turn { polls = turn.polls ++ entry ∷ [] } in
         let output = with_frames (frames_of entry.answers) (emptied goes.output) in
         let so = answered (entries_in turn) (entries_in now) request (sym (append_assoc turn.told turn.polls (entry ∷ []))) has_panel goes.seats goes.legal in
-        let kept : Stage → Kept = λ stage. record { panel = panel; stage = stage; items = goes.count; turns = goes.turns; polls = goes.polls + 1; output = output; unsent = true } in
-        let sent : (stage : Stage) → Keeps plant (kept stage) (at now goes.more) → Goes stage now =
-        λ stage k. goes_sent stage now goes.more goes.count goes.turns (goes.polls + 1) output k so.0 so.1 in
+        let kept : Phase → Kept = λ phase. record { panel = panel; phase = phase; items = goes.count; turns = goes.turns; polls = goes.polls + 1; output = output; unsent = true } in
+        let sent : (phase : Phase) → Keeps plant (kept phase) (at now goes.more) → Goes phase now =
+        λ phase k. goes_sent phase now goes.more goes.count goes.turns (goes.polls + 1) output k so.0 so.1 in
         elim (over entry.answers (goes.polls + 1)) [
           | (inl last) ↦ (
             now,
@@ -230,7 +230,7 @@ module _ {State : Type 0} (step : State → Request → Stepped State Answer) (F
       let read = goes_bytes has_panel fits piece unread (goes_begin settled) in
       let done = goes_polls has_panel fits 32 read.0 (goes_on read.0 read.2) (omega arith) in
       let goes = done.2 in
-      let kept : Kept = record { panel = panel; stage = End; items = goes.count; turns = goes.turns; polls = goes.polls; output = goes.output; unsent = false } in (
+      let kept : Kept = record { panel = panel; phase = End; items = goes.count; turns = goes.turns; polls = goes.polls; output = goes.output; unsent = false } in (
         done.0,
         goes.more,
         done.1 ∙ read.1,

@@ -21,7 +21,7 @@ use Rattle.swp08_messages.specs.Text.{kind_of}
 use Rattle.swp08_messages.specs.declared.message.MessageKind.TheVariants.{Plant, Names, Report}
 use Rattle.panel_session.specs.Entry.{PlantEntry}
 use Rattle.panel_session.specs.Run.{IsWorked}
-use Rattle.panel_session.specs.SoFar.{Past}
+use Rattle.panel_session.specs.SoFar.{Progress}
 use Rattle.panel_session.specs.Text.{nothing_sent, output_from}
 use Rattle.panel_session.specs.Turns.{Turn, ArePolls, EndIn, bytes_of, entries_in, entries_of_turns, requests}
 
@@ -175,7 +175,7 @@ module _ {State : Type 0} (step : State → Request → Stepped State Answer) (F
   legal_later first (entry ∷ front) later legal = legal_later (step first entry.request).state front later legal.2
 
   -- Two turns of one piece are the same, and so are the bytes that are sent in them.
-  pub one_turn_lem : (plant : PlantData) (panel : ℕ) (past : Past) (machine : State) (turn other : Turn) (more less : List ℕ)
+  pub one_turn_lem : (plant : PlantData) (panel : ℕ) (past : Progress) (machine : State) (turn other : Turn) (more less : List ℕ)
       → IsWorked step Fits plant panel past machine turn more → IsWorked step Fits plant panel past machine other less
       → turn.piece ≡ other.piece → (turn ≡ other) × (more ≡ less)
   one_turn_lem plant panel past machine turn other more less w v same =

@@ -9,20 +9,20 @@ use Rattle.panel_session.specs.Asked.{AllAsk}
 use Rattle.panel_session.specs.Entry.{PlantEntry}
 use Rattle.panel_session.specs.OutgoingInside.{emptied}
 use Rattle.panel_session.specs.Session.{Stands, outgoing_of, kept_of}
-use Rattle.panel_session.specs.SoFar.{Past, unread, read_so_far, entries_so_far}
+use Rattle.panel_session.specs.SoFar.{Progress, unread, read_so_far, entries_so_far}
 use Rattle.panel_session.specs.StandsInside.{Kept, Keeps, pending}
 use Rattle.panel_session.specs.Text.{Output, IsText}
 use Rattle.panel_session.specs.Turns.{Fits, AreTurns, Turn, bytes_of, entries_of_turns}
 use Rattle.panel_session.proofs.EntryLemmas.{all_ask-append}
 
 -- Turns fit their own pieces and entries.
-pub turns_fit_lem : (plant : PlantData) (panel : ℕ) (session : Session) (past : Past) → Stands plant panel session past → Fits panel (map (λ turn. turn.piece) past.turns) (entries_of_turns past.turns)
+pub turns_fit_lem : (plant : PlantData) (panel : ℕ) (session : Session) (past : Progress) → Stands plant panel session past → Fits panel (map (λ turn. turn.piece) past.turns) (entries_of_turns past.turns)
 turns_fit_lem plant panel session past stands =
     let Turns : ℕ → Type 0 = λ panel. AreTurns panel past.turns in
     record { turns = past.turns; are_turns = subst Turns stands.panel_is stands.keeps.turns; pieces = refl; entries_are = refl }
 
 -- The text is what was sent, and what is yet to be.
-text_left : (plant : PlantData) (kept : Kept) (past : Past) → Keeps plant kept past → IsText plant (items (read_so_far past)) (entries_so_far past) (past.sent ++ (pending kept).bytes)
+text_left : (plant : PlantData) (kept : Kept) (past : Progress) → Keeps plant kept past → IsText plant (items (read_so_far past)) (entries_so_far past) (past.sent ++ (pending kept).bytes)
 text_left plant kept past k =
     let AskOf : List (Item (List ℕ)) → Type 0 = λ its. AllAsk its (k.before ++ k.asked) in
     record {
@@ -32,7 +32,7 @@ text_left plant kept past k =
     }
 
 -- The same where nothing was done of the present turn.
-text_over : (plant : PlantData) (past : Past) (text : List ℕ) → past.now ≡ unread → IsText plant (items (read_so_far past)) (entries_so_far past) text
+text_over : (plant : PlantData) (past : Progress) (text : List ℕ) → past.now ≡ unread → IsText plant (items (read_so_far past)) (entries_so_far past) text
     → IsText plant (items (bytes_of past.turns)) (entries_of_turns past.turns) text
 text_over plant past text begins is =
     let TextWith : Turn → Type 0 = λ now. IsText plant (items (bytes_of past.turns ++ now.piece)) (entries_of_turns past.turns ++ (now.told ++ now.polls)) text in
@@ -41,7 +41,7 @@ text_over plant past text begins is =
     subst TextIn (append-nil (entries_of_turns past.turns)) (subst TextOf (append-nil (bytes_of past.turns)) (subst TextWith begins is))
 
 -- The whole text of turns that are over was sent, or is once the outgoing bytes are.
-pub turns_text_lem : (plant : PlantData) (panel : ℕ) (session : Session) (past : Past) → Stands plant panel session past → past.now ≡ unread
+pub turns_text_lem : (plant : PlantData) (panel : ℕ) (session : Session) (past : Progress) → Stands plant panel session past → past.now ≡ unread
     → IsText plant (items (bytes_of past.turns)) (entries_of_turns past.turns) past.sent ⊎ IsText plant (items (bytes_of past.turns)) (entries_of_turns past.turns) (past.sent ++ outgoing_of session)
 turns_text_lem plant panel session past stands begins =
     let TextOf : List ℕ → Type 0 = λ text. IsText plant (items (bytes_of past.turns)) (entries_of_turns past.turns) text in

@@ -9,19 +9,19 @@ use Rattle.plant_core.specs.declared.request.Request.TheVariants.{Told, Poll, Le
 use Rattle.panel_session.specs.declared.act.Act.{Act}
 use Rattle.panel_session.specs.declared.act.Act.TheVariants.{Send, Ask, Rest}
 use Rattle.panel_session.specs.declared.session.Session.{Session}
-use Rattle.panel_session.specs.SoFar.{Past, read_so_far, entries_so_far, with_bytes, with_sent, with_turn, IsOver}
+use Rattle.panel_session.specs.SoFar.{Progress, read_so_far, entries_so_far, with_bytes, with_sent, with_turn, IsOver}
 use Rattle.panel_session.specs.Text.{IsText}
 use Rattle.panel_session.specs.Session.{StandsFor, Awaits, outgoing_of, outbox_of}
 
 -- A piece may go on a past: there are fewer than 2^62 items with it and fewer than 2^62 turns, and it is used up where the
 -- turn has polled.
-pub record MayGoOn (past : Past) (piece : List ℕ) : Type 0 where
+pub record MayGoOn (past : Progress) (piece : List ℕ) : Type 0 where
   pub items : length (items (read_so_far past ++ piece)) < 2 ^ 62
   pub turns : length past.turns < 2 ^ 62
   pub rest : past.now.polls ≢ [] → piece ≡ []
 
 -- A told request comes before all polls of the turn, and a poll once the piece is used up.
-abbrev pub IsInPlace : Past → Request → ℕ → List ℕ → Type 0
+abbrev pub IsInPlace : Progress → Request → ℕ → List ℕ → Type 0
 IsInPlace now (Told panel item message) used piece = now.now.polls ≡ []
 IsInPlace now (Poll panel item turn) used piece = used ≡ length piece
 IsInPlace now (Leave panel) used piece = ⊥
@@ -30,7 +30,7 @@ IsInPlace now (DisplayPoll screen refresh) used piece = ⊥
 -- What `act` does behind a past that now has the bytes that it used. `Send`: some bytes are to be sent, and once they are,
 -- all of the session's text so far is. `Ask`: a request that fits the plant is to be answered into the
 -- outbox, which is empty and has room for those of a step. `Rest`: the piece is used up and the turn is over.
-abbrev pub Acts : PlantData → ℕ → Past → List ℕ → ℕ → Act → Session → Type 0
+abbrev pub Acts : PlantData → ℕ → Progress → List ℕ → ℕ → Act → Session → Type 0
 Acts plant panel now piece used Send session =
     (outgoing_of session ≢ [])
     × StandsFor plant panel session (with_sent (outgoing_of session) now)
@@ -49,6 +49,6 @@ Acts plant panel now piece used Rest session =
 -- What a call of `act` with this piece does: it acts so behind each past that the session stands for and the piece may go on.
 abbrev pub ActsOn : Session → List ℕ → ℕ → Act → Session → Type 0
 ActsOn before piece used act after =
-    (plant : PlantData) (panel : ℕ) (past : Past) → StandsFor plant panel before past
+    (plant : PlantData) (panel : ℕ) (past : Progress) → StandsFor plant panel before past
     → MayGoOn past piece
     → Acts plant panel (with_bytes (take used piece) past) piece used act after

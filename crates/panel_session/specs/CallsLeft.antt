@@ -5,17 +5,17 @@ use Rattle.plant_core.specs.declared.request.Request.{Request}
 use Rattle.panel_session.specs.declared.act.Act.{Act}
 use Rattle.panel_session.specs.declared.act.Act.TheVariants.{Send, Ask, Rest}
 use Rattle.panel_session.specs.declared.session.Session.{Session}
-use Rattle.panel_session.specs.declared.stage.Stage.{Stage}
-use Rattle.panel_session.specs.declared.stage.Stage.TheVariants.{Read, Tell, Poll, End}
+use Rattle.panel_session.specs.declared.phase.Phase.{Phase}
+use Rattle.panel_session.specs.declared.phase.Phase.TheVariants.{Read, Tell, Poll, End}
 use Rattle.panel_session.specs.Session.{Awaits}
-use Rattle.panel_session.specs.SoFar.{Past}
+use Rattle.panel_session.specs.SoFar.{Progress}
 
 -- each poll is asked, and its answer sent
-abbrev pub stage_left : Stage → ℕ → ℕ
-stage_left Read polls = 66
-stage_left (Tell message) polls = 68
-stage_left Poll polls = 2 * (32 - polls) + 1
-stage_left End polls = 1
+abbrev pub phase_left : Phase → ℕ → ℕ
+phase_left Read polls = 66
+phase_left (Tell message) polls = 68
+phase_left Poll polls = 2 * (32 - polls) + 1
+phase_left End polls = 1
 
 abbrev pub unsent_left : Bool → ℕ
 unsent_left true = 1
@@ -23,7 +23,7 @@ unsent_left false = 0
 
 -- A bound on the calls of `act` until `Rest`, but for those that read bytes.
 unfoldable pub calls_left : Session → ℕ
-calls_left session = stage_left session.stage session.polls + unsent_left session.unsent
+calls_left session = phase_left session.phase session.polls + unsent_left session.unsent
 
 -- `Send` leaves less to do, and `Ask` no more. What `Rest` leaves is of the next turn.
 abbrev pub LeavesLessToDo : Act → ℕ → ℕ → Type 0
@@ -39,5 +39,5 @@ LeavesLess before length used act after =
 -- Where a session awaited the answers to this request, fewer calls are left once it was answered.
 abbrev pub IsNearer : Session → Request → Session → Type 0
 IsNearer before request after =
-    (plant : PlantData) (panel : ℕ) (past : Past) → Awaits plant panel before past request
+    (plant : PlantData) (panel : ℕ) (past : Progress) → Awaits plant panel before past request
     → calls_left after < calls_left before

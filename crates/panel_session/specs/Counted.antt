@@ -4,7 +4,7 @@ use Rattle.dle_framing.specs.declared.item.Item.{Item}
 use Rattle.dle_framing.specs.declared.item.Item.TheVariants.{Good, Bad, Ack, Nak}
 use Rattle.dle_framing.specs.Items.{items}
 use Rattle.panel_session.specs.declared.counts.Counts.{Counts}
-use Rattle.panel_session.specs.SoFar.{Past, read_so_far}
+use Rattle.panel_session.specs.SoFar.{Progress, read_so_far}
 
 abbrev pub is_good_item : Item (List ℕ) → Bool
 is_good_item (Good carried) = true
@@ -26,7 +26,7 @@ abbrev pub bads_of : List (Item (List ℕ)) → ℕ
 bads_of items = count_by is_bad_item items
 
 -- These are the counts of a past.
-pub record AreCounts (past : Past) (counts : Counts) : Type 0 where
+pub record AreCounts (past : Progress) (counts : Counts) : Type 0 where
   pub goods : counts.goods ≡ goods_of (items (read_so_far past))
   pub bads : counts.bads ≡ bads_of (items (read_so_far past))
   pub turns : counts.turns ≡ length past.turns

@@ -7,8 +7,8 @@ use Rattle.panel_session.specs.declared.asked.Asked.{Asked}
 use Rattle.panel_session.specs.declared.asked.Asked.TheVariants.{Nothing, Repeat, Refused, Noted, Named, Sent}
 use Rattle.panel_session.specs.declared.counts.Counts.{Counts}
 use Rattle.panel_session.specs.declared.session.Session.{Session}
-use Rattle.panel_session.specs.declared.stage.Stage.{Stage}
-use Rattle.panel_session.specs.declared.stage.Stage.TheVariants.{Read, Tell}
+use Rattle.panel_session.specs.declared.phase.Phase.{Phase}
+use Rattle.panel_session.specs.declared.phase.Phase.TheVariants.{Read, Tell}
 use Rattle.panel_session.specs.TakenInside.{taken_output}
 use Rattle.panel_session.specs.Text.{with_control, with_frames, frames_of}
 use Rattle.panel_session.specs.OutgoingInside.{emptied}
@@ -28,17 +28,17 @@ counts_with Noted counts = record counts { goods = next counts.goods }
 counts_with (Named message) counts = record counts { goods = next counts.goods }
 counts_with (Sent message) counts = record counts { goods = next counts.goods }
 
-abbrev pub stage_with : Asked → Stage → Stage
-stage_with Nothing stage = stage
-stage_with Repeat stage = stage
-stage_with Refused stage = stage
-stage_with Noted stage = stage
-stage_with (Named message) stage = stage
-stage_with (Sent message) stage = Tell message
+abbrev pub phase_with : Asked → Phase → Phase
+phase_with Nothing phase = phase
+phase_with Repeat phase = phase
+phase_with Refused phase = phase
+phase_with Noted phase = phase
+phase_with (Named message) phase = phase
+phase_with (Sent message) phase = Tell message
 
 abbrev pub took : PlantData → Asked → Session → Session
 took plant asked session = record session {
-  stage = stage_with asked session.stage;
+  phase = phase_with asked session.phase;
   items = next session.items;
   sender = sending (taken_output plant asked session.sender.output) session.sender;
   counts = counts_with asked session.counts;
@@ -77,7 +77,7 @@ silenced session = record session {
 -- The turn is over.
 abbrev pub ended_turn : Session → Session
 ended_turn session = record session {
-  stage = Read;
+  phase = Read;
   polls = 0;
   counts = record session.counts { turns = next session.counts.turns };
 }

@@ -4,39 +4,39 @@ use Rattle.dle_framing.specs.Items.{items}
 use Rattle.plant_config.specs.Plant.{PlantData}
 use Rattle.panel_session.specs.declared.act.Act.{Act}
 use Rattle.panel_session.specs.declared.session.Session.{Session}
-use Rattle.panel_session.specs.declared.stage.Stage.TheVariants.{Read, Poll}
-use Rattle.panel_session.specs.SoFar.{Past, read_so_far, with_bytes, with_sent}
+use Rattle.panel_session.specs.declared.phase.Phase.TheVariants.{Read, Poll}
+use Rattle.panel_session.specs.SoFar.{Progress, read_so_far, with_bytes, with_sent}
 use Rattle.panel_session.specs.Session.{Stands, outgoing_of}
 use Rattle.panel_session.specs.Acting.{Acts, MayGoOn}
 
 -- It stands for this past, nothing is asked or to be sent, and it reads.
 pub record IsReading (plant : PlantData) (panel : ℕ) (session : Session)
-    (past : Past) : Type 0 where
+    (past : Progress) : Type 0 where
   pub stands : Stands plant panel session past
   pub none_asked : session.outbox.items ≡ []
-  pub stage : session.stage ≡ Read
+  pub phase : session.phase ≡ Read
   pub none_unsent : session.unsent ≡ false
 
 -- It read these bytes: something is to be sent, or it reads on.
-abbrev pub HasRead : PlantData → ℕ → Past → Bool → Session → Type 0
+abbrev pub HasRead : PlantData → ℕ → Progress → Bool → Session → Type 0
 HasRead plant panel now true session =
     Stands plant panel session (with_sent (outgoing_of session) now)
     × (session.outbox.items ≡ [])
     × (session.unsent ≡ false)
     × (outgoing_of session ≢ [])
-    × (session.stage ≡ Poll → ⊥)
+    × (session.phase ≡ Poll → ⊥)
 HasRead plant panel now false session = IsReading plant panel session now
 
 -- What reading on does: it acts so behind each past of a session that reads, where the piece may go on.
 abbrev pub ReadsOn : Session → List ℕ → ℕ → Act → Session → Type 0
 ReadsOn before piece used act after =
-    (plant : PlantData) (panel : ℕ) (past : Past) → IsReading plant panel before past
+    (plant : PlantData) (panel : ℕ) (past : Progress) → IsReading plant panel before past
     → MayGoOn past piece
     → Acts plant panel (with_bytes (take used piece) past) piece used act after
 
 -- The same, up to the end of an item: whether something is to be sent.
 abbrev pub HasReadOn : Session → List ℕ → ℕ → Bool → Session → Type 0
 HasReadOn before piece used send after =
-    (plant : PlantData) (panel : ℕ) (past : Past) → IsReading plant panel before past
+    (plant : PlantData) (panel : ℕ) (past : Progress) → IsReading plant panel before past
     → length (items (read_so_far past ++ piece)) < 2 ^ 62
     → HasRead plant panel (with_bytes (take used piece) past) send after

@@ -12,18 +12,18 @@ use Rattle.panel_session.specs.declared.session.Session.{Session}
 use Rattle.panel_session.specs.Acting.{MayGoOn}
 use Rattle.panel_session.specs.Entry.{PlantEntry}
 use Rattle.panel_session.specs.Session.{StandsFor}
-use Rattle.panel_session.specs.SoFar.{Past, unread}
+use Rattle.panel_session.specs.SoFar.{Progress, unread}
 use Rattle.panel_session.specs.Text.{IsText}
 use Rattle.panel_session.specs.Turns.{Turn, bytes_of, entries_in, entries_of_turns, IsTurn}
 
 -- the past with one turn more, in which these bytes were sent
-abbrev pub turned : Turn → List ℕ → Past → Past
+abbrev pub turned : Turn → List ℕ → Progress → Progress
 turned turn more past =
     record { turns = past.turns ++ turn ∷ []; now = unread; sent = past.sent ++ more }
 
 -- All that was sent in a past, and then these bytes of a turn, is the session's text of what was read and answered in
 -- both.
-abbrev pub CompletesText : PlantData → Past → Turn → List ℕ → Type 0
+abbrev pub CompletesText : PlantData → Progress → Turn → List ℕ → Type 0
 CompletesText plant past turn more =
     IsText plant (items (bytes_of past.turns ++ turn.piece))
     (entries_of_turns past.turns ++ entries_in turn) (past.sent ++ more)
@@ -33,7 +33,7 @@ CompletesText plant past turn more =
 -- far is the session's text.
 pub record IsWorked {State : Type 0} (step : State → Request → Stepped State Answer)
     (Fits : State → Request → Type 0)
-    (plant : PlantData) (panel : ℕ) (past : Past) (machine : State) (turn : Turn)
+    (plant : PlantData) (panel : ℕ) (past : Progress) (machine : State) (turn : Turn)
     (more : List ℕ) : Type 0 where
   pub is_turn : IsTurn panel past.turns turn
   pub seats : All (λ entry. entry.seat ≡ panel) (entries_in turn)
@@ -60,7 +60,7 @@ pub record Serves {State : Type 0} (step : State → Request → Stepped State A
 -- A piece may be a turn behind a past.
 pub record MayTurn {State : Type 0} (step : State → Request → Stepped State Answer)
     (Fits : State → Request → Type 0) (most : State → ℕ)
-    (plant : PlantData) (panel : ℕ) (session : Session) (past : Past) (machine : State)
+    (plant : PlantData) (panel : ℕ) (session : Session) (past : Progress) (machine : State)
     (piece : List ℕ) : Type 0 where
   pub stands : StandsFor plant panel session past
   pub begins : past.now ≡ unread
@@ -73,15 +73,15 @@ pub record IsReady {State : Type 0} (step : State → Request → Stepped State 
     (session : Session) (machine : State) (piece : List ℕ) : Type 0 where
   pub plant : PlantData
   pub panel : ℕ
-  pub past : Past
+  pub past : Progress
   pub may : MayTurn step Fits most plant panel session past machine piece
 
 -- One turn with this piece was worked behind a past, in which these bytes were sent: the machine is where its entries lead,
 -- and the session stands for the past with this turn.
 pub record HasRun {State : Type 0} (step : State → Request → Stepped State Answer)
     (Fits : State → Request → Type 0)
-    (plant : PlantData) (panel : ℕ) (past : Past) (piece : List ℕ) (machine machine_then : State)
-    (session_then : Session) (more : List ℕ) : Type 0 where
+    (plant : PlantData) (panel : ℕ) (past : Progress) (piece : List ℕ)
+    (machine machine_then : State) (session_then : Session) (more : List ℕ) : Type 0 where
   pub turn : Turn
   pub piece_is : turn.piece ≡ piece
   pub is_worked : IsWorked step Fits plant panel past machine turn more
@@ -95,7 +95,7 @@ abbrev pub RunsOn : {State Outlet : Type 0} (step : State → Request → Steppe
     (Given : Outlet → List ℕ → Outlet → Type 0)
     → List ℕ → Session → Session → State → State → Outlet → Outlet → Type 0
 RunsOn step Fits most Given piece session session_then machine machine_then out out_then =
-    (plant : PlantData) (panel : ℕ) (past : Past)
+    (plant : PlantData) (panel : ℕ) (past : Progress)
     → MayTurn step Fits most plant panel session past machine piece
     → (more : List ℕ) × Given out more out_then
     × HasRun step Fits plant panel past piece machine machine_then session_then more

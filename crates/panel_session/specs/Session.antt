@@ -9,9 +9,9 @@ use Rattle.plant_core.specs.declared.answer.Answer.{Answer}
 use Rattle.plant_core.specs.declared.request.Request.{Request}
 use Rattle.plant_core.specs.declared.request.Request.TheVariants.{Told, Poll}
 use Rattle.panel_session.specs.declared.session.Session.{Session}
-use Rattle.panel_session.specs.declared.stage.Stage.{Stage}
-use Rattle.panel_session.specs.declared.stage.Stage.TheVariants.{Read, Tell, Poll as PollStage, End}
-use Rattle.panel_session.specs.SoFar.{Past, nothing_yet, read_so_far, with_entry}
+use Rattle.panel_session.specs.declared.phase.Phase.{Phase}
+use Rattle.panel_session.specs.declared.phase.Phase.TheVariants.{Read, Tell, Poll as PollStage, End}
+use Rattle.panel_session.specs.SoFar.{Progress, nothing_yet, read_so_far, with_entry}
 use Rattle.panel_session.specs.StandsInside.{Kept, Keeps}
 use Rattle.panel_session.specs.Counted.{goods_of, bads_of}
 
@@ -30,7 +30,7 @@ with_outbox session outbox = record session { outbox = outbox }
 abbrev pub kept_of : Session → Kept
 kept_of session = record {
   panel = session.panel;
-  stage = session.stage;
+  phase = session.phase;
   items = session.items;
   turns = session.counts.turns;
   polls = session.polls;
@@ -39,7 +39,8 @@ kept_of session = record {
 }
 
 -- The session of this panel of a plant keeps what it needs of this past.
-pub record Stands (plant : PlantData) (panel : ℕ) (session : Session) (past : Past) : Type 0 where
+pub record Stands (plant : PlantData) (panel : ℕ) (session : Session) (past : Progress)
+    : Type 0 where
   pub plant_is : session.plant.now ≡ plant
   pub names_are : session.sender.names ≡ plant
   pub panel_is : session.panel ≡ panel
@@ -53,29 +54,29 @@ pub record Stands (plant : PlantData) (panel : ℕ) (session : Session) (past : 
 
 -- The session of this panel of a plant stands for this past, with nothing asked that wasn't answered: where it polls it has
 -- polled before.
-unfoldable pub StandsFor : PlantData → ℕ → Session → Past → Type 0
+unfoldable pub StandsFor : PlantData → ℕ → Session → Progress → Type 0
 StandsFor plant panel session past =
     Stands plant panel session past × (session.outbox.items ≡ [])
-    × (session.stage ≡ PollStage → past.now.polls ≢ [])
+    × (session.phase ≡ PollStage → past.now.polls ≢ [])
 
--- A request is what a session asks at this stage.
-abbrev pub AsksAt : Stage → Kept → Request → Type 0
+-- A request is what a session asks at this phase.
+abbrev pub AsksAt : Phase → Kept → Request → Type 0
 AsksAt Read kept request = ⊥
 AsksAt (Tell message) kept request = request ≡ Told kept.panel (kept.items - 1) message
 AsksAt PollStage kept request = request ≡ Poll kept.panel kept.items kept.turns
 AsksAt End kept request = ⊥
 
 -- The session stands for this past, and this request of it wasn't answered yet.
-unfoldable pub Awaits : PlantData → ℕ → Session → Past → Request → Type 0
+unfoldable pub Awaits : PlantData → ℕ → Session → Progress → Request → Type 0
 Awaits plant panel session past request =
     Stands plant panel session past × (session.unsent ≡ false)
-    × AsksAt session.stage (kept_of session) request
+    × AsksAt session.phase (kept_of session) request
 
 -- These answers to a request were taken, where they are no more than those of a step: the session stands for each past in
 -- which it awaited them, with the entry of the request and the answers, whichever seat asked.
 abbrev pub TakesAnswers : Session → Request → List Answer → Session → Type 0
 TakesAnswers before request answers after =
-    (plant : PlantData) (panel seat : ℕ) (past : Past) → Awaits plant panel before past request
+    (plant : PlantData) (panel seat : ℕ) (past : Progress) → Awaits plant panel before past request
     → length answers ≤ room_of plant
     → StandsFor plant panel after
     (with_entry (record { seat = seat; request = request; answers = answers }) past)
@@ -83,11 +84,11 @@ TakesAnswers before request answers after =
 -- A session that stood for some past stands for nothing yet, as a new one of its panel.
 abbrev pub BeginsAnew : Session → Session → Type 0
 BeginsAnew before after =
-    (plant : PlantData) (panel : ℕ) (past : Past) → StandsFor plant panel before past
+    (plant : PlantData) (panel : ℕ) (past : Progress) → StandsFor plant panel before past
     → StandsFor plant panel after nothing_yet
 
 -- So does one that awaited the answers to some request.
 abbrev pub BeginsAnewUnanswered : Session → Session → Type 0
 BeginsAnewUnanswered before after =
-    (plant : PlantData) (panel : ℕ) (past : Past) (request : Request)
+    (plant : PlantData) (panel : ℕ) (past : Progress) (request : Request)
     → Awaits plant panel before past request → StandsFor plant panel after nothing_yet

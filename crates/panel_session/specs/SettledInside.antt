@@ -1,8 +1,8 @@
 -- A session whose turns are all over.
 use Rattle.std.specs.Prelude.{◌≡◌, ℕ, false}
 use Rattle.plant_config.specs.Plant.{PlantData}
-use Rattle.panel_session.specs.declared.stage.Stage.TheVariants.{Read}
-use Rattle.panel_session.specs.SoFar.{Past, unread}
+use Rattle.panel_session.specs.declared.phase.Phase.TheVariants.{Read}
+use Rattle.panel_session.specs.SoFar.{Progress, unread}
 use Rattle.panel_session.specs.StandsInside.{Kept, Keeps}
 use Rattle.panel_session.specs.Text.{Output}
 
@@ -11,7 +11,7 @@ abbrev pub between_turns : ℕ → ℕ → ℕ → Output → Kept
 between_turns panel items turns output =
     record {
       panel = panel;
-      stage = Read;
+      phase = Read;
       items = items;
       turns = turns;
       polls = 0;
@@ -20,7 +20,7 @@ between_turns panel items turns output =
     }
 
 -- What a session of a panel of this plant has done where all its turns are over: something is kept of it.
-pub record Settled (plant : PlantData) (panel : ℕ) (past : Past) : Type 0 where
+pub record Settled (plant : PlantData) (panel : ℕ) (past : Progress) : Type 0 where
   pub count : ℕ
   pub turns : ℕ
   pub output : Output

@@ -14,7 +14,7 @@ use Rattle.panel_session.specs.Text.{IsText}
 
 -- The turns that are over, the present one so far (the bytes of its piece that were used, and its entries), and the bytes
 -- that were sent.
-pub record Past : Type 0 where
+pub record Progress : Type 0 where
   pub turns : List Turn
   pub now : Turn
   pub sent : List ℕ
@@ -23,19 +23,19 @@ abbrev pub unread : Turn
 unread = record { piece = []; told = []; polls = [] }
 
 -- nothing was read, asked or sent
-abbrev pub nothing_yet : Past
+abbrev pub nothing_yet : Progress
 nothing_yet = record { turns = []; now = unread; sent = [] }
 
 -- more bytes of the present piece were used
-abbrev pub with_bytes : List ℕ → Past → Past
+abbrev pub with_bytes : List ℕ → Progress → Progress
 with_bytes bytes past = record past { now = record past.now { piece = past.now.piece ++ bytes } }
 
 -- these bytes were sent
-abbrev pub with_sent : List ℕ → Past → Past
+abbrev pub with_sent : List ℕ → Progress → Progress
 with_sent bytes past = record past { sent = past.sent ++ bytes }
 
 -- a request was answered
-abbrev pub with_entry : PlantEntry → Past → Past
+abbrev pub with_entry : PlantEntry → Progress → Progress
 with_entry entry past = record past { now = added entry.request entry past.now } where
   added : Request → PlantEntry → Turn → Turn
   added (Poll panel item turn) entry now = record now { polls = now.polls ++ entry ∷ [] }
@@ -44,28 +44,28 @@ with_entry entry past = record past { now = added entry.request entry past.now }
   added (DisplayPoll screen refresh) entry now = now
 
 -- the present turn is over
-abbrev pub with_turn : Past → Past
+abbrev pub with_turn : Progress → Progress
 with_turn past = record past { turns = past.turns ++ past.now ∷ []; now = unread }
 
-abbrev pub read_so_far : Past → List ℕ
+abbrev pub read_so_far : Progress → List ℕ
 read_so_far past = bytes_of past.turns ++ past.now.piece
 
-abbrev pub entries_so_far : Past → List PlantEntry
+abbrev pub entries_so_far : Progress → List PlantEntry
 entries_so_far past = entries_of_turns past.turns ++ (past.now.told ++ past.now.polls)
 
 -- the poll that the present turn makes
-abbrev pub poll_now : ℕ → Past → Request
+abbrev pub poll_now : ℕ → Progress → Request
 poll_now panel past = poll_behind panel past.turns past.now.piece
 
 -- Where the present turn has polled, all was told that its items, which ask so, send to the plant.
-abbrev pub TellsFirst : ℕ → Past → List Asked → Type 0
+abbrev pub TellsFirst : ℕ → Progress → List Asked → Type 0
 TellsFirst panel past asked =
     past.now.polls ≢ [] → requests past.now.told ≡ sent_to_plant panel (item_count past.turns) asked
 
 -- What a session has done so far fits: the turns that are over are turns; of the present one a front of what its items send
 -- to the plant was told, all of it before the first poll, and each poll was answered; and a front of the session's text was
 -- sent.
-pub record IsSoFar (plant : PlantData) (panel : ℕ) (past : Past) : Type 0 where
+pub record IsSoFar (plant : PlantData) (panel : ℕ) (past : Progress) : Type 0 where
   pub turns : AreTurns panel past.turns
   pub ended : List (Item (List ℕ))
   pub end_in : EndIn (bytes_of past.turns) past.now.piece ended
@@ -80,6 +80,6 @@ pub record IsSoFar (plant : PlantData) (panel : ℕ) (past : Past) : Type 0 wher
   pub sent : IsPrefix past.sent text
 
 -- A turn is over: it is one, and the session's whole text of what was read and answered was sent.
-pub record IsOver (plant : PlantData) (panel : ℕ) (past : Past) : Type 0 where
+pub record IsOver (plant : PlantData) (panel : ℕ) (past : Progress) : Type 0 where
   pub turn : IsTurn panel past.turns past.now
   pub text : IsText plant (items (read_so_far past)) (entries_so_far past) past.sent

@@ -7,19 +7,19 @@ use Rattle.plant_config.specs.Plant.{PlantData}
 use Rattle.plant_core.specs.State.{IsForPlant}
 use Rattle.panel_session.specs.declared.asked.Asked.{Asked}
 use Rattle.panel_session.specs.declared.asked.Asked.TheVariants.{Nothing, Repeat, Refused, Noted, Named, Sent}
-use Rattle.panel_session.specs.declared.stage.Stage.{Stage}
-use Rattle.panel_session.specs.declared.stage.Stage.TheVariants.{Read, Tell, Poll as PollStage, End}
+use Rattle.panel_session.specs.declared.phase.Phase.{Phase}
+use Rattle.panel_session.specs.declared.phase.Phase.TheVariants.{Read, Tell, Poll as PollStage, End}
 use Rattle.panel_session.specs.Entry.{PlantEntry}
 use Rattle.panel_session.specs.Asked.{AllAsk, sent_to_plant}
 use Rattle.panel_session.specs.Turns.{bytes_of, requests, item_count, EndIn, AreTurns, ArePolls}
 use Rattle.panel_session.specs.Text.{Output, nothing_sent, output_from, told_at, polled_at}
 use Rattle.panel_session.specs.OutgoingInside.{emptied}
-use Rattle.panel_session.specs.SoFar.{Past, read_so_far, entries_so_far, poll_now}
+use Rattle.panel_session.specs.SoFar.{Progress, read_so_far, entries_so_far, poll_now}
 
 -- what a session keeps beside its framer and its outbox
 pub record Kept : Type 0 where
   pub panel : ℕ
-  pub stage : Stage
+  pub phase : Phase
   pub items : ℕ
   pub turns : ℕ
   pub polls : ℕ
@@ -60,7 +60,7 @@ pub record MayPoll (polls : List PlantEntry) : Type 0 where
   pub more : length polls < 32
 
 -- What was told and polled in a turn, by what comes next. `first` is the number of the turn's first item.
-abbrev pub IsAtStage : Stage → ℕ → ℕ → List Asked → List Asked → Past → Type 0
+abbrev pub IsAtStage : Phase → ℕ → ℕ → List Asked → List Asked → Progress → Type 0
 IsAtStage Read panel first before asked past =
     (requests past.now.told ≡ sent_to_plant panel first asked)
     × (past.now.polls ≡ [])
@@ -83,11 +83,11 @@ IsAtStage End panel first before asked past =
     × AllTold 0 (before ++ asked) (entries_so_far past)
 
 -- the output of what was done so far, where the items that were read ask so
-abbrev pub output_so_far : PlantData → Past → List Asked → Output
+abbrev pub output_so_far : PlantData → Progress → List Asked → Output
 output_so_far plant past asked = output_from plant 0 asked (entries_so_far past) nothing_sent
 
 -- What is kept stands for this past of a session of this plant.
-pub record Keeps (plant : PlantData) (kept : Kept) (past : Past) : Type 0 where
+pub record Keeps (plant : PlantData) (kept : Kept) (past : Progress) : Type 0 where
   pub turns : AreTurns kept.panel past.turns
   pub before : List Asked
   pub ask_before : AllAsk (items (bytes_of past.turns)) before
@@ -100,6 +100,6 @@ pub record Keeps (plant : PlantData) (kept : Kept) (past : Past) : Type 0 where
   pub polls_are : kept.polls ≡ length past.now.polls
   pub within : length past.now.polls ≤ 32
   pub polls : All (λ entry. entry.request ≡ poll_now kept.panel past) past.now.polls
-  pub stage : IsAtStage kept.stage kept.panel (item_count past.turns) before asked past
+  pub phase : IsAtStage kept.phase kept.panel (item_count past.turns) before asked past
   pub none_from : NoneFrom (length (items (read_so_far past))) (entries_so_far past)
   pub output : output_so_far plant past (before ++ asked) ≡ behind past.sent (pending kept)

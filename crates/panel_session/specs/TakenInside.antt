@@ -4,8 +4,8 @@ use Rattle.dle_framing.specs.Numbers.{ack, nak}
 use Rattle.plant_config.specs.Plant.{PlantData}
 use Rattle.panel_session.specs.declared.asked.Asked.{Asked}
 use Rattle.panel_session.specs.declared.asked.Asked.TheVariants.{Nothing, Repeat, Refused, Noted, Named, Sent}
-use Rattle.panel_session.specs.declared.stage.Stage.{Stage}
-use Rattle.panel_session.specs.declared.stage.Stage.TheVariants.{Read, Tell}
+use Rattle.panel_session.specs.declared.phase.Phase.{Phase}
+use Rattle.panel_session.specs.declared.phase.Phase.TheVariants.{Read, Tell}
 use Rattle.panel_session.specs.Text.{Output, with_control, with_frames, repeated}
 use Rattle.panel_session.specs.NamePages.{name_frames}
 use Rattle.panel_session.specs.OutgoingInside.{emptied}
@@ -42,10 +42,10 @@ abbrev pub IsSending : PlantData → Asked → Output → Output → Type 0
 IsSending plant asked before after = after.bytes ≡ sent_by plant asked before
 
 -- what comes next
-abbrev pub taken_stage : Asked → Stage
-taken_stage Nothing = Read
-taken_stage Repeat = Read
-taken_stage Refused = Read
-taken_stage Noted = Read
-taken_stage (Named message) = Read
-taken_stage (Sent message) = Tell message
+abbrev pub taken_phase : Asked → Phase
+taken_phase Nothing = Read
+taken_phase Repeat = Read
+taken_phase Refused = Read
+taken_phase Noted = Read
+taken_phase (Named message) = Read
+taken_phase (Sent message) = Tell message

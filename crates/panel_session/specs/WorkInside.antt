@@ -5,11 +5,11 @@ use Rattle.plant_config.specs.Plant.{PlantData}
 use Rattle.plant_core.specs.declared.answer.Answer.{Answer}
 use Rattle.plant_core.specs.declared.request.Request.{Request}
 use Rattle.panel_session.specs.declared.session.Session.{Session}
-use Rattle.panel_session.specs.declared.stage.Stage.TheVariants.{Poll}
+use Rattle.panel_session.specs.declared.phase.Phase.TheVariants.{Poll}
 use Rattle.panel_session.specs.Run.{MayTurn, HasRun}
 use Rattle.panel_session.specs.RunInside.{IsUnderWay}
 use Rattle.panel_session.specs.Session.{outgoing_of}
-use Rattle.panel_session.specs.SoFar.{Past}
+use Rattle.panel_session.specs.SoFar.{Progress}
 
 -- what was not yet handed out
 abbrev pub unsent_bytes : Session → List ℕ
@@ -17,7 +17,7 @@ unsent_bytes session = if session.unsent then outgoing_of session else []
 
 -- a session that has polled so often in the turn, and polls again
 abbrev pub polling_at : ℕ → Session → Session
-polling_at polls session = record session { stage = Poll; polls = polls }
+polling_at polls session = record session { phase = Poll; polls = polls }
 
 -- A turn is under way behind some past that the session stood for when it began, and the machine still takes what it took
 -- then.
@@ -27,10 +27,10 @@ pub record IsOnItsWay {State : Type 0} (step : State → Request → Stepped Sta
   pub plant : PlantData
   pub panel : ℕ
   pub begun : Session
-  pub past : Past
+  pub past : Progress
   pub piece : List ℕ
   pub first : State
-  pub now : Past
+  pub now : Progress
   pub more : List ℕ
   pub may : MayTurn step Fits most plant panel begun past first piece
   pub way : IsUnderWay step Fits plant panel past piece first machine session rest now more
@@ -42,7 +42,7 @@ abbrev pub HasCome : {State : Type 0} {step : State → Request → Stepped Stat
     {Fits : State → Request → Type 0} {most : State → ℕ}
     {session : Session} {machine : State} {rest : List ℕ}
     → IsOnItsWay step Fits most session machine rest
-    → Session → State → List ℕ → Past → List ℕ → Type 0
+    → Session → State → List ℕ → Progress → List ℕ → Type 0
 HasCome {step = step} {Fits = Fits} on session_then machine_then rest_then now_then added =
     IsUnderWay step Fits on.plant on.panel on.past on.piece on.first machine_then session_then
     rest_then now_then (on.more ++ added)
@@ -53,7 +53,7 @@ abbrev pub WorksOn : {State : Type 0} (step : State → Request → Stepped Stat
     → List ℕ → ℕ → Bool → Session → Session → State → State → Type 0
 WorksOn step Fits most rest used send session session_then machine machine_then =
     (on : IsOnItsWay step Fits most session machine rest)
-    → (now_then : Past)
+    → (now_then : Progress)
     × HasCome on session_then machine_then (drop used rest) now_then
     (if send then outgoing_of session_then else [])
 
@@ -64,7 +64,7 @@ abbrev pub GoesOn : {State Outlet : Type 0} (step : State → Request → Steppe
     → List ℕ → List ℕ → Session → Session → State → State → Outlet → Outlet → Type 0
 GoesOn step Fits most Given rest rest_then session session_then machine machine_then out out_then =
     (on : IsOnItsWay step Fits most session machine rest)
-    → (now_then : Past) × (added : List ℕ) × Given out added out_then
+    → (now_then : Progress) × (added : List ℕ) × Given out added out_then
     × HasCome on session_then machine_then rest_then now_then added
 
 -- A turn of whose piece nothing is left goes on to its end.

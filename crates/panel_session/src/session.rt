@@ -6,7 +6,7 @@ ghost use Rattle.plant_config.specs.Plant.{PlantData};
 ghost use Rattle.plant_core.specs.declared.request.Request.{Request};
 ghost use Rattle.plant_core.specs.declared.request.Request.TheVariants.{Leave};
 ghost use Rattle.plant_core.specs.Answer.{IsSayable, room_of};
-ghost use Rattle.panel_session.specs.SoFar.{Past, nothing_yet};
+ghost use Rattle.panel_session.specs.SoFar.{Progress, nothing_yet};
 ghost use Rattle.panel_session.specs.TraceLine.{trace_line};
 
 mod moves;
@@ -17,8 +17,8 @@ use crate::act::Act;
 use crate::asked::next_asked;
 use crate::counts::Counts;
 use crate::leave_line::LeaveLine;
+use crate::phase::{Phase, phase_behind};
 use crate::sender::Sender;
-use crate::stage::{Stage, stage_behind};
 use dle_framing::Framer;
 use history_lock::OutBox;
 use plant_config::{PanelNo, Plant};
@@ -33,7 +33,7 @@ pub struct Session<'p> {
     plant: &'p Plant,
     panel: PanelNo,
     framer: Framer,
-    stage: Stage,
+    phase: Phase,
     sender: Sender<'p>,
     // Whether the outgoing bytes were not yet handed out.
     unsent: bool,
@@ -49,8 +49,8 @@ impl<'p> Session<'p> {
     ghost use Rattle.panel_session.specs.Acting.{ActsOn};
     ghost use Rattle.panel_session.specs.Counted.{AreCounts};
     ghost use Rattle.panel_session.specs.Lending.{LendsOutbox, StaysTheSame};
-    ghost use Rattle.panel_session.specs.CallsLeft.{stage_left, IsNearer, LeavesLess};
-    ghost use Rattle.panel_session.specs.declared.stage.Stage.TheVariants.{Read};
+    ghost use Rattle.panel_session.specs.CallsLeft.{phase_left, IsNearer, LeavesLess};
+    ghost use Rattle.panel_session.specs.declared.phase.Phase.TheVariants.{Read};
     ghost use Rattle.panel_session.specs.ReadingInside.{ReadsOn, HasReadOn};
     ghost use Rattle.panel_session.specs.Session.{outgoing_of, outbox_of, StandsFor, Awaits};
     ghost use Rattle.panel_session.specs.Session.{TakesAnswers, BeginsAnew, BeginsAnewUnanswered};
@@ -73,7 +73,7 @@ impl<'p> Session<'p> {
             plant,
             panel,
             framer: Framer::new(),
-            stage: Stage::Read,
+            phase: Phase::Read,
             sender: Sender::new(alloc, plant, names)?,
             unsent: false,
             outbox: OutBox::new(alloc, PlantState::room_of(plant))?,
@@ -94,7 +94,7 @@ impl<'p> Session<'p> {
         ensures awaited { BeginsAnewUnanswered self.old self.new }
     {
         self.framer.reset();
-        self.stage = Stage::Read;
+        self.phase = Phase::Read;
         self.sender.reset();
         self.unsent = false;
         self.outbox.clear();
@@ -109,9 +109,9 @@ impl<'p> Session<'p> {
 
     /// Its panel.
     pub fn panel(&self) -> PanelNo
-        ensures stood { (plant : PlantData) (panel : ℕ) (past : Past)
+        ensures stood { (plant : PlantData) (panel : ℕ) (past : Progress)
             → StandsFor plant panel self.now past → result ≡ panel }
-        ensures awaited { (plant : PlantData) (panel : ℕ) (past : Past) (request : Request)
+        ensures awaited { (plant : PlantData) (panel : ℕ) (past : Progress) (request : Request)
             → Awaits plant panel self.now past request → result ≡ panel }
     {
         self.panel
@@ -119,9 +119,9 @@ impl<'p> Session<'p> {
 
     /// What came since the start or the last reset.
     pub fn counts(&self) -> Counts
-        ensures stood { (plant : PlantData) (panel : ℕ) (past : Past)
+        ensures stood { (plant : PlantData) (panel : ℕ) (past : Progress)
             → StandsFor plant panel self.now past → AreCounts past result }
-        ensures awaited { (plant : PlantData) (panel : ℕ) (past : Past) (request : Request)
+        ensures awaited { (plant : PlantData) (panel : ℕ) (past : Progress) (request : Request)
             → Awaits plant panel self.now past request → AreCounts past result }
     {
         self.counts
@@ -145,10 +145,10 @@ impl<'p> Session<'p> {
     /// The line of a trace, with its LF, of this panel's leave at this position, 0 to 2^62. The session stays as it is.
     pub fn leave_line(&mut self, position: u64) -> &[u8]
         ensures* same { sem 𝓛 (StaysTheSame self.entry) }
-        ensures stood { (plant : PlantData) (panel : ℕ) (past : Past)
+        ensures stood { (plant : PlantData) (panel : ℕ) (past : Progress)
             → StandsFor plant panel self.old past
             → result.now ≡ trace_line plant position (Leave panel) [] }
-        ensures awaited { (plant : PlantData) (panel : ℕ) (past : Past) (request : Request)
+        ensures awaited { (plant : PlantData) (panel : ℕ) (past : Progress) (request : Request)
             → Awaits plant panel self.old past request
             → result.now ≡ trace_line plant position (Leave panel) [] }
     {
@@ -166,11 +166,11 @@ impl<'p> Session<'p> {
             self.unsent = false;
             return (0, Act::Send);
         }
-        match self.stage {
-            Stage::Read => self.read(piece),
-            Stage::Tell(message) => (0, Act::Ask(self.telling(message))),
-            Stage::Poll => (0, Act::Ask(self.polling())),
-            Stage::End => {
+        match self.phase {
+            Phase::Read => self.read(piece),
+            Phase::Tell(message) => (0, Act::Ask(self.telling(message))),
+            Phase::Poll => (0, Act::Ask(self.polling())),
+            Phase::End => {
                 self.end_turn();
                 (0, Act::Rest)
             }
@@ -185,17 +185,17 @@ impl<'p> Session<'p> {
             → TakesAnswers self.old request (outbox_of self.old).items self.new }
         ensures ends { (request : Request) → IsNearer self.old request self.new }
     {
-        match self.stage {
-            Stage::Tell(_) => {
-                self.stage = Stage::Read;
+        match self.phase {
+            Phase::Tell(_) => {
+                self.phase = Phase::Read;
                 self.take_answers();
             }
-            Stage::Poll => {
+            Phase::Poll => {
                 self.polls = self.polls.wrapping_add(1);
-                self.stage = stage_behind(self.outbox.items(), self.polls);
+                self.phase = phase_behind(self.outbox.items(), self.polls);
                 self.take_answers();
             }
-            Stage::Read | Stage::End => {}
+            Phase::Read | Phase::End => {}
         }
     }
 
@@ -203,7 +203,7 @@ impl<'p> Session<'p> {
     fn read(&mut self, piece: &[u8]) -> (usize, Act)
         ensures within { result.0 ≤ length piece.now }
         ensures acts { ReadsOn self.old piece.now result.0 result.1 self.new }
-        ensures ends { self.old.stage ≡ Read
+        ensures ends { self.old.phase ≡ Read
             → LeavesLess self.old (length piece.now) result.0 result.1 self.new }
     {
         let mut used = 0;
@@ -214,7 +214,7 @@ impl<'p> Session<'p> {
                 return (used, Act::Send);
             }
         }
-        self.stage = Stage::Poll;
+        self.phase = Phase::Poll;
         (used, Act::Ask(self.polling()))
     }
 
@@ -223,9 +223,9 @@ impl<'p> Session<'p> {
         ensures within { result.0 ≤ length piece.now }
         ensures progress { 0 < length piece.now → 0 < result.0 }
         ensures reads { HasReadOn self.old piece.now result.0 result.1 self.new }
-        ensures quiet { result.1 ≡ false → self.new.stage ≡ self.old.stage }
+        ensures quiet { result.1 ≡ false → self.new.phase ≡ self.old.phase }
         ensures unsent { self.new.unsent ≡ self.old.unsent }
-        ensures left { self.old.stage ≡ Read → stage_left self.new.stage self.new.polls ≤ 68 }
+        ensures left { self.old.phase ≡ Read → phase_left self.new.phase self.new.polls ≤ 68 }
     {
         let (used, asked) = next_asked(&mut self.framer, piece);
         match asked {

@@ -6,7 +6,7 @@ use Rattle.plant_config.specs.Plant.{PlantData}
 use Rattle.plantctl.specs.World.{World}
 use Rattle.plantctl.specs.End.{End, Usage, status_of}
 use Rattle.plantctl.specs.Words.{Command, Check, Replay, Audit, plant_word, Ask, HasNoForm}
-use Rattle.plantctl.specs.OpensPlant.{OpensPlant, GoesOn, next_opening, opened_for}
+use Rattle.plantctl.specs.OpensPlant.{OpensPlant, ThenEnds, next_opening, opened_for}
 use Rattle.plantctl.specs.Check.{CheckEnds}
 use Rattle.plantctl.specs.Replay.{ReplayEnds}
 use Rattle.plantctl.specs.Audit.{TraceFile, trace_files, AuditEnds}
@@ -27,19 +27,19 @@ at_word : (words : List (List ℕ)) (before : World) (end stopped : End) (comman
 at_word words before end stopped command ask is opens =
     at_plant command ask (subst (λ (e : End). OpensPlant (plant_word command) (before.held (plant_word command) 0) (Err e)) (sym is) opens)
 
-came_check : (words : List (List ℕ)) (before : World) (end : End) (word : List ℕ) (opened : Result PlantData End) → Ask words (Check word) → OpensPlant word (before.held word 0) opened → GoesOn CheckEnds opened end
+came_check : (words : List (List ℕ)) (before : World) (end : End) (word : List ℕ) (opened : Result PlantData End) → Ask words (Check word) → OpensPlant word (before.held word 0) opened → ThenEnds CheckEnds opened end
     → Came words before end
 came_check words before end word (Ok plant) ask opens ends = in_check plant (record { word = word; ask = ask; leads = opens }) ends
 came_check words before end word (Err stopped) ask opens ends = at_word words before end stopped (Check word) ask ends opens
 
 came_replay : (words : List (List ℕ)) (before : World) (end : End) (word name : List ℕ) (opened : Result PlantData End) → Ask words (Replay word name) → OpensPlant word (before.held word 0) opened
-    → GoesOn (λ plant. ReplayEnds plant name (before.held name (next_opening word name))) opened end → Came words before end
+    → ThenEnds (λ plant. ReplayEnds plant name (before.held name (next_opening word name))) opened end → Came words before end
 came_replay words before end word name (Ok plant) ask opens ends =
     in_replay plant name (before.held name (next_opening word name)) (record { word = word; ask = ask; leads = opens; held_is = refl }) ends
 came_replay words before end word name (Err stopped) ask opens ends = at_word words before end stopped (Replay word name) ask ends opens
 
 came_audit : (words : List (List ℕ)) (before : World) (end : End) (word : List ℕ) (traces : List (List ℕ)) (opened : Result PlantData End) → Ask words (Audit word traces) → OpensPlant word (before.held word 0) opened
-    → GoesOn (λ plant. AuditEnds plant (trace_files before.held (opened_for word) traces)) opened end → Came words before end
+    → ThenEnds (λ plant. AuditEnds plant (trace_files before.held (opened_for word) traces)) opened end → Came words before end
 came_audit words before end word traces (Ok plant) ask opens ends =
     in_audit plant (trace_files before.held (opened_for word) traces) (record { word = word; traces = traces; ask = ask; leads = opens; files_are = refl }) ends
 came_audit words before end word traces (Err stopped) ask opens ends = at_word words before end stopped (Audit word traces) ask ends opens

@@ -3,7 +3,7 @@ use Rattle.std.proofs.Common.{◌≡◌, ◌⊎◌, inl, inr, ℕ, List, ◌∷�
 use Rattle.ctl_io.specs.Sink.{appended}
 use Rattle.ctl_io.specs.Held.{Holds}
 use Rattle.plant_config.specs.Plant.{PlantData}
-use Rattle.record_replay.specs.Laws.{Deed, Turned, Left, Polled, IsHistory}
+use Rattle.record_replay.specs.Laws.{Action, Turned, Left, Polled, IsHistory}
 use Rattle.record_replay.specs.TiedReplay.{IsTiedReplay}
 use Rattle.record_replay.specs.ScriptLaws.{ReplaysHaveHistory, HistoriesAreOne, TurnsAnswerItems}
 use Rattle.plantctl.specs.World.{World}
@@ -11,7 +11,8 @@ use Rattle.plantctl.specs.End.{End, Done, NoMemory, Usage, FileMissing, FileFaul
 use Rattle.plantctl.specs.Replay.{ReplayEnds}
 use Rattle.plantctl.specs.Run.{IsWritten}
 use Rattle.plantctl.specs.Outcomes.{WasKept}
-use Rattle.plantctl.specs.History.{AnswersItsPiece, ShowsHistory}
+use Rattle.record_replay.specs.Answered.{AnswersItsPiece}
+use Rattle.plantctl.specs.History.{ShowsHistory}
 use Rattle.plantctl.specs.Statuses.{ReplaysShowHistories}
 use Rattle.plantctl.proofs.CauseLemmas.{came, is_written}
 use Rattle.plantctl.proofs.AlwaysLemmas.{replayed_of}
@@ -23,10 +24,10 @@ not_kept before now status is (inr (inl three)) = omega (arith, three.0)
 not_kept before now status is (inr (inr seven)) = omega (arith, seven.0)
 
 module _ (some : ReplaysHaveHistory) (one : HistoriesAreOne) (answer : TurnsAnswerItems) where
-  is_answered : (plant : PlantData) (script output : List ℕ) (deeds front later : List Deed) (deed : Deed) → IsHistory plant script output deeds → deeds ≡ front ++ deed ∷ later → AnswersItsPiece front deed
-  is_answered plant script output deeds front later (Turned panel piece entries sent) history is = answer plant script output deeds front later panel piece sent entries history is
-  is_answered plant script output deeds front later (Left panel) history is = tt
-  is_answered plant script output deeds front later (Polled screen refresh answers) history is = tt
+  is_answered : (plant : PlantData) (script output : List ℕ) (actions front later : List Action) (action : Action) → IsHistory plant script output actions → actions ≡ front ++ action ∷ later → AnswersItsPiece front action
+  is_answered plant script output actions front later (Turned panel piece entries sent) history is = answer plant script output actions front later panel piece sent entries history is
+  is_answered plant script output actions front later (Left panel) history is = tt
+  is_answered plant script output actions front later (Polled screen refresh answers) history is = tt
 
   tied_shows : (plant : PlantData) (script output : List ℕ) (before now : World) → IsTiedReplay plant script output → now.written ≡ appended before.written output → ShowsHistory plant script before now
   tied_shows plant script output before now tied appends =
@@ -34,10 +35,10 @@ module _ (some : ReplaysHaveHistory) (one : HistoriesAreOne) (answer : TurnsAnsw
       record {
         output = output;
         appends = appends;
-        deeds = made.0;
+        actions = made.0;
         history = made.1;
         alone = λ other others is. one plant script other output others made.0 is made.1;
-        answered = λ front later deed is. is_answered plant script output made.0 front later deed made.1 is;
+        answered = λ front later action is. is_answered plant script output made.0 front later action made.1 is;
         ties = tied.ties made.0 made.1;
       }
 

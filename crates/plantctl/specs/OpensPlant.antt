@@ -43,9 +43,9 @@ OpensPlant word held opened =
     MatchBool (is_bench word) (OpensBench opened) (OpensFile word held opened)
 
 -- Behind the plant the run goes on with it, or it has ended.
-abbrev pub GoesOn : (PlantData → End → Type 0) → Result PlantData End → End → Type 0
-GoesOn Next (Ok plant) end = Next plant end
-GoesOn Next (Err stopped) end = end ≡ stopped
+abbrev pub ThenEnds : (PlantData → End → Type 0) → Result PlantData End → End → Type 0
+ThenEnds Next (Ok plant) end = Next plant end
+ThenEnds Next (Err stopped) end = end ≡ stopped
 
 -- the number of the opening of a name that comes next once a plant's word has led to a plant: the second of the plant file's
 -- own name, and the first of every other

@@ -8,7 +8,7 @@ use Rattle.plant_config.specs.Plant.{PlantData}
 use Rattle.plantctl.specs.World.{World, Snapshot, snapshot}
 use Rattle.plantctl.specs.End.{End, Usage, FileMissing, FileFault, status_of, output_failed, text_of, is_file_fault}
 use Rattle.plantctl.specs.Words.{Command, Check, Replay, Audit, plant_word, other_files, Ask, HasNoForm}
-use Rattle.plantctl.specs.OpensPlant.{OpensPlant, GoesOn, next_opening, opened_for}
+use Rattle.plantctl.specs.OpensPlant.{OpensPlant, ThenEnds, next_opening, opened_for}
 use Rattle.plantctl.specs.Check.{CheckEnds}
 use Rattle.plantctl.specs.Replay.{ReplayEnds}
 use Rattle.plantctl.specs.Audit.{trace_files, OpensWithin, AuditEnds}
@@ -17,16 +17,16 @@ use Rattle.plantctl.specs.Audit.{trace_files, OpensWithin, AuditEnds}
 abbrev pub CommandEnds : Command → World → End → Type 0
 CommandEnds (Check word) before end =
     (opened : Result PlantData End) × OpensPlant word (before.held word 0) opened
-    × GoesOn CheckEnds opened end
+    × ThenEnds CheckEnds opened end
 CommandEnds (Replay word name) before end =
     (opened : Result PlantData End)
     × OpensPlant word (before.held word 0) opened
-    × GoesOn (λ plant. ReplayEnds plant name (before.held name (next_opening word name)))
+    × ThenEnds (λ plant. ReplayEnds plant name (before.held name (next_opening word name)))
     opened end
 CommandEnds (Audit word traces) before end =
     (opened : Result PlantData End)
     × OpensPlant word (before.held word 0) opened
-    × GoesOn (λ plant. AuditEnds plant (trace_files before.held (opened_for word) traces))
+    × ThenEnds (λ plant. AuditEnds plant (trace_files before.held (opened_for word) traces))
     opened end
 
 -- The file of this name was read so, and what the files hold of other names stays.

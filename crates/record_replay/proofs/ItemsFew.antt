@@ -7,7 +7,7 @@ use Rattle.dle_framing.specs.declared.item.Item.TheVariants.{Ack, Nak}
 use Rattle.dle_framing.specs.Items.{Reading, by_start, in_frame, item_of, items, longest_run, only_rest, reading, with_item}
 use Rattle.dle_framing.proofs.Runs.{at_byte, doubled-byte, doubled-longest_run}
 use Rattle.dle_framing.proofs.Readings.{reading-by_start, length-behind}
-use Rattle.record_replay.specs.StageInside.{is_end, ends_in}
+use Rattle.record_replay.specs.ReplayerInside.{is_end, ends_in}
 
 more_least : (yes : Bool) (n : ℕ) → n ≤ (if yes then suc n else n)
 more_least true n = omega arith

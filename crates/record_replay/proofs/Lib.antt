@@ -10,8 +10,8 @@ pub mod LinesSpellLemmas
 pub mod WorksLemmas
 pub mod IsReplayLemmas
 pub mod SessionsLemmas
-pub mod DeedsLemmas
-pub mod DeedsOnce
+pub mod ActionsLemmas
+pub mod ActionsOnce
 pub mod TiedReplayLemmas
 pub mod DigitsLemmas
 pub mod PairsLemmas
@@ -27,7 +27,7 @@ pub mod ItemsFew
 pub mod NeedLemmas
 pub mod SmallLemmas
 pub mod ServesLemmas
-pub mod StageLemmas
+pub mod ReplayerLemmas
 pub mod WorkLineLemmas
 pub mod WorkScriptLemmas
 pub mod ReplayScriptLemmas

@@ -16,7 +16,7 @@ use Rattle.plant_config.specs.Plant.{PlantData}
 use Rattle.record_replay.specs.Take.{message_frame}
 use Rattle.record_replay.specs.Take.{dest_number_named, carried, connect_named}
 use Rattle.record_replay.specs.Script.{Work, Read, Leave, Show, space, tab, HexSpells, Sends, IsTakeLine, LineSpells}
-use Rattle.record_replay.specs.StageInside.{ends_in, at_least_one, need_of}
+use Rattle.record_replay.specs.ReplayerInside.{ends_in, at_least_one, need_of}
 use Rattle.record_replay.proofs.ItemsFew.{ends_in-append, ends_in-length, ends_in-doubled}
 
 -- what passes a test is no longer than the text

@@ -7,20 +7,20 @@ use Rattle.ctl_io.specs.Faults.{one_more}
 use Rattle.ctl_io.specs.Sink.{appended}
 use Rattle.plant_config.specs.Plant.{PlantData}
 use Rattle.record_replay.specs.declared.output.Output.{Output}
-use Rattle.record_replay.specs.declared.stage.Stage.{Stage}
+use Rattle.record_replay.specs.declared.replayer.Replayer.{Replayer}
 use Rattle.record_replay.specs.OutputInside.{HasNothing, Puts, IsAllGiven, IsCutShort}
 use Rattle.record_replay.specs.Script.{Work, IsOfPlant, lines, worked, LinesSpell}
 use Rattle.record_replay.specs.Replay.{begun, AllWork}
 use Rattle.record_replay.specs.TiedReplay.{HasReplayed, HasReplayedFront}
-use Rattle.record_replay.specs.StageInside.{StandsAt, MayDo, DoesScript}
+use Rattle.record_replay.specs.ReplayerInside.{StandsAt, MayDo, DoesScript}
 use Rattle.record_replay.proofs.IsReplayLemmas.{of_plant}
 use Rattle.record_replay.proofs.TiedReplayLemmas.{no_two_sources}
 use Rattle.record_replay.proofs.WorksLemmas.{AllWork-append, works_exist}
 
--- A new stage may do any script.
-pub may_begin : (plant : PlantData) (stage : Stage) (script : List ℕ) → StandsAt plant stage (begun plant) 0 → length script < 2 ^ 63 → MayDo (length script) stage.plant.now stage
-may_begin plant stage script stands small =
-    subst (λ (plant : PlantData). MayDo (length script) plant stage) (sym stands.plant_is) (record { stand = begun plant; used = 0; stands = stands; within = omega (arith, small) })
+-- A new replayer may do any script.
+pub may_begin : (plant : PlantData) (replayer : Replayer) (script : List ℕ) → StandsAt plant replayer (begun plant) 0 → length script < 2 ^ 63 → MayDo (length script) replayer.plant.now replayer
+may_begin plant replayer script stands small =
+    subst (λ (plant : PlantData). MayDo (length script) plant replayer) (sym stands.plant_is) (record { stand = begun plant; used = 0; stands = stands; within = omega (arith, small) })
 
 -- What holds of each work holds of each of the last ones.
 last_have : (P : Work → Type 0) (done left : List Work) → AllByRecursion P (done ++ left) → AllByRecursion P left
@@ -28,11 +28,11 @@ last_have P [] left all = all
 last_have P (work ∷ done) left all = last_have P done left all.1
 
 -- All that was put was given: the replay text, and the count of faults stayed.
-pub replayed : {K : Type 0} (written : K → Option (List ℕ)) (faults : K → ℕ) (plant : PlantData) (script : List ℕ) (stage : Stage) (sink now : K) (first last : Output K) → StandsAt plant stage (begun plant) 0 → length script < 2 ^ 63
-    → (works : List Work) × LinesSpell plant (worked (lines script)) works → HasNothing written faults sink first → DoesScript stage.plant.now script stage last.failed (λ text. Puts written faults text first last)
+pub replayed : {K : Type 0} (written : K → Option (List ℕ)) (faults : K → ℕ) (plant : PlantData) (script : List ℕ) (replayer : Replayer) (sink now : K) (first last : Output K) → StandsAt plant replayer (begun plant) 0 → length script < 2 ^ 63
+    → (works : List Work) × LinesSpell plant (worked (lines script)) works → HasNothing written faults sink first → DoesScript replayer.plant.now script replayer last.failed (λ text. Puts written faults text first last)
     → last.failed ≡ false → IsAllGiven written faults last now → HasReplayed plant script (written sink) (written now) × (faults now ≡ faults sink)
-replayed written faults plant script stage sink now first last stands small spelled nothing does whole given =
-    let Does : PlantData → Type 0 = λ plant. DoesScript plant script stage last.failed (λ text. Puts written faults text first last) in
+replayed written faults plant script replayer sink now first last stands small spelled nothing does whole given =
+    let Does : PlantData → Type 0 = λ plant. DoesScript plant script replayer last.failed (λ text. Puts written faults text first last) in
     let done = subst Does stands.plant_is does (begun plant) 0 spelled.0 stands (omega (arith, small)) spelled.1 in
     let all = given (written sink) (faults sink) done.0 (done.1.puts (written sink) (faults sink) [] nothing) in
     let is : spelled.0 ≡ done.2.done = done.2.works_are ∙ ap (λ (left : List Work). done.2.done ++ left) (done.2.whole whole) ∙ append-nil done.2.done in (
@@ -48,11 +48,11 @@ replayed written faults plant script stage sink now first last stands small spel
     )
 
 -- A write failed: a shorter front of it, and the count rose by one.
-pub cut_short : {K : Type 0} (written : K → Option (List ℕ)) (faults : K → ℕ) (plant : PlantData) (script : List ℕ) (stage : Stage) (sink now : K) (first last : Output K) → StandsAt plant stage (begun plant) 0 → length script < 2 ^ 63
-    → (works : List Work) × LinesSpell plant (worked (lines script)) works → HasNothing written faults sink first → DoesScript stage.plant.now script stage last.failed (λ text. Puts written faults text first last)
+pub cut_short : {K : Type 0} (written : K → Option (List ℕ)) (faults : K → ℕ) (plant : PlantData) (script : List ℕ) (replayer : Replayer) (sink now : K) (first last : Output K) → StandsAt plant replayer (begun plant) 0 → length script < 2 ^ 63
+    → (works : List Work) × LinesSpell plant (worked (lines script)) works → HasNothing written faults sink first → DoesScript replayer.plant.now script replayer last.failed (λ text. Puts written faults text first last)
     → IsCutShort written faults last now → HasReplayedFront plant script (written sink) (written now) × (faults now ≡ one_more (faults sink))
-cut_short written faults plant script stage sink now first last stands small spelled nothing does cut =
-    let Does : PlantData → Type 0 = λ plant. DoesScript plant script stage last.failed (λ text. Puts written faults text first last) in
+cut_short written faults plant script replayer sink now first last stands small spelled nothing does cut =
+    let Does : PlantData → Type 0 = λ plant. DoesScript plant script replayer last.failed (λ text. Puts written faults text first last) in
     let done = subst Does stands.plant_is does (begun plant) 0 spelled.0 stands (omega (arith, small)) spelled.1 in
     let part = cut (written sink) (faults sink) done.0 (done.1.puts (written sink) (faults sink) [] nothing) in
     let Has : Work → Type 0 = IsOfPlant plant in

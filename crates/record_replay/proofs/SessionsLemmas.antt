@@ -18,7 +18,7 @@ use Rattle.plant_core.specs.declared.request.Request.TheVariants as requests
 use Rattle.plant_core.specs.declared.answer.Answer.{Answer}
 use Rattle.panel_session.specs.Entry.{PlantEntry}
 use Rattle.panel_session.specs.Run.{IsWorked, turned}
-use Rattle.panel_session.specs.SoFar.{Past}
+use Rattle.panel_session.specs.SoFar.{Progress}
 use Rattle.panel_session.specs.Text.{IsText}
 use Rattle.panel_session.specs.Turns.{Turn, bytes_of, entries_of_turns, entries_in, AreTurns}
 use Rattle.panel_session.proofs.KeptTurnLemmas.{are_turns-append}
@@ -99,7 +99,7 @@ module _ (plant : PlantData) where
       (subst (λ (e : List PlantEntry). IsText plant (items bytes) e more) same_entries (subst (λ (s : List ℕ). IsText plant (items bytes) entries s) same_sent text))
 
   -- A panel's session has done this: it read these pieces, made these entries and sent these bytes.
-  pub record IsPast (panel : ℕ) (pieces : List (List ℕ)) (entries : List PlantEntry) (sent : List ℕ) (past : Past) : Type 0 where
+  pub record IsPast (panel : ℕ) (pieces : List (List ℕ)) (entries : List PlantEntry) (sent : List ℕ) (past : Progress) : Type 0 where
     pub are_turns : AreTurns panel past.turns
     pub pieces_are : map (λ turn. turn.piece) past.turns ≡ pieces
     pub entries_are : entries_of_turns past.turns ≡ entries
@@ -107,7 +107,7 @@ module _ (plant : PlantData) where
     pub text : IsText plant (items (bytes_of past.turns)) (entries_of_turns past.turns) past.sent
 
   -- Equal ones do as well.
-  pub past-as : (panel : ℕ) (pieces pieces' : List (List ℕ)) (entries entries' : List PlantEntry) (sent sent' : List ℕ) (past : Past) → pieces ≡ pieces' → entries ≡ entries' → sent ≡ sent'
+  pub past-as : (panel : ℕ) (pieces pieces' : List (List ℕ)) (entries entries' : List PlantEntry) (sent sent' : List ℕ) (past : Progress) → pieces ≡ pieces' → entries ≡ entries' → sent ≡ sent'
       → IsPast panel pieces entries sent past → IsPast panel pieces' entries' sent' past
   past-as panel pieces pieces' entries entries' sent sent' past same_pieces same_entries same_sent is = record {
     are_turns = is.are_turns;
@@ -118,20 +118,20 @@ module _ (plant : PlantData) where
   }
 
   -- The bytes that it has read are those of its pieces.
-  pub past-bytes : (panel : ℕ) (pieces : List (List ℕ)) (entries : List PlantEntry) (sent : List ℕ) (past : Past) → IsPast panel pieces entries sent past
+  pub past-bytes : (panel : ℕ) (pieces : List (List ℕ)) (entries : List PlantEntry) (sent : List ℕ) (past : Progress) → IsPast panel pieces entries sent past
       → bytes_of past.turns ≡ flat_map (λ piece. piece) pieces
   past-bytes panel pieces entries sent past is =
       sym (flat_map-map (λ (piece : List ℕ). piece) (λ (turn : Turn). turn.piece) past.turns) ∙ ap (flat_map (λ (piece : List ℕ). piece)) is.pieces_are
 
   -- What a session has done is a session.
-  pub past-session : (panel : ℕ) (pieces : List (List ℕ)) (entries : List PlantEntry) (sent : List ℕ) (past : Past) → IsPast panel pieces entries sent past → IsSession plant panel pieces entries sent
+  pub past-session : (panel : ℕ) (pieces : List (List ℕ)) (entries : List PlantEntry) (sent : List ℕ) (past : Progress) → IsPast panel pieces entries sent past → IsSession plant panel pieces entries sent
   past-session panel pieces entries sent past is = record {
     fits = record { turns = past.turns; are_turns = is.are_turns; pieces = is.pieces_are; entries_are = is.entries_are };
     text = text-as _ _ past.sent sent (entries_of_turns past.turns) entries (past-bytes panel pieces entries sent past is) is.entries_are is.sent_is is.text;
   }
 
   -- A turn more was worked.
-  pub past-turn : (panel : ℕ) (pieces : List (List ℕ)) (entries : List PlantEntry) (sent piece : List ℕ) (past : Past) (machine : State) (turn : Turn) (more : List ℕ)
+  pub past-turn : (panel : ℕ) (pieces : List (List ℕ)) (entries : List PlantEntry) (sent piece : List ℕ) (past : Progress) (machine : State) (turn : Turn) (more : List ℕ)
       → IsPast panel pieces entries sent past → turn.piece ≡ piece
       → IsWorked step Fits plant panel past machine turn more → IsPast panel (pieces ++ piece ∷ []) (entries ++ entries_in turn) (sent ++ more) (turned turn more past)
   past-turn panel pieces entries sent piece past machine turn more is piece_is work = record {

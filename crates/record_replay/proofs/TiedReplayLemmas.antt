@@ -19,4 +19,4 @@ keeps_ties_valid plant history is = λ front later same.
     subst (λ (plant' : PlantData). HaveValidTies plant' (run step (start plant) front).crosspoints) (run-plant (start plant) front) valid.ties
 
 pub no_two_sources : (plant : PlantData) (script output : List ℕ) → IsPlant plant → NoTieCarriesTwoSources plant script output
-no_two_sources plant script output is = λ deeds history. keeps_ties_valid plant (history_of deeds) is
+no_two_sources plant script output is = λ actions history. keeps_ties_valid plant (history_of actions) is

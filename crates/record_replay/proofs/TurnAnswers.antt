@@ -8,7 +8,7 @@ use Rattle.panel_session.specs.Asked.{AllAsk}
 use Rattle.panel_session.specs.Entry.{PlantEntry}
 use Rattle.panel_session.specs.Run.{turned}
 use Rattle.panel_session.specs.SettledInside.{Settled}
-use Rattle.panel_session.specs.SoFar.{Past, read_so_far, entries_so_far}
+use Rattle.panel_session.specs.SoFar.{Progress, read_so_far, entries_so_far}
 use Rattle.panel_session.specs.StandsInside.{AllTold, NoneFrom}
 use Rattle.panel_session.specs.Text.{Output, nothing_sent, polled_at}
 use Rattle.panel_session.specs.Turns.{Turn, bytes_of, entries_in, entries_of_turns, IsTurn}
@@ -82,7 +82,7 @@ record Says (plant : PlantData) (turns : List Turn) (sent : List ℕ) : Type 0 w
   none : NoneFrom (length (items (bytes_of turns))) (entries_of_turns turns)
   bytes : (output_of plant (entries_of_turns turns) asked).bytes ≡ sent
 
-says : (plant : PlantData) (panel : ℕ) (past : Past) → Settled plant panel past → Says plant past.turns past.sent
+says : (plant : PlantData) (panel : ℕ) (past : Progress) → Settled plant panel past → Says plant past.turns past.sent
 says plant panel past settled =
     let k = settled.keeps in
     let asked : List Asked = k.before ++ k.asked in
@@ -96,14 +96,14 @@ says plant panel past settled =
     record {
       asked = asked;
       ask = subst AskOf (sym k.end_in ∙ ap items read) (all_ask-append (items (bytes_of past.turns)) k.ended k.before k.asked k.ask_before k.ask);
-      told = subst ToldIn entries k.stage.2;
+      told = subst ToldIn entries k.replayer.2;
       none = subst NoneOf read (subst NoneIn entries k.none_from);
       bytes = ap (λ (entries : List PlantEntry). (output_of plant entries asked).bytes) (sym entries) ∙ ap (λ (output : Output). output.bytes) k.output ∙ append-nil past.sent;
     }
 
 -- So the bytes that are sent in a turn behind them answer the items that end in its piece, where all turns are over behind
 -- it too.
-pub turn_answers : (plant : PlantData) (panel : ℕ) (past : Past) (turn : Turn) (more : List ℕ) → IsTurn panel past.turns turn → Settled plant panel past → Settled plant panel (turned turn more past)
+pub turn_answers : (plant : PlantData) (panel : ℕ) (past : Progress) (turn : Turn) (more : List ℕ) → IsTurn panel past.turns turn → Settled plant panel past → Settled plant panel (turned turn more past)
     → AnswersItems (bytes_of past.turns) turn.piece more
 turn_answers plant panel past turn more is settled settled_then =
     let turns = past.turns in

@@ -2,20 +2,20 @@
 use Rattle.std.proofs.Common.{◌≡◌, ℕ, ◌+◌, ◌≤◌, Bool, true, false, not, cond, List, [], ◌∷◌, length, refl, sym, ap, ◌∙◌, subst, arith}
 use Rattle.std.proofs.lemmas.List.{append-nil}
 use Rattle.plant_config.specs.Plant.{PlantData}
-use Rattle.record_replay.specs.declared.stage.Stage.{Stage}
+use Rattle.record_replay.specs.declared.replayer.Replayer.{Replayer}
 use Rattle.record_replay.specs.LineInside.{IsBad}
 use Rattle.record_replay.specs.FirstInside.{IsFirst, BeginsWithTurn}
 use Rattle.record_replay.specs.Script.{Work, Read, is_skipped, worked, LineSpells, LinesSpell}
-use Rattle.record_replay.specs.Replay.{Stand, AllWork}
-use Rattle.record_replay.specs.StageInside.{StandsAt, MayDo, HasDone, HasDoneLine, DoesWork, DoesLine, need_of}
+use Rattle.record_replay.specs.Replay.{ReplayState, AllWork}
+use Rattle.record_replay.specs.ReplayerInside.{StandsAt, MayDo, HasDone, HasDoneLine, DoesWork, DoesLine, need_of}
 use Rattle.record_replay.proofs.LineSpellsLemmas.{one_work}
 use Rattle.record_replay.proofs.NeedLemmas.{need_within}
 use Rattle.record_replay.proofs.LinesSpellLemmas.{worked-cons}
 use Rattle.record_replay.proofs.SmallLemmas.{small_later}
 
--- Behind more of a script a stage stands as before.
-pub stands_later : (plant : PlantData) (stage : Stage) (stand : Stand) (used later : ℕ) → used ≤ later → StandsAt plant stage stand used → StandsAt plant stage stand later
-stands_later plant stage stand used later within stands = record {
+-- Behind more of a script a replayer stands as before.
+pub stands_later : (plant : PlantData) (replayer : Replayer) (stand : ReplayState) (used later : ℕ) → used ≤ later → StandsAt plant replayer stand used → StandsAt plant replayer stand later
+stands_later plant replayer stand used later within stands = record {
   plant_is = stands.plant_is;
   state_is = stands.state_is;
   valid = stands.valid;
@@ -58,7 +58,7 @@ pub works_bad : (plant : PlantData) (line : List ℕ) (works : List Work) → Is
 works_bad plant line works bad spelled = bad_one plant line works bad.1 (subst (λ (all : List (List ℕ)). LinesSpell plant all works) (worked_one line false bad.0) spelled)
 
 -- The work of a line was done.
-pub line_done : (plant : PlantData) (line : List ℕ) (work : Work) (works : List Work) (stand : Stand) (used : ℕ) (after : Stage) (text : List ℕ) → works ≡ work ∷ [] → need_of work ≤ length line
+pub line_done : (plant : PlantData) (line : List ℕ) (work : Work) (works : List Work) (stand : ReplayState) (used : ℕ) (after : Replayer) (text : List ℕ) → works ≡ work ∷ [] → need_of work ≤ length line
     → HasDone plant work stand used after text → HasDoneLine plant line works stand used after text
 line_done plant line work works stand used after text is within done = record {
   next = done.next;
@@ -67,19 +67,19 @@ line_done plant line work works stand used after text is within done = record {
 }
 
 -- A line was skipped.
-pub line_skipped : (plant : PlantData) (line : List ℕ) (works : List Work) (stand : Stand) (used : ℕ) (stage : Stage) → works ≡ [] → StandsAt plant stage stand used → HasDoneLine plant line works stand used stage []
-line_skipped plant line works stand used stage is stands = record {
+pub line_skipped : (plant : PlantData) (line : List ℕ) (works : List Work) (stand : ReplayState) (used : ℕ) (replayer : Replayer) → works ≡ [] → StandsAt plant replayer stand used → HasDoneLine plant line works stand used replayer []
+line_skipped plant line works stand used replayer is stands = record {
   next = stand;
   all_work = subst (λ (works : List Work). AllWork plant works stand [] stand) (sym is) (refl, refl);
-  stands = stands_later plant stage stand used (used + length line) (omega arith) stands;
+  stands = stands_later plant replayer stand used (used + length line) (omega arith) stands;
 }
 
--- A stage that may do more may do less.
-pub may_less : (need more : ℕ) (plant : PlantData) (stage : Stage) → need ≤ more → MayDo more plant stage → MayDo need plant stage
-may_less need more plant stage within may = record { stand = may.stand; used = may.used; stands = may.stands; within = omega (arith, within, may.within) }
+-- A replayer that may do more may do less.
+pub may_less : (need more : ℕ) (plant : PlantData) (replayer : Replayer) → need ≤ more → MayDo more plant replayer → MayDo need plant replayer
+may_less need more plant replayer within may = record { stand = may.stand; used = may.used; stands = may.stands; within = omega (arith, within, may.within) }
 
 -- The work that a line spells was done, and so the line's.
-pub does_line : (plant : PlantData) (line : List ℕ) (work : Work) (before after : Stage) (IsPut : List ℕ → Type 0) → is_skipped line ≡ false → LineSpells plant line work → DoesWork plant work before after IsPut
+pub does_line : (plant : PlantData) (line : List ℕ) (work : Work) (before after : Replayer) (IsPut : List ℕ → Type 0) → is_skipped line ≡ false → LineSpells plant line work → DoesWork plant work before after IsPut
     → DoesLine plant line before after IsPut
 does_line plant line work before after IsPut unskipped spells does stand used works stands within spelled =
     let need = need_within plant line work spells in
@@ -87,19 +87,19 @@ does_line plant line work before after IsPut unskipped spells does stand used wo
     (done.0, done.1, line_done plant line work works stand used after done.0 (works_one plant line work works unskipped spells spelled) need done.2)
 
 -- A line that is skipped has no work.
-pub does_nothing : (plant : PlantData) (line : List ℕ) (stage : Stage) (IsPut : List ℕ → Type 0) → is_skipped line ≡ true → IsPut [] → DoesLine plant line stage stage IsPut
-does_nothing plant line stage IsPut skipped put stand used works stands within spelled =
-    ([], put, line_skipped plant line works stand used stage (works_none plant line works skipped spelled) stands)
+pub does_nothing : (plant : PlantData) (line : List ℕ) (replayer : Replayer) (IsPut : List ℕ → Type 0) → is_skipped line ≡ true → IsPut [] → DoesLine plant line replayer replayer IsPut
+does_nothing plant line replayer IsPut skipped put stand used works stands within spelled =
+    ([], put, line_skipped plant line works stand used replayer (works_none plant line works skipped spelled) stands)
 
 -- The first line of a text is a turn with these bytes, which were lent. It may be done,
-pub first_may : (plant : PlantData) (stage : Stage) (text piece lent behind : List ℕ) (panel : ℕ) → BeginsWithTurn plant text panel piece behind → lent ≡ piece → MayDo (length text) plant stage
-    → MayDo (need_of (Read panel lent)) plant stage
-first_may plant stage text piece lent behind panel turn is may =
+pub first_may : (plant : PlantData) (replayer : Replayer) (text piece lent behind : List ℕ) (panel : ℕ) → BeginsWithTurn plant text panel piece behind → lent ≡ piece → MayDo (length text) plant replayer
+    → MayDo (need_of (Read panel lent)) plant replayer
+first_may plant replayer text piece lent behind panel turn is may =
     let work = subst (λ (piece : List ℕ). LineSpells plant turn.0 (Read panel piece)) (sym is) turn.2.1 in
-    may_less (need_of (Read panel lent)) (length text) plant stage (omega (arith, turn.1.within, need_within plant turn.0 (Read panel lent) work)) may
+    may_less (need_of (Read panel lent)) (length text) plant replayer (omega (arith, turn.1.within, need_within plant turn.0 (Read panel lent) work)) may
 
 -- and once it was, the line's work is done.
-pub first_done : (plant : PlantData) (text piece lent behind : List ℕ) (panel : ℕ) (before after : Stage) (IsPut : List ℕ → Type 0) → BeginsWithTurn plant text panel piece behind → lent ≡ piece
+pub first_done : (plant : PlantData) (text piece lent behind : List ℕ) (panel : ℕ) (before after : Replayer) (IsPut : List ℕ → Type 0) → BeginsWithTurn plant text panel piece behind → lent ≡ piece
     → DoesWork plant (Read panel lent) before after IsPut → (line : List ℕ) × IsFirst text line behind × DoesLine plant line before after IsPut
 first_done plant text piece lent behind panel before after IsPut turn is does =
     let work = subst (λ (piece : List ℕ). LineSpells plant turn.0 (Read panel piece)) (sym is) turn.2.1 in

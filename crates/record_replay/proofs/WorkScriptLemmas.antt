@@ -2,13 +2,13 @@
 use Rattle.std.proofs.Common.{◌≡◌, ℕ, ◌+◌, ◌^◌, ◌≤◌, ◌<◌, Bool, false, List, [], ◌∷◌, ◌++◌, length, Option, refl, sym, ap, ◌∙◌, subst, arith}
 use Rattle.std.proofs.lemmas.List.{append_assoc}
 use Rattle.plant_config.specs.Plant.{PlantData}
-use Rattle.record_replay.specs.declared.stage.Stage.{Stage}
+use Rattle.record_replay.specs.declared.replayer.Replayer.{Replayer}
 use Rattle.record_replay.specs.declared.output.Output.{Output}
 use Rattle.record_replay.specs.OutputInside.{Puts}
 use Rattle.record_replay.specs.OutputLaws.{Puts-more}
 use Rattle.record_replay.specs.Script.{Work, lines, worked, LinesSpell}
-use Rattle.record_replay.specs.Replay.{Stand}
-use Rattle.record_replay.specs.StageInside.{MayDo, DoesLine, IsOnTheWay, GoesOn, DoesScript}
+use Rattle.record_replay.specs.Replay.{ReplayState}
+use Rattle.record_replay.specs.ReplayerInside.{MayDo, DoesLine, IsOnTheWay, PlaysOn, DoesScript}
 use Rattle.record_replay.proofs.LinesSpellLemmas.{worked-append}
 use Rattle.record_replay.proofs.WorkLineLemmas.{no_works}
 use Rattle.record_replay.proofs.WorksLemmas.{AllWork-append}
@@ -41,8 +41,8 @@ first_line plant rest line after left is spelled =
     (subst (λ (all : List (List ℕ)). LinesSpell plant all left) (ap worked is ∙ worked-append (line ∷ []) (lines after)) spelled)
 
 -- A script begins.
-pub begins : (plant : PlantData) (script : List ℕ) (stage : Stage) (IsPut : List ℕ → Type 0) → IsPut [] → GoesOn plant script script stage stage IsPut
-begins plant script stage IsPut put stand used works stands within spelled = record {
+pub begins : (plant : PlantData) (script : List ℕ) (replayer : Replayer) (IsPut : List ℕ → Type 0) → IsPut [] → PlaysOn plant script script replayer replayer IsPut
+begins plant script replayer IsPut put stand used works stands within spelled = record {
   done = [];
   left = works;
   works_are = refl;
@@ -57,7 +57,7 @@ begins plant script stage IsPut put stand used works stands within spelled = rec
 }
 
 -- The lines that are left may be done.
-pub rest_may : (plant : PlantData) (works : List Work) (stand : Stand) (all : ℕ) (rest : List ℕ) (now : Stage) (IsPut : List ℕ → Type 0) → all < 2 ^ 63
+pub rest_may : (plant : PlantData) (works : List Work) (stand : ReplayState) (all : ℕ) (rest : List ℕ) (now : Replayer) (IsPut : List ℕ → Type 0) → all < 2 ^ 63
     → IsOnTheWay plant works stand all rest now IsPut → MayDo (length rest) plant now
 rest_may plant works stand all rest now IsPut small way = record { stand = way.next; used = way.used; stands = way.stands; within = omega (arith, way.within, small) }
 
@@ -67,9 +67,9 @@ pub first_spelled : (plant : PlantData) (text line behind : List ℕ) → lines 
 first_spelled plant text line behind is spelled = let parts = first_line plant text line behind spelled.0 is spelled.1 in (parts.done, parts.front_spelled)
 
 -- A line more was done.
-pub goes_on : {K : Type 0} (written : K → Option (List ℕ)) (faults : K → ℕ) (plant : PlantData) (script rest line after : List ℕ) (before now then : Stage) (first mid last : Output K) → lines rest ≡ line ∷ lines after
-    → length line + length after ≤ length rest → GoesOn plant script rest before now (λ text. Puts written faults text first mid) → DoesLine plant line now then (λ text. Puts written faults text mid last)
-    → GoesOn plant script after before then (λ text. Puts written faults text first last)
+pub goes_on : {K : Type 0} (written : K → Option (List ℕ)) (faults : K → ℕ) (plant : PlantData) (script rest line after : List ℕ) (before now then : Replayer) (first mid last : Output K) → lines rest ≡ line ∷ lines after
+    → length line + length after ≤ length rest → PlaysOn plant script rest before now (λ text. Puts written faults text first mid) → DoesLine plant line now then (λ text. Puts written faults text mid last)
+    → PlaysOn plant script after before then (λ text. Puts written faults text first last)
 goes_on written faults plant script rest line after before now then first mid last is shorter way does stand used works stands within spelled =
     let so_far = way stand used works stands within spelled in
     let parts = first_line plant rest line after so_far.left is so_far.spelled in
@@ -89,7 +89,7 @@ goes_on written faults plant script rest line after before now then first mid la
     }
 
 -- All lines were done, or the output failed.
-pub script_done : (plant : PlantData) (script rest : List ℕ) (before now : Stage) (failed : Bool) (IsPut : List ℕ → Type 0) → GoesOn plant script rest before now IsPut → (failed ≡ false → rest ≡ []) → DoesScript plant script before failed IsPut
+pub script_done : (plant : PlantData) (script rest : List ℕ) (before now : Replayer) (failed : Bool) (IsPut : List ℕ → Type 0) → PlaysOn plant script rest before now IsPut → (failed ≡ false → rest ≡ []) → DoesScript plant script before failed IsPut
 script_done plant script rest before now failed IsPut way over stand used works stands within spelled =
     let so_far = way stand used works stands within spelled in (
       so_far.text,

@@ -13,12 +13,12 @@ use Rattle.plant_core.proofs.StepLeaves.{plant-step}
 use Rattle.panel_session.specs.Entry.{PlantEntry}
 use Rattle.panel_session.specs.Run.{turned}
 use Rattle.panel_session.specs.SettledInside.{Settled}
-use Rattle.panel_session.specs.SoFar.{Past}
+use Rattle.panel_session.specs.SoFar.{Progress}
 use Rattle.panel_session.specs.Turns.{Turn, entries_in}
 use Rattle.panel_session.proofs.TurnOnce.{one_turn_lem}
 use Rattle.panel_session.proofs.TurnExists.{settled_nothing, turn_exists}
 use Rattle.record_replay.specs.Script.{Work, Read, Leave, Show, IsOfPlant}
-use Rattle.record_replay.specs.Replay.{Stand, begun, with_past, behind_turn, behind_step, turn_line, leave_line, show_line, Works, AllWork}
+use Rattle.record_replay.specs.Replay.{ReplayState, begun, with_past, behind_turn, behind_step, turn_line, leave_line, show_line, Advances, AllWork}
 use Rattle.record_replay.specs.StandInside.{IsSettled}
 
 -- No history changes the plant.
@@ -42,7 +42,7 @@ pub settled-begun : (plant : PlantData) → IsSettled plant (begun plant)
 settled-begun plant = record { plant_is = refl; each = settled_nothing plant }
 
 -- Where one session has done more and is between two turns again, each is.
-settled-with : (plant : PlantData) (panel : ℕ) (past : Past) (pasts : ℕ → Past) → Settled plant panel past → ((other : ℕ) → Settled plant other (pasts other))
+settled-with : (plant : PlantData) (panel : ℕ) (past : Progress) (pasts : ℕ → Progress) → Settled plant panel past → ((other : ℕ) → Settled plant other (pasts other))
     → (other : ℕ) → Settled plant other (with_past panel past pasts other)
 settled-with plant panel past pasts here each other =
     elim (other == panel) as (λ b. (other == panel) ≡ b → Settled plant other (cond b past (pasts other))) [
@@ -51,7 +51,7 @@ settled-with plant panel past pasts here each other =
     ] refl
 
 -- So it is behind a turn,
-pub settled-turn : (plant : PlantData) (panel : ℕ) (turn : Turn) (more : List ℕ) (stand : Stand) → IsSettled plant stand
+pub settled-turn : (plant : PlantData) (panel : ℕ) (turn : Turn) (more : List ℕ) (stand : ReplayState) → IsSettled plant stand
     → Settled plant panel (turned turn more (stand.pasts panel)) → IsSettled plant (behind_turn panel turn more stand)
 settled-turn plant panel turn more stand settled here = record {
   plant_is = run-plant stand.state (entries_in turn) ∙ settled.plant_is;
@@ -59,17 +59,17 @@ settled-turn plant panel turn more stand settled here = record {
 }
 
 -- and behind one step that no session asks for.
-pub settled-step : (plant : PlantData) (request : Request) (stand : Stand) → IsSettled plant stand → IsSettled plant (behind_step request stand)
+pub settled-step : (plant : PlantData) (request : Request) (stand : ReplayState) → IsSettled plant stand → IsSettled plant (behind_step request stand)
 settled-step plant request stand settled = record {
   plant_is = plant-step stand.state request ∙ settled.plant_is;
   each = settled.each;
 }
 
 -- Works are done behind others.
-pub AllWork-append : (plant : PlantData) (works later : List Work) (stand mid last : Stand) (text rest : List ℕ)
+pub AllWork-append : (plant : PlantData) (works later : List Work) (stand mid last : ReplayState) (text rest : List ℕ)
     → AllWork plant works stand text mid → AllWork plant later mid rest last → AllWork plant (works ++ later) stand (text ++ rest) last
 AllWork-append plant [] later stand mid last text rest done more =
-    let From : Stand → Type 0 = λ stand. AllWork plant later stand rest last in
+    let From : ReplayState → Type 0 = λ stand. AllWork plant later stand rest last in
     let Says : List ℕ → Type 0 = λ text. AllWork plant later stand (text ++ rest) last in
     subst Says (sym done.0) (subst From done.1 more)
 AllWork-append plant (work ∷ works) later stand mid last text rest done more = (
@@ -82,8 +82,8 @@ AllWork-append plant (work ∷ works) later stand mid last text rest done more =
 )
 
 -- Each work can be done where each session is between two turns, and then each is again.
-work_exists : (plant : PlantData) (work : Work) (stand : Stand) → IsSettled plant stand → IsOfPlant plant work
-    → (line : List ℕ) × (next : Stand) × Works plant work stand line next × IsSettled plant next
+work_exists : (plant : PlantData) (work : Work) (stand : ReplayState) → IsSettled plant stand → IsOfPlant plant work
+    → (line : List ℕ) × (next : ReplayState) × Advances plant work stand line next × IsSettled plant next
 work_exists plant (Read panel piece) stand settled has =
     let made = turn_exists step Fits plant panel (stand.pasts panel) stand.state piece has (settled.each panel)
     (λ history request legal fits. fits-run plant stand.state history request settled.plant_is fits) in (
@@ -99,8 +99,8 @@ work_exists plant (Show screen refresh) stand settled has =
     (show_line plant screen (step stand.state poll).answers, behind_step poll stand, (refl, refl), settled-step plant poll stand settled)
 
 -- All works of the plant can be done, one after the other.
-pub works_exist : (plant : PlantData) (works : List Work) (stand : Stand) → IsSettled plant stand → All (IsOfPlant plant) works
-    → (output : List ℕ) × (last : Stand) × AllWork plant works stand output last × IsSettled plant last
+pub works_exist : (plant : PlantData) (works : List Work) (stand : ReplayState) → IsSettled plant stand → All (IsOfPlant plant) works
+    → (output : List ℕ) × (last : ReplayState) × AllWork plant works stand output last × IsSettled plant last
 works_exist plant [] stand settled has = ([], stand, (refl, refl), settled)
 works_exist plant (work ∷ works) stand settled has =
     let Has : Work → Type 0 = IsOfPlant plant in
@@ -109,7 +109,7 @@ works_exist plant (work ∷ works) stand settled has =
     (one.0 ++ later.0, later.1, (one.1, one.0, later.0, one.2, later.2, refl), later.3)
 
 -- A work is done in one way,
-one_done : (plant : PlantData) (work : Work) (stand : Stand) (line other : List ℕ) (next then : Stand) → Works plant work stand line next → Works plant work stand other then
+one_done : (plant : PlantData) (work : Work) (stand : ReplayState) (line other : List ℕ) (next then : ReplayState) → Advances plant work stand line next → Advances plant work stand other then
     → (line ≡ other) × (next ≡ then)
 one_done plant (Read panel piece) stand line other next then done done' =
     let same = one_turn_lem step Fits plant panel (stand.pasts panel) stand.state done.0 done'.0 done.1 done'.1 done.3 done'.3 (done.2 ∙ sym done'.2) in (
@@ -120,11 +120,11 @@ one_done plant (Leave panel) stand line other next then done done' = (done.0 ∙
 one_done plant (Show screen refresh) stand line other next then done done' = (done.0 ∙ sym done'.0, done.1 ∙ sym done'.1)
 
 -- and so are works.
-pub one_output : (plant : PlantData) (works : List Work) (stand last other : Stand) (a b : List ℕ) → AllWork plant works stand a last → AllWork plant works stand b other
+pub one_output : (plant : PlantData) (works : List Work) (stand last other : ReplayState) (a b : List ℕ) → AllWork plant works stand a last → AllWork plant works stand b other
     → (a ≡ b) × (last ≡ other)
 one_output plant [] stand last other a b done done' = (done.0 ∙ sym done'.0, done.1 ∙ sym done'.1)
 one_output plant (work ∷ works) stand last other a b done done' =
     let first = one_done plant work stand done.1 done'.1 done.0 done'.0 done.3 done'.3 in
-    let From : Stand → Type 0 = λ stand. AllWork plant works stand done'.2 other in
+    let From : ReplayState → Type 0 = λ stand. AllWork plant works stand done'.2 other in
     let later = one_output plant works done.0 last other done.2 done'.2 done.4 (subst From (sym first.1) done'.4) in
     (done.5 ∙ (λ i. first.0 i ++ later.0 i) ∙ sym done'.5, later.1)

@@ -10,7 +10,7 @@ use Rattle.swp08_messages.specs.Text.{text}
 use Rattle.swp08_messages.specs.Dump.{Page, page_text}
 use Rattle.plant_names.specs.Pages as pages
 use Rattle.panel_session.specs.Turns.{EndIn}
-use Rattle.record_replay.specs.Laws.{Deed, Turned, Left, Polled, pieces_of}
+use Rattle.record_replay.specs.Laws.{Action, Turned, Left, Polled, pieces_of}
 
 -- DATA are those of a page of names.
 abbrev pub IsPageOfNames : List ℕ → Type 0
@@ -55,9 +55,9 @@ pub record AnswersItems (read piece sent : List ℕ) : Type 0 where
   pub tell : AllByRecursion IsTelling notices
   pub sent_is : sent ≡ in_a_row answers ++ in_a_row notices
 
--- What is sent in a turn answers the items that end in its piece, behind the pieces that the panel sent in the deeds before: a
+-- What is sent in a turn answers the items that end in its piece, behind the pieces that the panel sent in the actions before: a
 -- frame by NAK exactly where it is bad.
-abbrev pub AnswersItsPiece : List Deed → Deed → Type 0
+abbrev pub AnswersItsPiece : List Action → Action → Type 0
 AnswersItsPiece before (Turned panel piece entries sent) =
     AnswersItems (flat_map (λ piece. piece) (pieces_of panel before)) piece sent
 AnswersItsPiece before (Left panel) = Unit {0}

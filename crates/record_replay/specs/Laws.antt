@@ -18,19 +18,19 @@ use Rattle.record_replay.specs.Replay.{turn_line, leave_line, show_line}
 
 -- What was done for a line of a script: a turn of a panel's session with this piece, its entries in the plant's history and
 -- the bytes that were sent in it; the leave of a panel; or a display poll of a screen and its answers.
-pub data Deed : Type 0 where
-  Turned : (panel : ℕ) (piece : List ℕ) (entries : List PlantEntry) (sent : List ℕ) → Deed
-  Left : (panel : ℕ) → Deed
-  Polled : (screen : ℕ) (refresh : Bool) (answers : List Answer) → Deed
+pub data Action : Type 0 where
+  Turned : (panel : ℕ) (piece : List ℕ) (entries : List PlantEntry) (sent : List ℕ) → Action
+  Left : (panel : ℕ) → Action
+  Polled : (screen : ℕ) (refresh : Bool) (answers : List Answer) → Action
 
 -- the work that it does
-abbrev pub work_of : Deed → Work
+abbrev pub work_of : Action → Work
 work_of (Turned panel piece entries sent) = Read panel piece
 work_of (Left panel) = Leave panel
 work_of (Polled screen refresh answers) = Show screen refresh
 
 -- the output line that shows it, on this plant
-abbrev pub line_of : PlantData → Deed → List ℕ
+abbrev pub line_of : PlantData → Action → List ℕ
 line_of plant (Turned panel piece entries sent) = turn_line panel sent
 line_of plant (Left panel) = leave_line panel
 line_of plant (Polled screen refresh answers) = show_line plant screen answers
@@ -41,7 +41,7 @@ display_seat = panel_limit
 
 -- its entries in the plant's history: a leave is one, by the panel's seat, and has no answer; a display poll is one, by the
 -- displays' seat
-abbrev pub entries_by : Deed → List PlantEntry
+abbrev pub entries_by : Action → List PlantEntry
 entries_by (Turned panel piece entries sent) = entries
 entries_by (Left panel) = record { seat = panel; request = requests.Leave panel; answers = [] } ∷ []
 entries_by (Polled screen refresh answers) =
@@ -52,9 +52,9 @@ entries_by (Polled screen refresh answers) =
     }
     ∷ []
 
--- the history of deeds: their entries, one deed after the other
-abbrev pub history_of : List Deed → List PlantEntry
-history_of deeds = flat_map entries_by deeds
+-- the history of actions: their entries, one action after the other
+abbrev pub history_of : List Action → List PlantEntry
+history_of actions = flat_map entries_by actions
 
 -- whether a session asks for it: no session asks for a leave or for a display poll
 abbrev pub is_of_session : Request → Bool
@@ -64,29 +64,29 @@ is_of_session (requests.Leave panel) = false
 is_of_session (requests.DisplayPoll screen refresh) = false
 
 -- All entries of a turn are by the panel's seat, and are what a session asks for.
-abbrev pub IsSeated : Deed → Type 0
+abbrev pub IsSeated : Action → Type 0
 IsSeated (Turned panel piece entries sent) =
     All (λ entry. (entry.seat ≡ panel) × (is_of_session entry.request ≡ true)) entries
 IsSeated (Left panel) = Unit {0}
 IsSeated (Polled screen refresh answers) = Unit {0}
 
 -- the piece and the bytes of a turn, where it is of this panel
-abbrev pub piece_in : ℕ → Deed → List (List ℕ)
+abbrev pub piece_in : ℕ → Action → List (List ℕ)
 piece_in panel (Turned reader piece entries sent) = if panel == reader then piece ∷ [] else []
 piece_in panel (Left leaver) = []
 piece_in panel (Polled screen refresh answers) = []
 
-abbrev pub sent_in : ℕ → Deed → List ℕ
+abbrev pub sent_in : ℕ → Action → List ℕ
 sent_in panel (Turned reader piece entries sent) = if panel == reader then sent else []
 sent_in panel (Left leaver) = []
 sent_in panel (Polled screen refresh answers) = []
 
 -- the pieces that a panel's session read, and the bytes that it sent, in order
-abbrev pub pieces_of : ℕ → List Deed → List (List ℕ)
-pieces_of panel deeds = flat_map (piece_in panel) deeds
+abbrev pub pieces_of : ℕ → List Action → List (List ℕ)
+pieces_of panel actions = flat_map (piece_in panel) actions
 
-abbrev pub sent_of : ℕ → List Deed → List ℕ
-sent_of panel deeds = flat_map (sent_in panel) deeds
+abbrev pub sent_of : ℕ → List Action → List ℕ
+sent_of panel actions = flat_map (sent_in panel) actions
 
 -- the entries of a panel's session in a history: those of its seat that a session asks for
 abbrev pub session_in : ℕ → List PlantEntry → List PlantEntry
@@ -98,18 +98,20 @@ pub record IsSession (plant : PlantData) (panel : ℕ) (pieces : List (List ℕ)
   pub fits : turns.Fits panel pieces entries
   pub text : IsText plant (items (flat_map (λ piece. piece) pieces)) entries sent
 
--- In the history of these deeds the session of each panel is one: of the pieces that it read in them, with the bytes that
+-- In the history of these actions the session of each panel is one: of the pieces that it read in them, with the bytes that
 -- it sent.
-abbrev pub AreSessions : PlantData → List Deed → Type 0
-AreSessions plant deeds = (panel : ℕ)
-    → IsSession plant panel (pieces_of panel deeds) (session_in panel (history_of deeds))
-    (sent_of panel deeds)
+abbrev pub AreSessions : PlantData → List Action → Type 0
+AreSessions plant actions = (panel : ℕ)
+    → IsSession plant panel (pieces_of panel actions) (session_in panel (history_of actions))
+    (sent_of panel actions)
 
--- A script's lines that aren't skipped spell the works of these deeds, and the output shows each of them. Their history is
--- legal from the start of the plant, and behind each deed the session of each panel is one.
-pub record IsHistory (plant : PlantData) (script output : List ℕ) (deeds : List Deed) : Type 0 where
-  pub spelled : LinesSpell plant (worked (lines script)) (map work_of deeds)
-  pub shown : output ≡ flat_map (line_of plant) deeds
-  pub seated : All IsSeated deeds
-  pub legal : IsLegal step Fits (start plant) (history_of deeds)
-  pub each : (before after : List Deed) → deeds ≡ before ++ after → AreSessions plant before
+-- A script's lines that aren't skipped spell the works of these actions, and the output shows each of them. Their history is
+-- legal from the start of the plant, and behind each action the session of each panel is one.
+pub record IsHistory (plant : PlantData) (script output : List ℕ) (actions : List Action)
+    : Type 0 where
+  pub spelled : LinesSpell plant (worked (lines script)) (map work_of actions)
+  pub shown : output ≡ flat_map (line_of plant) actions
+  pub seated : All IsSeated actions
+  pub legal : IsLegal step Fits (start plant) (history_of actions)
+  pub each : (before after : List Action) → actions ≡ before ++ after
+      → AreSessions plant before

@@ -13,7 +13,7 @@ pub mod Replay
 pub mod OutputInside
 pub mod OutputLaws
 pub mod StandInside
-pub mod StageInside
+pub mod ReplayerInside
 pub mod Laws
 pub mod TiedReplay
 pub mod Answered

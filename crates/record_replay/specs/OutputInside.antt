@@ -44,9 +44,9 @@ abbrev pub HasNothing : {K : Type 0} → (K → Option (List ℕ)) → (K → �
 HasNothing written faults sink output = HasPut written faults (written sink) (faults sink) [] output
 
 -- Whatever text was put into an output, these bytes were put behind it.
-abbrev pub GoesOn : {K : Type 0} → (K → Option (List ℕ)) → (K → ℕ) → List ℕ
+abbrev pub WritesOn : {K : Type 0} → (K → Option (List ℕ)) → (K → ℕ) → List ℕ
     → Output K → Output K → Type 0
-GoesOn written faults more old new = (before : Option (List ℕ)) (count : ℕ) (text : List ℕ)
+WritesOn written faults more old new = (before : Option (List ℕ)) (count : ℕ) (text : List ℕ)
     → HasPut written faults before count text old
     → HasPut written faults before count (text ++ more) new
 
@@ -54,7 +54,7 @@ GoesOn written faults more old new = (before : Option (List ℕ)) (count : ℕ) 
 pub record Puts {K : Type 0} (written : K → Option (List ℕ)) (faults : K → ℕ) (more : List ℕ)
     (old new : Output K) : Type 0 where
   pub same_sink : new.out.ghost_name ≡ old.out.ghost_name
-  pub puts : GoesOn written faults more old new
+  pub puts : WritesOn written faults more old new
 
 -- All that was put into an output was given to its sink, which is so now.
 abbrev pub IsAllGiven : {K : Type 0} → (K → Option (List ℕ)) → (K → ℕ) → Output K

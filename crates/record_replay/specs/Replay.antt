@@ -12,7 +12,7 @@ use Rattle.plant_core.specs.State.{State, Fits, start}
 use Rattle.plant_core.specs.Step.{step}
 use Rattle.panel_session.specs.DisplayPacket.{packet_of}
 use Rattle.panel_session.specs.Run.{IsWorked, turned}
-use Rattle.panel_session.specs.SoFar.{Past, nothing_yet}
+use Rattle.panel_session.specs.SoFar.{Progress, nothing_yet}
 use Rattle.panel_session.specs.Turns.{Turn, entries_in}
 use Rattle.record_replay.specs.declared.replay.ReplayFault.{ReplayFault}
 use Rattle.record_replay.specs.declared.replay.ReplayFault.TheVariants.{NoMemory, BadLine, OutputFault}
@@ -46,52 +46,52 @@ show_line plant screen answers =
     ++ line_feed ∷ []
 
 -- Where a replay stands: the one plant's state, and what the session of each panel has done so far.
-pub record Stand : Type 0 where
+pub record ReplayState : Type 0 where
   pub state : State
-  pub pasts : ℕ → Past
+  pub pasts : ℕ → Progress
 
 -- at the start of a plant no session has done anything
-abbrev pub begun : PlantData → Stand
+abbrev pub begun : PlantData → ReplayState
 begun plant = record { state = start plant; pasts = λ panel. nothing_yet }
 
 -- one panel's session has done this, and all others what they had
-abbrev pub with_past : ℕ → Past → (ℕ → Past) → ℕ → Past
+abbrev pub with_past : ℕ → Progress → (ℕ → Progress) → ℕ → Progress
 with_past panel past pasts other = if other == panel then past else pasts other
 
 -- where it stands behind a turn of a panel's session, in which these bytes were sent
-abbrev pub behind_turn : ℕ → Turn → List ℕ → Stand → Stand
+abbrev pub behind_turn : ℕ → Turn → List ℕ → ReplayState → ReplayState
 behind_turn panel turn more stand = record {
   state = run step stand.state (entries_in turn);
   pasts = with_past panel (turned turn more (stand.pasts panel)) stand.pasts;
 }
 
 -- where it stands behind one step of the plant that no session asks for
-abbrev pub behind_step : Request → Stand → Stand
+abbrev pub behind_step : Request → ReplayState → ReplayState
 behind_step request stand = record stand { state = (step stand.state request).state }
 
 -- A piece of work leads from one stand to the next, with this output line. A turn is worked by the plant, and the line has
 -- the bytes that the panel's session sends in it. A leave is one step of the plant, and so is a display poll, whose line has
 -- what it is answered.
-abbrev pub Works : PlantData → Work → Stand → List ℕ → Stand → Type 0
-Works plant (Read panel piece) stand line next =
+abbrev pub Advances : PlantData → Work → ReplayState → List ℕ → ReplayState → Type 0
+Advances plant (Read panel piece) stand line next =
     (turn : Turn) × (more : List ℕ)
     × (turn.piece ≡ piece)
     × IsWorked step Fits plant panel (stand.pasts panel) stand.state turn more
     × (line ≡ turn_line panel more)
     × (next ≡ behind_turn panel turn more stand)
-Works plant (Leave panel) stand line next =
+Advances plant (Leave panel) stand line next =
     (line ≡ leave_line panel)
     × (next ≡ behind_step (requests.Leave panel) stand)
-Works plant (Show screen refresh) stand line next =
+Advances plant (Show screen refresh) stand line next =
     (line ≡ show_line plant screen (step stand.state (requests.DisplayPoll screen refresh)).answers)
     × (next ≡ behind_step (requests.DisplayPoll screen refresh) stand)
 
 -- Works that are done one after the other lead from one stand to another, with these output lines.
-abbrev pub AllWork : PlantData → List Work → Stand → List ℕ → Stand → Type 0
+abbrev pub AllWork : PlantData → List Work → ReplayState → List ℕ → ReplayState → Type 0
 AllWork plant [] stand output last = (output ≡ []) × (last ≡ stand)
 AllWork plant (work ∷ works) stand output last =
-    (next : Stand) × (line rest : List ℕ)
-    × Works plant work stand line next
+    (next : ReplayState) × (line rest : List ℕ)
+    × Advances plant work stand line next
     × AllWork plant works next rest last
     × (output ≡ line ++ rest)
 
@@ -100,7 +100,7 @@ AllWork plant (work ∷ works) stand output last =
 pub record IsReplay (plant : PlantData) (script output : List ℕ) : Type 0 where
   pub works : List Work
   pub spelled : LinesSpell plant (worked (lines script)) works
-  pub last : Stand
+  pub last : ReplayState
   pub all_work : AllWork plant works (begun plant) output last
 
 -- whether a replay ended for a fault of the output

@@ -11,7 +11,7 @@ use Rattle.plant_config.specs.IsPlant.{IsPlant}
 use Rattle.panel_session.specs.Entry.{PlantEntry}
 use Rattle.record_replay.specs.Script.{IsFirstBad}
 use Rattle.record_replay.specs.Replay.{IsReplay}
-use Rattle.record_replay.specs.Laws.{Deed, Turned, IsHistory}
+use Rattle.record_replay.specs.Laws.{Action, Turned, IsHistory}
 use Rattle.record_replay.specs.Answered.{AnswersItsPiece}
 use Rattle.record_replay.specs.TiedReplay.{NoTieCarriesTwoSources}
 
@@ -53,25 +53,25 @@ BadsDoNotReplay = (plant : PlantData) (script output : List ℕ) (number : ℕ)
 -- a replay has a history
 abbrev pub ReplaysHaveHistory : Type 0
 ReplaysHaveHistory = (plant : PlantData) (script output : List ℕ)
-    → IsReplay plant script output → (deeds : List Deed) × IsHistory plant script output deeds
+    → IsReplay plant script output → (actions : List Action) × IsHistory plant script output actions
 
 -- a script has one history, whatever is shown
 abbrev pub HistoriesAreOne : Type 0
-HistoriesAreOne = (plant : PlantData) (script a b : List ℕ) (deeds others : List Deed)
-    → IsHistory plant script a deeds → IsHistory plant script b others → deeds ≡ others
+HistoriesAreOne = (plant : PlantData) (script a b : List ℕ) (actions others : List Action)
+    → IsHistory plant script a actions → IsHistory plant script b others → actions ≡ others
 
 -- what a history shows is the replay text
 abbrev pub HistoriesShowReplays : Type 0
-HistoriesShowReplays = (plant : PlantData) (script output : List ℕ) (deeds : List Deed)
-    → IsHistory plant script output deeds → IsReplay plant script output
+HistoriesShowReplays = (plant : PlantData) (script output : List ℕ) (actions : List Action)
+    → IsHistory plant script output actions → IsReplay plant script output
 
 -- In a history, what is sent in a turn of a panel's session answers the items that end in its piece, behind those that the
 -- panel sent before.
 abbrev pub TurnsAnswerItems : Type 0
-TurnsAnswerItems = (plant : PlantData) (script output : List ℕ) (deeds before after : List Deed)
+TurnsAnswerItems = (plant : PlantData) (script output : List ℕ) (actions before after : List Action)
     (panel : ℕ) (piece sent : List ℕ) (entries : List PlantEntry)
-    → IsHistory plant script output deeds
-    → deeds ≡ before ++ Turned panel piece entries sent ∷ after
+    → IsHistory plant script output actions
+    → actions ≡ before ++ Turned panel piece entries sent ∷ after
     → AnswersItsPiece before (Turned panel piece entries sent)
 
 -- On a plant no tie carries two sources, at each place of the history behind a replay's text.

@@ -8,7 +8,7 @@ use Rattle.plant_core.specs.State.{start}
 use Rattle.plant_core.specs.Step.{step}
 use Rattle.panel_session.specs.Entry.{PlantEntry}
 use Rattle.record_replay.specs.Replay.{IsReplay}
-use Rattle.record_replay.specs.Laws.{Deed, history_of, IsHistory}
+use Rattle.record_replay.specs.Laws.{Action, history_of, IsHistory}
 
 -- Behind each front of a history, begun at the start of the plant, the ties of the crosspoints are valid: no tie carries two
 -- sources.
@@ -18,8 +18,8 @@ KeepsTiesValid plant history = (front later : List PlantEntry) → history ≡ f
 
 -- At each place of the history behind a replay's text no tie carries two sources.
 abbrev pub NoTieCarriesTwoSources : PlantData → (script output : List ℕ) → Type 0
-NoTieCarriesTwoSources plant script output = (deeds : List Deed)
-    → IsHistory plant script output deeds → KeepsTiesValid plant (history_of deeds)
+NoTieCarriesTwoSources plant script output = (actions : List Action)
+    → IsHistory plant script output actions → KeepsTiesValid plant (history_of actions)
 
 -- The script has this replay text on this plant, and no tie carries two sources at any place of the history behind it.
 pub record IsTiedReplay (plant : PlantData) (script output : List ℕ) : Type 0 where

@@ -13,10 +13,10 @@ mod number;
 mod output;
 mod pairs;
 mod replay;
+mod replayer;
 mod room;
 mod script;
 mod show;
-mod stage;
 mod take;
 
 pub use laws::{lines_answer_items, no_tie_carries_two_sources, one_history, one_item, one_replay};

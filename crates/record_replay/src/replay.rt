@@ -11,8 +11,8 @@ ghost use Rattle.record_replay.specs.TiedReplay.{HasReplayed, HasReplayedFront};
 use crate::check::check_lines;
 use crate::digits::Digits;
 use crate::output::Output;
+use crate::replayer::Replayer;
 use crate::room::Room;
-use crate::stage::Stage;
 use ctl_io::Sink;
 use plant_config::Plant;
 use plant_names::Names;
@@ -88,10 +88,10 @@ fn replay_lines<K: Sink>(
         → K.written out.new ≡ K.written out.old }
     ensures count { K.faults out.new ≡ count_after (output_failed result) (K.faults out.old) }
 {
-    let mut stage = Stage::start(alloc, plant, names)?;
+    let mut replayer = Replayer::start(alloc, plant, names)?;
     let mut room = Room::new(alloc)?;
     let mut output = Output::new(&mut room, out);
-    stage.work(script, names, digits, &mut output);
+    replayer.work(script, names, digits, &mut output);
     if output.finish() {
         Ok(())
     } else {

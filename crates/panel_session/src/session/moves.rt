@@ -9,7 +9,7 @@ ghost use Rattle.panel_session.specs.TakenInside.{IsSending, IsAnswer, IsNoAnswe
 
 use super::Session;
 use crate::asked::Asked;
-use crate::stage::Stage;
+use crate::phase::Phase;
 
 impl Session<'_> {
     // Does what an item asks, and answers whether something is to be sent.
@@ -22,7 +22,7 @@ impl Session<'_> {
             self.old.sender.output self.new.sender.output }
         ensures none { result ≡ false
             → IsNoAnswer self.old.sender.names asked self.old.sender.output }
-        ensures quiet { result ≡ false → self.new.stage ≡ self.old.stage }
+        ensures quiet { result ≡ false → self.new.phase ≡ self.old.phase }
     {
         self.items = self.items.wrapping_add(1);
         match asked {
@@ -44,7 +44,7 @@ impl Session<'_> {
             }
             Asked::Sent(message) => {
                 self.acknowledge();
-                self.stage = Stage::Tell(message);
+                self.phase = Phase::Tell(message);
                 true
             }
         }
@@ -74,7 +74,7 @@ impl Session<'_> {
     pub(super) fn end_turn(&mut self)
         ensures { self.new ≡ ended_turn self.old }
     {
-        self.stage = Stage::Read;
+        self.phase = Phase::Read;
         self.polls = 0;
         self.counts.turns = self.counts.turns.wrapping_add(1);
     }

@@ -6,12 +6,12 @@ ghost use Rattle.plant_core.specs.declared.request.Request.{Request};
 ghost use Rattle.panel_session.specs.MovesInside.{answered_too};
 ghost use Rattle.panel_session.specs.Run.{IsReady, RunsOn};
 ghost use Rattle.panel_session.specs.WorkInside.{unsent_bytes, IsOnItsWay, WorksOn, GoesOn, Ends};
-ghost use Rattle.panel_session.specs.declared.stage.Stage.TheVariants.{Read};
+ghost use Rattle.panel_session.specs.declared.phase.Phase.TheVariants.{Read};
 
 use super::Session;
 use crate::asked::{Asked, next_asked};
 use crate::outlet::Outlet;
-use crate::stage::{Stage, stage_behind};
+use crate::phase::{Phase, phase_behind};
 use history_lock::Machine;
 use plant_core::{Answer, Request};
 
@@ -50,11 +50,11 @@ impl Session<'_> {
         M: Machine<Request = Request, Answer = Answer>,
         O: Outlet,
         requires way { IsOnItsWay M.step M.Fits M.room self.old machine.old piece.now }
-        requires reads { self.old.stage ≡ Read }
+        requires reads { self.old.phase ≡ Read }
         requires none { self.old.unsent ≡ false }
         ensures goes_on { GoesOn M.step M.Fits M.room O.Given piece.now []
             self.old self.new machine.old machine.new out.old out.new }
-        ensures reads { self.new.stage ≡ Read }
+        ensures reads { self.new.phase ≡ Read }
         ensures none { self.new.unsent ≡ false }
         ensures fits { (request : Request)
             → M.Fits machine.old request → M.Fits machine.new request }
@@ -76,13 +76,13 @@ impl Session<'_> {
     where
         M: Machine<Request = Request, Answer = Answer>,
         requires way { IsOnItsWay M.step M.Fits M.room self.old machine.old piece.now }
-        requires reads { self.old.stage ≡ Read }
+        requires reads { self.old.phase ≡ Read }
         requires none { self.old.unsent ≡ false }
         ensures within { result.0 ≤ length piece.now }
         ensures progress { 0 < length piece.now → 0 < result.0 }
         ensures works { WorksOn M.step M.Fits M.room piece.now result.0 result.1
             self.old self.new machine.old machine.new }
-        ensures reads { self.new.stage ≡ Read }
+        ensures reads { self.new.phase ≡ Read }
         ensures none { self.new.unsent ≡ false }
         ensures fits { (request : Request)
             → M.Fits machine.old request → M.Fits machine.new request }
@@ -110,7 +110,7 @@ impl Session<'_> {
         M: Machine<Request = Request, Answer = Answer>,
         O: Outlet,
         requires way { IsOnItsWay M.step M.Fits M.room self.old machine.old [] }
-        requires reads { self.old.stage ≡ Read }
+        requires reads { self.old.phase ≡ Read }
         requires none { self.old.unsent ≡ false }
         ensures { Ends M.step M.Fits M.room O.Given
             self.old self.new machine.old machine.new out.old out.new }
@@ -120,11 +120,11 @@ impl Session<'_> {
             polls += 1;
             let request = self.polling();
             machine.step(&request, &mut self.outbox);
-            let stage = stage_behind(self.outbox.items(), polls);
+            let phase = phase_behind(self.outbox.items(), polls);
             self.sender.clear();
             self.answer_too();
             self.give_some(out);
-            if let Stage::End = stage {
+            if let Phase::End = phase {
                 self.end_turn();
                 return;
             }

@@ -1,5 +1,5 @@
-use Rattle.record_replay.proofs.DeedsLemmas.{history_exists}
-use Rattle.record_replay.proofs.DeedsOnce.{one_history, history-replay}
+use Rattle.record_replay.proofs.ActionsLemmas.{history_exists}
+use Rattle.record_replay.proofs.ActionsOnce.{one_history, history-replay}
 use Rattle.record_replay.proofs.laws.one_history.Goals as goal
 
 pub returns-clause-some : goal.returns-clause-some

@@ -12,8 +12,8 @@ returns-in-Tell-clause-answered c = λ request plant panel seat past awaits few.
 
 pub returns-in-Poll-clause-answered : goal.returns-in-Poll-clause-answered
 returns-in-Poll-clause-answered c = λ request plant panel seat past awaits few.
-    let Polled : List Answer → Type 0 = λ answers. HasPolled answers ((c.args.self.now.polls + 1) % 2 ^ 32) c.stage_behind-self.result in
-    answered_poll plant panel seat c.args.self.now c.take_answers-in-Poll.new.self past request c.stage_behind-self.result _ awaits few c.in-Poll.is refl (subst Polled c.items.ensures c.stage_behind-self.ensures) c.take_answers-in-Poll.ensures.took c.take_answers-in-Poll.ensures.some c.take_answers-in-Poll.ensures.none
+    let Polled : List Answer → Type 0 = λ answers. HasPolled answers ((c.args.self.now.polls + 1) % 2 ^ 32) c.phase_behind-self.result in
+    answered_poll plant panel seat c.args.self.now c.take_answers-in-Poll.new.self past request c.phase_behind-self.result _ awaits few c.in-Poll.is refl (subst Polled c.items.ensures c.phase_behind-self.ensures) c.take_answers-in-Poll.ensures.took c.take_answers-in-Poll.ensures.some c.take_answers-in-Poll.ensures.none
 
 pub returns-in-Read-clause-answered : goal.returns-in-Read-clause-answered
 returns-in-Read-clause-answered c = λ request plant panel seat past awaits few. absurd (nothing_asked plant panel c.args.self.now past request awaits c.in-Read.is)
@@ -23,8 +23,8 @@ returns-in-Tell-clause-ends c = λ request plant panel past awaits. left_told c.
 
 pub returns-in-Poll-clause-ends : goal.returns-in-Poll-clause-ends
 returns-in-Poll-clause-ends c = λ request plant panel past awaits.
-    let Polled : List Answer → Type 0 = λ answers. HasPolled answers ((c.args.self.now.polls + 1) % 2 ^ 32) c.stage_behind-self.result in
-    left_poll plant panel c.args.self.now c.take_answers-in-Poll.new.self past request c.stage_behind-self.result _ (fitting c.args.self.now.sender.names c.args.self.now.outbox.items) awaits c.in-Poll.is refl (subst Polled c.items.ensures c.stage_behind-self.ensures) c.take_answers-in-Poll.ensures.took
+    let Polled : List Answer → Type 0 = λ answers. HasPolled answers ((c.args.self.now.polls + 1) % 2 ^ 32) c.phase_behind-self.result in
+    left_poll plant panel c.args.self.now c.take_answers-in-Poll.new.self past request c.phase_behind-self.result _ (fitting c.args.self.now.sender.names c.args.self.now.outbox.items) awaits c.in-Poll.is refl (subst Polled c.items.ensures c.phase_behind-self.ensures) c.take_answers-in-Poll.ensures.took
 
 pub returns-in-Read-clause-ends : goal.returns-in-Read-clause-ends
 returns-in-Read-clause-ends c = λ request plant panel past awaits. absurd (nothing_asked plant panel c.args.self.now past request awaits c.in-Read.is)

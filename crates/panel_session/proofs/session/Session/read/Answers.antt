@@ -2,12 +2,12 @@ use Rattle.std.proofs.Common.{ℕ, ◌+◌, ◌^◌, ◌<◌, List, length, take
 use Rattle.std.proofs.lemmas.List.{take_rest, length-drop}
 use Rattle.dle_framing.specs.Items.{items}
 use Rattle.panel_session.specs.declared.session.Session.{Session}
-use Rattle.panel_session.specs.declared.stage.Stage.{Stage}
-use Rattle.panel_session.specs.declared.stage.Stage.TheVariants.{Poll as PollStage}
-use Rattle.panel_session.specs.CallsLeft.{stage_left, unsent_left}
+use Rattle.panel_session.specs.declared.phase.Phase.{Phase}
+use Rattle.panel_session.specs.declared.phase.Phase.TheVariants.{Poll as PollStage}
+use Rattle.panel_session.specs.CallsLeft.{phase_left, unsent_left}
 use Rattle.panel_session.proofs.LeftLemmas.{left-by}
 use Rattle.panel_session.specs.ReadingInside.{HasRead}
-use Rattle.panel_session.specs.SoFar.{Past, with_bytes}
+use Rattle.panel_session.specs.SoFar.{Progress, with_bytes}
 use Rattle.panel_session.proofs.SessionLemmas.{sends, reads_on, asks_first_poll}
 use Rattle.panel_session.proofs.ActsLemmas.{bytes_on, read_rest}
 use Rattle.panel_session.proofs.session.Session.read.Goals as goal
@@ -20,7 +20,7 @@ returns-then-send-clause-acts c = λ plant panel past reading may.
     let after = c.read_once-more.new.self in
     let now = c.loop-used.invariant.reading plant panel past reading may.items in
     let Small : List ℕ → Type 0 = λ text. length (items text) < 2 ^ 62 in
-    let P : Past → Type 0 = λ now. HasRead plant panel now c.read_once-more.result.1 after in
+    let P : Progress → Type 0 = λ now. HasRead plant panel now c.read_once-more.result.1 after in
     sends plant panel after (with_bytes (take (used + more) piece) past) piece (used + more) c.read_once-more.result.1 c.if-send.true
     (subst P (bytes_on past piece _ used more (take_rest piece used))
     (c.read_once-more.ensures.reads plant panel (with_bytes (take used piece) past) now (subst Small (sym (read_rest past piece _ used (take_rest piece used))) may.items)))
@@ -35,7 +35,7 @@ loop-used-preserved c = record {
       let after = c.read_once-more.new.self in
       let now = c.loop-used.invariant.reading plant panel past reading small in
       let Small : List ℕ → Type 0 = λ text. length (items text) < 2 ^ 62 in
-      let P : Past → Type 0 = λ now. HasRead plant panel now c.read_once-more.result.1 after in
+      let P : Progress → Type 0 = λ now. HasRead plant panel now c.read_once-more.result.1 after in
       reads_on plant panel after (with_bytes (take (used + more) piece) past) c.read_once-more.result.1 c.if-send.false
       (subst P (bytes_on past piece _ used more (take_rest piece used))
       (c.read_once-more.ensures.reads plant panel (with_bytes (take used piece) past) now (subst Small (sym (read_rest past piece _ used (take_rest piece used))) small)));
@@ -52,7 +52,7 @@ returns-then-send-clause-ends c = λ read.
       arith,
       left-by c.args.self.now,
       left-by c.read_once-more.new.self,
-      ap (λ (stage : Stage). stage_left stage c.args.self.now.polls) read,
+      ap (λ (phase : Phase). phase_left phase c.args.self.now.polls) read,
       ap unsent_left (c.read_once-more.ensures.unsent ∙ quiet.1),
       c.read_once-more.ensures.left quiet.0,
       c.read_once-more.ensures.progress,
@@ -65,8 +65,8 @@ returns-then-send-clause-ends c = λ read.
 pub returns-clause-ends : goal.returns-clause-ends
 returns-clause-ends c = λ read.
     let quiet = c.loop-used.invariant.quiet read in
-    let after : Session = record c.loop-used.self { stage = PollStage } in
-    omega (arith, left-by c.args.self.now, left-by after, ap (λ (stage : Stage). stage_left stage c.args.self.now.polls) read, ap unsent_left quiet.1)
+    let after : Session = record c.loop-used.self { phase = PollStage } in
+    omega (arith, left-by c.args.self.now, left-by after, ap (λ (phase : Phase). phase_left phase c.args.self.now.polls) read, ap unsent_left quiet.1)
 
 pub returns-clause-acts : goal.returns-clause-acts
 returns-clause-acts c = λ plant panel past reading may.

@@ -18,4 +18,4 @@ returns-in-None-clause-reads c =
     (λ text stands. (let Found : Option Asked → Type 0 = λ asked. FoundAsks text c.args.piece.now c.next_asked-used.result.0 asked in subst Found c.in-None.is (c.next_asked-used.ensures.finds text stands)))
 
 pub returns-in-Some-clause-left : goal.returns-in-Some-clause-left
-returns-in-Some-clause-left c = λ read. taken-most c.args.self.now c.take.new.self c.in-Some.asked read (ap (λ (session : Session). session.stage) c.take.ensures.session)
+returns-in-Some-clause-left c = λ read. taken-most c.args.self.now c.take.new.self c.in-Some.asked read (ap (λ (session : Session). session.phase) c.take.ensures.session)

@@ -7,12 +7,12 @@ use Rattle.panel_session.specs.AskedInside.{FoundAsks}
 use Rattle.panel_session.specs.declared.asked.Asked.{Asked}
 use Rattle.panel_session.specs.declared.asked.Asked.TheVariants.{Sent}
 use Rattle.panel_session.specs.declared.session.Session.{Session}
-use Rattle.panel_session.specs.declared.stage.Stage.{Stage}
-use Rattle.panel_session.specs.declared.stage.Stage.TheVariants.{Read}
+use Rattle.panel_session.specs.declared.phase.Phase.{Phase}
+use Rattle.panel_session.specs.declared.phase.Phase.TheVariants.{Read}
 use Rattle.panel_session.specs.MovesInside.{answered_too}
 use Rattle.panel_session.specs.Session.{outgoing_of, with_outbox}
 use Rattle.panel_session.specs.WorkInside.{HasCome}
-use Rattle.panel_session.proofs.ReadLemmas.{has_passed, has_taken, has_told, stage_stays, told_by}
+use Rattle.panel_session.proofs.ReadLemmas.{has_passed, has_taken, has_told, phase_stays, told_by}
 use Rattle.panel_session.proofs.RunLemmas.{sayable_now}
 use Rattle.panel_session.proofs.SentLemmas.{taken_too}
 use Rattle.panel_session.proofs.WorkLemmas.{asks_item, way_item, way_told}
@@ -111,11 +111,11 @@ returns-clause-works g c =
       on.may.serves.within,
     ) in
     let done = way_told on.more request message asked.1 refl c.requires.none asked.2 (on.fits request (on.may.serves.takes request asked.2.2)) c.step.ensures.state few in
-    let same : c.answer_too.new.self ≡ answered_too answers (record told { stage = Read }) =
+    let same : c.answer_too.new.self ≡ answered_too answers (record told { phase = Read }) =
     c.answer_too.ensures
     ∙ ap (λ (session : Session). answered_too session.outbox.items session) c.acknowledge.ensures
-    ∙ ap (λ (stage : Stage). answered_too c.step.new.out.items (with_outbox (record told { stage = stage }) c.step.new.out)) c.requires.reads
-    ∙ taken_too (record told { stage = Read }) c.step.new.out answers c.step.ensures.answers c.step.ensures.places in
+    ∙ ap (λ (phase : Phase). answered_too c.step.new.out.items (with_outbox (record told { phase = phase }) c.step.new.out)) c.requires.reads
+    ∙ taken_too (record told { phase = Read }) c.step.new.out answers c.step.ensures.answers c.step.ensures.places in
     let Of : Session → Type 0 = λ session. HasCome on session c.step.new.self (drop used c.args.piece.now) done.0 (outgoing_of session) in
     (done.0, subst Of (sym same) done.1)
 
@@ -136,7 +136,7 @@ returns-in_default-asked-clause-works g c = λ on.
 
 pub returns-in_default-asked-clause-reads : goal.returns-in_default-asked-clause-reads
 returns-in_default-asked-clause-reads g c =
-    ap (λ (session : Session). session.stage) c.take.ensures.session ∙ stage_stays c.in-Some.asked c.args.self.now.stage c.in_default-asked.not-Sent ∙ c.requires.reads
+    ap (λ (session : Session). session.phase) c.take.ensures.session ∙ phase_stays c.in-Some.asked c.args.self.now.phase c.in_default-asked.not-Sent ∙ c.requires.reads
 
 pub returns-in_default-asked-clause-none : goal.returns-in_default-asked-clause-none
 returns-in_default-asked-clause-none g c = ap (λ (session : Session). session.unsent) c.take.ensures.session ∙ c.requires.none

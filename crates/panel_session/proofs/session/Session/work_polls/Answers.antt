@@ -31,15 +31,15 @@ returns-in-End g c = λ on.
     let asking = c.loop-self.self in
     let polls = c.loop-self.polls in
     let request = c.polling-request.result in
-    let stage = c.stage_behind-stage.result in
+    let phase = c.phase_behind-phase.result in
     let after = c.answer_too.new.self in
     let answers = (g.M.Machine.step c.loop-self.machine request).answers in
     let come = c.loop-self.invariant.way on in
     let Takes : Request → Type 0 = λ request. g.M.Machine.Fits c.loop-self.machine request in
     let poll = Poll asking.panel asking.items asking.counts.turns in
     let fits : Takes request = subst Takes (sym c.polling-request.ensures) (c.loop-self.invariant.fits poll (on.fits poll (on.may.serves.takes poll come.5.2))) in
-    let Polled : List Answer → Type 0 = λ answers. HasPolled answers (polls + 1) stage in
-    let polled : Polled answers = subst Polled (c.items.ensures ∙ c.step.ensures.answers) c.stage_behind-stage.ensures in
+    let Polled : List Answer → Type 0 = λ answers. HasPolled answers (polls + 1) phase in
+    let polled : Polled answers = subst Polled (c.items.ensures ∙ c.step.ensures.answers) c.phase_behind-phase.ensures in
     let same : after ≡ answered_too answers (silenced asking) =
     c.answer_too.ensures
     ∙ ap (λ (sender : SenderData). answered_too c.step.new.out.items (record asking { outbox = c.step.new.out; sender = sender })) c.clear.ensures
@@ -53,7 +53,7 @@ returns-in-End g c = λ on.
       on.may.serves.within,
     ) in
     let bytes = outgoing_of after in
-    let run = polls_end asking after polls stage request on.may come.4 c.polling-request.ensures come.5 c.loop-self.invariant.none c.loop-self.invariant.below fits c.step.ensures.state few polled same c.in-End.is in
+    let run = polls_end asking after polls phase request on.may come.4 c.polling-request.ensures come.5 c.loop-self.invariant.none c.loop-self.invariant.below fits c.step.ensures.state few polled same c.in-End.is in
     let Run : Session → List ℕ → Type 0 = λ session more. HasRun g.M.Machine.step g.M.Machine.Fits on.plant on.panel on.past on.piece on.first c.step.new.self session more in
     let Sent : List ℕ → Type 0 = λ more. Run (ended_turn after) more in
     let At : Session → Type 0 = λ session. Run session (on.more ++ (come.1 ++ bytes)) in (
@@ -67,18 +67,18 @@ loop-self-preserved g c =
     let asking = c.loop-self.self in
     let polls = c.loop-self.polls in
     let request = c.polling-request.result in
-    let stage = c.stage_behind-stage.result in
+    let phase = c.phase_behind-phase.result in
     let after = c.answer_too.new.self in
     let answers = (g.M.Machine.step c.loop-self.machine request).answers in
     let Takes : Request → Type 0 = λ request. g.M.Machine.Fits c.loop-self.machine request in
     let poll = Poll asking.panel asking.items asking.counts.turns in
-    let Polled : List Answer → Type 0 = λ answers. HasPolled answers (polls + 1) stage in
-    let polled : Polled answers = subst Polled (c.items.ensures ∙ c.step.ensures.answers) c.stage_behind-stage.ensures in
+    let Polled : List Answer → Type 0 = λ answers. HasPolled answers (polls + 1) phase in
+    let polled : Polled answers = subst Polled (c.items.ensures ∙ c.step.ensures.answers) c.phase_behind-phase.ensures in
     let same : after ≡ answered_too answers (silenced asking) =
     c.answer_too.ensures
     ∙ ap (λ (sender : SenderData). answered_too c.step.new.out.items (record asking { outbox = c.step.new.out; sender = sender })) c.clear.ensures
     ∙ taken_too (silenced asking) c.step.new.out answers c.step.ensures.answers c.step.ensures.places in
-    let goes_on = polls_again answers (polls + 1) stage polled c.in_default.not-End in
+    let goes_on = polls_again answers (polls + 1) phase polled c.in_default.not-End in
     record {
       way = λ on.
           let come = c.loop-self.invariant.way on in
@@ -92,7 +92,7 @@ loop-self-preserved g c =
             on.may.serves.within,
           ) in
           let bytes = outgoing_of after in
-          let done = polls_on asking after polls stage request on.may come.4 c.polling-request.ensures come.5 c.loop-self.invariant.none c.loop-self.invariant.below fits c.step.ensures.state few polled same goes_on.0 in (
+          let done = polls_on asking after polls phase request on.may come.4 c.polling-request.ensures come.5 c.loop-self.invariant.none c.loop-self.invariant.below fits c.step.ensures.state few polled same goes_on.0 in (
             done.0,
             come.1 ++ bytes,
             polling_at (polls + 1) after,

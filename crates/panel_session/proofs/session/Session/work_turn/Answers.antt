@@ -8,7 +8,7 @@ pub work_items-requires-clause-way : goal.work_items-requires-clause-way
 work_items-requires-clause-way g c = on_its_way c.give_unsent.new.self c.requires.may c.give_unsent.ensures.session
 
 pub work_items-requires-clause-reads : goal.work_items-requires-clause-reads
-work_items-requires-clause-reads g c = ap (λ (session : Session). session.stage) c.give_unsent.ensures.session ∙ begins_reading c.requires.may
+work_items-requires-clause-reads g c = ap (λ (session : Session). session.phase) c.give_unsent.ensures.session ∙ begins_reading c.requires.may
 
 pub work_polls-requires-clause-way : goal.work_polls-requires-clause-way
 work_polls-requires-clause-way g c =

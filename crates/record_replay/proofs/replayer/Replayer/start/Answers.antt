@@ -2,7 +2,7 @@ use Rattle.std.proofs.Common.{refl, arith}
 use Rattle.plant_core.proofs.Validity.{IsValid-start}
 use Rattle.record_replay.proofs.SmallLemmas.{small_nothing}
 use Rattle.record_replay.proofs.WorksLemmas.{settled-begun}
-use Rattle.record_replay.proofs.stage.Stage.start.Goals as goal
+use Rattle.record_replay.proofs.replayer.Replayer.start.Goals as goal
 
 pub returns : goal.returns
 returns c = record {

@@ -2,8 +2,8 @@ use Rattle.std.proofs.Common.{refl}
 use Rattle.plant_core.specs.declared.request.Request.TheVariants as requests
 use Rattle.record_replay.specs.Script.{Leave}
 use Rattle.record_replay.specs.Replay.{leave_line}
-use Rattle.record_replay.proofs.StageLemmas.{step_done}
-use Rattle.record_replay.proofs.stage.Stage.leave.Goals as goal
+use Rattle.record_replay.proofs.ReplayerLemmas.{step_done}
+use Rattle.record_replay.proofs.replayer.Replayer.leave.Goals as goal
 
 pub returns : goal.returns
 returns g c = λ stand used stands within. (

@@ -10,7 +10,7 @@ const MOST_POLLS: u32 = 32;
 
 // What a session does next, once nothing is to be sent.
 #[derive(Clone, Copy)]
-pub(crate) enum Stage {
+pub(crate) enum Phase {
     // It reads the piece.
     Read,
     // The last item sends the plant this message.
@@ -22,12 +22,12 @@ pub(crate) enum Stage {
 }
 
 // What comes behind the poll of this number that was answered so.
-pub(crate) fn stage_behind(answers: &[Answer], polls: u32) -> Stage
+pub(crate) fn phase_behind(answers: &[Answer], polls: u32) -> Phase
     ensures { HasPolled answers.now polls result }
 {
     if answers.is_empty() || polls == MOST_POLLS {
-        Stage::End
+        Phase::End
     } else {
-        Stage::Poll
+        Phase::Poll
     }
 }

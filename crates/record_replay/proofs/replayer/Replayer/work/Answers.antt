@@ -4,9 +4,9 @@ use Rattle.plant_config.specs.Plant.{PlantData}
 use Rattle.record_replay.specs.OutputInside.{Puts}
 use Rattle.record_replay.specs.OutputLaws.{Puts-none}
 use Rattle.record_replay.specs.Script.{Work, lines, worked, LinesSpell}
-use Rattle.record_replay.specs.StageInside.{MayDo, DoesLine}
+use Rattle.record_replay.specs.ReplayerInside.{MayDo, DoesLine}
 use Rattle.record_replay.proofs.WorkScriptLemmas.{begins, rest_may, goes_on, script_done}
-use Rattle.record_replay.proofs.stage.Stage.work.Goals as goal
+use Rattle.record_replay.proofs.replayer.Replayer.work.Goals as goal
 
 pub loop-out-init : goal.loop-out-init
 loop-out-init g c = begins c.args.self.now.plant.now c.args.script.now c.args.self.now _ (Puts-none g.K.Drain.written g.K.Drain.faults c.args.out.now)

@@ -1,7 +1,7 @@
 use Rattle.std.proofs.Common.{length, arith}
 use Rattle.record_replay.proofs.WorkLineLemmas.{may_less, first_may, first_done}
 use Rattle.record_replay.proofs.WorkScriptLemmas.{first_spelled}
-use Rattle.record_replay.proofs.stage.Stage.work_first.Goals as goal
+use Rattle.record_replay.proofs.replayer.Replayer.work_first.Goals as goal
 
 pub turn-requires-clause-panel : goal.turn-requires-clause-panel
 turn-requires-clause-panel g c = c.in-Some.ensures.2.1.of_plant

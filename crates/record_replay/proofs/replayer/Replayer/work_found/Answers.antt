@@ -4,7 +4,7 @@ use Rattle.record_replay.specs.LineInside.{IsFound}
 use Rattle.record_replay.specs.OutputLaws.{Puts-none}
 use Rattle.record_replay.proofs.NeedLemmas.{need_within}
 use Rattle.record_replay.proofs.WorkLineLemmas.{may_less, does_line, does_nothing}
-use Rattle.record_replay.proofs.stage.Stage.work_found.Goals as goal
+use Rattle.record_replay.proofs.replayer.Replayer.work_found.Goals as goal
 
 pub returns-in-Skipped : goal.returns-in-Skipped
 returns-in-Skipped g c = λ line is.

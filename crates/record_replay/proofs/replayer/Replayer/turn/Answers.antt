@@ -2,8 +2,8 @@ use Rattle.std.proofs.Common.{◌≡◌, ℕ, refl, ap, subst}
 use Rattle.std.specs.Prelude.{slice_index_or, slice_set}
 use Rattle.record_replay.specs.Replay.{turn_line}
 use Rattle.record_replay.proofs.TurnLemmas.{Puts-turn}
-use Rattle.record_replay.proofs.StageLemmas.{ready, may_turn, turn_done}
-use Rattle.record_replay.proofs.stage.Stage.turn.Goals as goal
+use Rattle.record_replay.proofs.ReplayerLemmas.{ready, may_turn, turn_done}
+use Rattle.record_replay.proofs.replayer.Replayer.turn.Goals as goal
 
 pub work_turn-requires : goal.work_turn-requires
 work_turn-requires g c =

@@ -3,7 +3,7 @@ use Rattle.std.specs.Prelude.{slice_index_or, vec_capacity}
 use Rattle.panel_session.specs.declared.session.Session.{Session}
 use Rattle.panel_session.specs.Session.{StandsFor}
 use Rattle.panel_session.specs.SoFar.{nothing_yet}
-use Rattle.record_replay.proofs.stage.start_sessions.Given as goal
+use Rattle.record_replay.proofs.replayer.start_sessions.Given as goal
 
 -- The sessions of the panels below this one are new, and there is room for all.
 abbrev pub invariant-loop-panel : goal.invariant-loop-panel

@@ -6,15 +6,15 @@ use Rattle.plant_core.specs.Answer.{room_of}
 use Rattle.plant_core.specs.State.{IsValid}
 use Rattle.panel_session.specs.declared.session.Session.{Session}
 use Rattle.panel_session.specs.Session.{StandsFor}
-use Rattle.panel_session.specs.SoFar.{Past, nothing_yet}
+use Rattle.panel_session.specs.SoFar.{Progress, nothing_yet}
 use Rattle.panel_session.specs.Turns.{bytes_of}
-use Rattle.record_replay.specs.declared.stage.Stage.{Stage}
+use Rattle.record_replay.specs.declared.replayer.Replayer.{Replayer}
 use Rattle.record_replay.specs.Script.{Work, Read, Leave, Show, lines, worked, LinesSpell}
-use Rattle.record_replay.specs.Replay.{Stand, Works, AllWork}
+use Rattle.record_replay.specs.Replay.{ReplayState, Advances, AllWork}
 use Rattle.record_replay.specs.StandInside.{IsSettled}
 
 -- The session at the place of each panel stands for what the panel's session has done.
-abbrev pub StandForPasts : PlantData → List Session → (ℕ → Past) → Type 0
+abbrev pub StandForPasts : PlantData → List Session → (ℕ → Progress) → Type 0
 StandForPasts plant sessions pasts = (panel : ℕ) (other : Session) → panel < length plant.panels
     → StandsFor plant panel (slice_index_or sessions panel other) (pasts panel)
 
@@ -39,21 +39,22 @@ at_least_one (suc n) = suc n
 
 -- What a session has done stays small: each of its turns, and each byte of them with which an item may end, has two bytes of
 -- the script.
-pub record IsSmall (used : ℕ) (past : Past) : Type 0 where
+pub record IsSmall (used : ℕ) (past : Progress) : Type 0 where
   pub ends : 2 * ends_in (bytes_of past.turns) ≤ used
   pub turns : 2 * length past.turns ≤ used
 
 -- The plant and the sessions stand so, behind this many bytes of a script.
-pub record StandsAt (plant : PlantData) (stage : Stage) (stand : Stand) (used : ℕ) : Type 0 where
-  pub plant_is : stage.plant.now ≡ plant
-  pub state_is : stage.state ≡ stand.state
+pub record StandsAt (plant : PlantData) (replayer : Replayer) (stand : ReplayState) (used : ℕ)
+    : Type 0 where
+  pub plant_is : replayer.plant.now ≡ plant
+  pub state_is : replayer.state ≡ stand.state
   pub valid : IsValid stand.state
   pub settled : IsSettled plant stand
-  pub count : length stage.sessions.items ≡ length plant.panels
-  pub each : StandForPasts plant stage.sessions.items stand.pasts
+  pub count : length replayer.sessions.items ≡ length plant.panels
+  pub each : StandForPasts plant replayer.sessions.items stand.pasts
   pub small : (panel : ℕ) → IsSmall used (stand.pasts panel)
-  pub empty : stage.outbox.items ≡ []
-  pub places : room_of plant ≤ stage.outbox.places
+  pub empty : replayer.outbox.items ≡ []
+  pub places : room_of plant ≤ replayer.outbox.places
 
 -- how many bytes of the script a piece of work needs
 abbrev pub need_of : Work → ℕ
@@ -61,49 +62,50 @@ need_of (Read panel piece) = 2 * at_least_one (ends_in piece)
 need_of (Leave panel) = 0
 need_of (Show screen refresh) = 0
 
--- A stage stands somewhere, and this much more of a script is still small.
-pub record MayDo (need : ℕ) (plant : PlantData) (stage : Stage) : Type 0 where
-  pub stand : Stand
+-- A replayer stands somewhere, and this much more of a script is still small.
+pub record MayDo (need : ℕ) (plant : PlantData) (replayer : Replayer) : Type 0 where
+  pub stand : ReplayState
   pub used : ℕ
-  pub stands : StandsAt plant stage stand used
+  pub stands : StandsAt plant replayer stand used
   pub within : used + need < 2 ^ 63
 
--- A piece of work was done: from where the stage stood it leads to where it stands now, and this is its text.
-pub record HasDone (plant : PlantData) (work : Work) (stand : Stand) (used : ℕ) (after : Stage)
-    (text : List ℕ) : Type 0 where
-  pub next : Stand
-  pub works : Works plant work stand text next
+-- A piece of work was done: from where the replayer stood it leads to where it stands now, and this is its text.
+pub record HasDone (plant : PlantData) (work : Work) (stand : ReplayState) (used : ℕ)
+    (after : Replayer) (text : List ℕ) : Type 0 where
+  pub next : ReplayState
+  pub works : Advances plant work stand text next
   pub stands : StandsAt plant after next (used + need_of work)
 
--- So it is from wherever the stage may have stood, with one text for all.
-abbrev pub DoesWork : PlantData → Work → Stage → Stage → (List ℕ → Type 0) → Type 0
+-- So it is from wherever the replayer may have stood, with one text for all.
+abbrev pub DoesWork : PlantData → Work → Replayer → Replayer → (List ℕ → Type 0) → Type 0
 DoesWork plant work before after IsPut =
-    (stand : Stand) (used : ℕ) → StandsAt plant before stand used → used + need_of work < 2 ^ 63
+    (stand : ReplayState) (used : ℕ) → StandsAt plant before stand used
+    → used + need_of work < 2 ^ 63
     → (text : List ℕ) × IsPut text × HasDone plant work stand used after text
 
 -- The works of one line were done, none where it is skipped.
-pub record HasDoneLine (plant : PlantData) (line : List ℕ) (works : List Work) (stand : Stand)
-    (used : ℕ) (after : Stage) (text : List ℕ) : Type 0 where
-  pub next : Stand
+pub record HasDoneLine (plant : PlantData) (line : List ℕ) (works : List Work) (stand : ReplayState)
+    (used : ℕ) (after : Replayer) (text : List ℕ) : Type 0 where
+  pub next : ReplayState
   pub all_work : AllWork plant works stand text next
   pub stands : StandsAt plant after next (used + length line)
 
-abbrev pub DoesLine : PlantData → List ℕ → Stage → Stage → (List ℕ → Type 0)
+abbrev pub DoesLine : PlantData → List ℕ → Replayer → Replayer → (List ℕ → Type 0)
     → Type 0
 DoesLine plant line before after IsPut =
-    (stand : Stand) (used : ℕ) (works : List Work) → StandsAt plant before stand used
+    (stand : ReplayState) (used : ℕ) (works : List Work) → StandsAt plant before stand used
     → used + length line < 2 ^ 63
     → LinesSpell plant (worked (line ∷ [])) works
     → (text : List ℕ) × IsPut text × HasDoneLine plant line works stand used after text
 
 -- Some of the works of a script were done, with this text, and this is left of the script, whose lines spell the others.
-pub record IsOnTheWay (plant : PlantData) (works : List Work) (stand : Stand) (all : ℕ)
-    (rest : List ℕ) (now : Stage) (IsPut : List ℕ → Type 0) : Type 0 where
+pub record IsOnTheWay (plant : PlantData) (works : List Work) (stand : ReplayState) (all : ℕ)
+    (rest : List ℕ) (now : Replayer) (IsPut : List ℕ → Type 0) : Type 0 where
   pub done : List Work
   pub left : List Work
   pub works_are : works ≡ done ++ left
   pub spelled : LinesSpell plant (worked (lines rest)) left
-  pub next : Stand
+  pub next : ReplayState
   pub text : List ℕ
   pub put : IsPut text
   pub all_work : AllWork plant done stand text next
@@ -111,30 +113,30 @@ pub record IsOnTheWay (plant : PlantData) (works : List Work) (stand : Stand) (a
   pub stands : StandsAt plant now next used
   pub within : used + length rest ≤ all
 
--- So it is from wherever the stage may have stood.
-abbrev pub GoesOn : PlantData → List ℕ → List ℕ → Stage → Stage
+-- So it is from wherever the replayer may have stood.
+abbrev pub PlaysOn : PlantData → List ℕ → List ℕ → Replayer → Replayer
     → (List ℕ → Type 0) → Type 0
-GoesOn plant script rest before now IsPut =
-    (stand : Stand) (used : ℕ) (works : List Work) → StandsAt plant before stand used
+PlaysOn plant script rest before now IsPut =
+    (stand : ReplayState) (used : ℕ) (works : List Work) → StandsAt plant before stand used
     → used + length script < 2 ^ 63
     → LinesSpell plant (worked (lines script)) works
     → IsOnTheWay plant works stand (used + length script) rest now IsPut
 
 -- The works of a script were done, all of them or a front, behind which the others may still be done.
-pub record HasDoneScript (plant : PlantData) (works : List Work) (stand : Stand) (failed : Bool)
-    (text : List ℕ) : Type 0 where
+pub record HasDoneScript (plant : PlantData) (works : List Work) (stand : ReplayState)
+    (failed : Bool) (text : List ℕ) : Type 0 where
   pub done : List Work
   pub left : List Work
   pub works_are : works ≡ done ++ left
-  pub next : Stand
+  pub next : ReplayState
   pub all_work : AllWork plant done stand text next
   pub settled : IsSettled plant next
   pub whole : failed ≡ false → left ≡ []
 
-abbrev pub DoesScript : PlantData → List ℕ → Stage → Bool → (List ℕ → Type 0)
+abbrev pub DoesScript : PlantData → List ℕ → Replayer → Bool → (List ℕ → Type 0)
     → Type 0
 DoesScript plant script before failed IsPut =
-    (stand : Stand) (used : ℕ) (works : List Work) → StandsAt plant before stand used
+    (stand : ReplayState) (used : ℕ) (works : List Work) → StandsAt plant before stand used
     → used + length script < 2 ^ 63
     → LinesSpell plant (worked (lines script)) works
     → (text : List ℕ) × IsPut text × HasDoneScript plant works stand failed text

@@ -6,7 +6,7 @@ ghost use Rattle.change_boards.specs.Screens.{has_screen};
 ghost use Rattle.record_replay.specs.OutputInside.{Puts};
 ghost use Rattle.record_replay.specs.Script.{Work, Read, Leave, Show, lines, worked, LinesSpell};
 ghost use Rattle.record_replay.specs.Replay.{begun};
-ghost use Rattle.record_replay.specs.StageInside.{AreNew};
+ghost use Rattle.record_replay.specs.ReplayerInside.{AreNew};
 
 use crate::digits::Digits;
 use crate::drain::Drain;
@@ -24,7 +24,7 @@ use std::alloc::{AllocError, Global};
 
 /// One plant, and a session for each of its panels.
 #[derive(Drop)]
-pub(crate) struct Stage<'p> {
+pub(crate) struct Replayer<'p> {
     plant: &'p Plant,
     state: PlantState,
     sessions: Vec<Session<'p>>,
@@ -33,22 +33,22 @@ pub(crate) struct Stage<'p> {
     packet: PacketRoom,
 }
 
-impl<'p> Stage<'p> {
+impl<'p> Replayer<'p> {
     ghost use Rattle.record_replay.specs.LineInside.{IsFound};
     ghost use Rattle.record_replay.specs.FirstInside.{IsFirst};
-    ghost use Rattle.record_replay.specs.StageInside.{StandsAt, MayDo, DoesWork, DoesLine};
-    ghost use Rattle.record_replay.specs.StageInside.{DoesScript, need_of};
+    ghost use Rattle.record_replay.specs.ReplayerInside.{StandsAt, MayDo, DoesWork, DoesLine};
+    ghost use Rattle.record_replay.specs.ReplayerInside.{DoesScript, need_of};
 
     // Nothing happened yet. It takes all the memory that it ever needs.
     pub(crate) fn start(
         alloc: Global,
         plant: &'p Plant,
         names: &'p Names,
-    ) -> Result<Stage<'p>, AllocError>
+    ) -> Result<Replayer<'p>, AllocError>
         requires { names.now ≡ plant.now }
-        ensures { IfOk result (λ stage. StandsAt plant.now stage (begun plant.now) 0) }
+        ensures { IfOk result (λ replayer. StandsAt plant.now replayer (begun plant.now) 0) }
     {
-        Ok(Stage {
+        Ok(Replayer {
             plant,
             state: PlantState::start(alloc, plant)?,
             sessions: start_sessions(alloc, plant, names)?,

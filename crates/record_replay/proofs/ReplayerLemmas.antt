@@ -16,31 +16,31 @@ use Rattle.panel_session.specs.declared.session.Session.{Session}
 use Rattle.panel_session.specs.Run.{IsWorked, HasRun, IsReady, MayTurn, Serves, turned}
 use Rattle.panel_session.specs.Session.{StandsFor}
 use Rattle.panel_session.specs.SettledInside.{Settled}
-use Rattle.panel_session.specs.SoFar.{Past}
+use Rattle.panel_session.specs.SoFar.{Progress}
 use Rattle.panel_session.specs.Turns.{entries_in}
 use Rattle.plant_core.proofs.StepValidity.{IsValid-step}
 use Rattle.panel_session.proofs.TurnExists.{turn_exists}
 use Rattle.panel_session.proofs.TurnOnce.{one_turn_lem}
-use Rattle.record_replay.specs.declared.stage.Stage.{Stage}
+use Rattle.record_replay.specs.declared.replayer.Replayer.{Replayer}
 use Rattle.record_replay.specs.Script.{Work, Read}
-use Rattle.record_replay.specs.Replay.{Stand, with_past, behind_turn, behind_step, turn_line, Works}
-use Rattle.record_replay.specs.StageInside.{StandsAt, MayDo, IsSmall, HasDone, need_of}
+use Rattle.record_replay.specs.Replay.{ReplayState, with_past, behind_turn, behind_step, turn_line, Advances}
+use Rattle.record_replay.specs.ReplayerInside.{StandsAt, MayDo, IsSmall, HasDone, need_of}
 use Rattle.record_replay.proofs.ServesLemmas.{serves}
 use Rattle.record_replay.proofs.SmallLemmas.{small_later, small_turned, may_go_on}
 use Rattle.record_replay.proofs.WorksLemmas.{fits-run, run-valid, settled-turn, settled-step}
 
 -- Whatever holds of each session's past holds once one of them has another.
-with_one : (P : ℕ → Past → Type 0) (panel : ℕ) (past : Past) (pasts : ℕ → Past) → P panel past → ((other : ℕ) → other ≢ panel → P other (pasts other)) → (other : ℕ) → P other (with_past panel past pasts other)
+with_one : (P : ℕ → Progress → Type 0) (panel : ℕ) (past : Progress) (pasts : ℕ → Progress) → P panel past → ((other : ℕ) → other ≢ panel → P other (pasts other)) → (other : ℕ) → P other (with_past panel past pasts other)
 with_one P panel past pasts here others other =
     elim (other == panel) as (λ b. (other == panel) ≡ b → P other (cond b past (pasts other))) [
       | true ↦ λ same. subst (λ (one : ℕ). P one past) (sym (eqb-true other panel same)) here
       | false ↦ λ apart. others other (eqb-false other panel apart)
     ] refl
 
--- A session of a stage may have a turn,
-pub may_turn : (plant : PlantData) (panel : ℕ) (piece : List ℕ) (stage : Stage) (session : Session) (stand : Stand) (used : ℕ) → panel < length plant.panels → StandsAt plant stage stand used → used + need_of (Read panel piece) < 2 ^ 63
-    → session ≡ slice_index_or stage.sessions.items panel session → MayTurn step Fits (λ (state : State). room_of state.plant) plant panel session (stand.pasts panel) stage.state piece
-may_turn plant panel piece stage session stand used has stands within is =
+-- A session of a replayer may have a turn,
+pub may_turn : (plant : PlantData) (panel : ℕ) (piece : List ℕ) (replayer : Replayer) (session : Session) (stand : ReplayState) (used : ℕ) → panel < length plant.panels → StandsAt plant replayer stand used → used + need_of (Read panel piece) < 2 ^ 63
+    → session ≡ slice_index_or replayer.sessions.items panel session → MayTurn step Fits (λ (state : State). room_of state.plant) plant panel session (stand.pasts panel) replayer.state piece
+may_turn plant panel piece replayer session stand used has stands within is =
     record {
       stands = subst (λ (session : Session). StandsFor plant panel session (stand.pasts panel)) (sym is) (stands.each panel session has);
       begins = (stands.settled.each panel).begins;
@@ -49,12 +49,12 @@ may_turn plant panel piece stage session stand used has stands within is =
     }
 
 -- and is ready for it.
-pub ready : (plant : PlantData) (panel : ℕ) (piece : List ℕ) (stage : Stage) (session : Session) → panel < length plant.panels → MayDo (need_of (Read panel piece)) plant stage
-    → session ≡ slice_index_or stage.sessions.items panel session → IsReady step Fits (λ (state : State). room_of state.plant) session stage.state piece
-ready plant panel piece stage session has may is = record { plant = plant; panel = panel; past = may.stand.pasts panel; may = may_turn plant panel piece stage session may.stand may.used has may.stands may.within is }
+pub ready : (plant : PlantData) (panel : ℕ) (piece : List ℕ) (replayer : Replayer) (session : Session) → panel < length plant.panels → MayDo (need_of (Read panel piece)) plant replayer
+    → session ≡ slice_index_or replayer.sessions.items panel session → IsReady step Fits (λ (state : State). room_of state.plant) session replayer.state piece
+ready plant panel piece replayer session has may is = record { plant = plant; panel = panel; past = may.stand.pasts panel; may = may_turn plant panel piece replayer session may.stand may.used has may.stands may.within is }
 
 -- A turn was worked.
-pub turn_done : (plant : PlantData) (panel : ℕ) (piece : List ℕ) (before after : Stage) (session : Session) (stand : Stand) (used : ℕ) (more : List ℕ) → panel < length plant.panels
+pub turn_done : (plant : PlantData) (panel : ℕ) (piece : List ℕ) (before after : Replayer) (session : Session) (stand : ReplayState) (used : ℕ) (more : List ℕ) → panel < length plant.panels
     → StandsAt plant before stand used → HasRun step Fits plant panel (stand.pasts panel) piece before.state after.state session more
     → after.plant ≡ before.plant → after.sessions.items ≡ slice_set before.sessions.items panel session → after.outbox ≡ before.outbox
     → HasDone plant (Read panel piece) stand used after (turn_line panel more)
@@ -77,14 +77,14 @@ turn_done plant panel piece before after session stand used more has stands ran 
         settled = settled-turn plant panel ran.turn more stand stands.settled settled;
         count = ap (length {A = Session}) set ∙ length-set before.sessions.items panel session ∙ stands.count;
         each = λ other default has_other.
-            with_one (λ (one : ℕ) (past : Past). one < length plant.panels → StandsFor plant one (slice_index_or after.sessions.items one default) past) panel (turned ran.turn more (stand.pasts panel)) stand.pasts
+            with_one (λ (one : ℕ) (past : Progress). one < length plant.panels → StandsFor plant one (slice_index_or after.sessions.items one default) past) panel (turned ran.turn more (stand.pasts panel)) stand.pasts
             (λ has_one. subst (λ (session : Session). StandsFor plant panel session (turned ran.turn more (stand.pasts panel)))
             (sym (ap (λ (all : List Session). slice_index_or all panel default) set ∙ get_or-set_same before.sessions.items panel session default (omega (arith, has, stands.count)))) ran.stands)
             (λ one apart has_one. subst (λ (session : Session). StandsFor plant one session (stand.pasts one))
             (sym (ap (λ (all : List Session). slice_index_or all one default) set ∙ get_or-set_other before.sessions.items panel one session default apart)) (stands.each one default has_one))
             other has_other;
         small =
-            with_one (λ (one : ℕ) (past : Past). IsSmall (used + need_of (Read panel piece)) past) panel (turned ran.turn more (stand.pasts panel)) stand.pasts
+            with_one (λ (one : ℕ) (past : Progress). IsSmall (used + need_of (Read panel piece)) past) panel (turned ran.turn more (stand.pasts panel)) stand.pasts
             (subst (λ (piece : List ℕ). IsSmall (used + need_of (Read panel piece)) (turned ran.turn more (stand.pasts panel))) ran.piece_is (small_turned used (stand.pasts panel) ran.turn more (stands.small panel)))
             (λ one apart. small_later used (used + need_of (Read panel piece)) (stand.pasts one) (omega arith) (stands.small one));
         empty = ap (λ box. box.items) same_outbox ∙ stands.empty;
@@ -93,8 +93,8 @@ turn_done plant panel piece before after session stand used more has stands ran 
     }
 
 -- One step was made that no session asks for.
-pub step_done : (plant : PlantData) (work : Work) (request : Request) (before after : Stage) (stand : Stand) (used : ℕ) (text : List ℕ) → StandsAt plant before stand used
-    → Works plant work stand text (behind_step request stand)
+pub step_done : (plant : PlantData) (work : Work) (request : Request) (before after : Replayer) (stand : ReplayState) (used : ℕ) (text : List ℕ) → StandsAt plant before stand used
+    → Advances plant work stand text (behind_step request stand)
     → after.state ≡ (step before.state request).state → after.plant ≡ before.plant → after.sessions ≡ before.sessions
     → after.outbox.items ≡ [] → after.outbox.places ≡ before.outbox.places
     → HasDone plant work stand used after text
@@ -114,10 +114,10 @@ step_done plant work request before after stand used text stands works state sam
   };
 }
 
--- A display poll of a stage is answered by lamps of the plant.
-pub poll_lamps : (plant : PlantData) (screen : ℕ) (refresh : Bool) (stage : Stage) (stand : Stand) (used : ℕ) → StandsAt plant stage stand used
-    → AreLamps plant (step stage.state (requests.DisplayPoll screen refresh)).answers
-poll_lamps plant screen refresh stage stand used stands =
+-- A display poll of a replayer is answered by lamps of the plant.
+pub poll_lamps : (plant : PlantData) (screen : ℕ) (refresh : Bool) (replayer : Replayer) (stand : ReplayState) (used : ℕ) → StandsAt plant replayer stand used
+    → AreLamps plant (step replayer.state (requests.DisplayPoll screen refresh)).answers
+poll_lamps plant screen refresh replayer stand used stands =
     let poll = requests.DisplayPoll screen refresh in
     let Of : PlantData → Type 0 = λ plant. AreLamps plant (step stand.state poll).answers in
     let At : State → Type 0 = λ state. AreLamps plant (step state poll).answers in

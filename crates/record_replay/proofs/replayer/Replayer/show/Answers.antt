@@ -7,8 +7,8 @@ use Rattle.panel_session.specs.DisplayPacket.{AreLamps}
 use Rattle.record_replay.specs.OutputInside.{Puts}
 use Rattle.record_replay.specs.Script.{Show}
 use Rattle.record_replay.specs.Replay.{show_line}
-use Rattle.record_replay.proofs.StageLemmas.{step_done, poll_lamps}
-use Rattle.record_replay.proofs.stage.Stage.show.Goals as goal
+use Rattle.record_replay.proofs.ReplayerLemmas.{step_done, poll_lamps}
+use Rattle.record_replay.proofs.replayer.Replayer.show.Goals as goal
 
 pub put_show_line-requires-clause-lamps : goal.put_show_line-requires-clause-lamps
 put_show_line-requires-clause-lamps g c =

@@ -1,0 +1,10 @@
+use Rattle.std.proofs.Common.{length}
+use Rattle.record_replay.specs.OutputInside.{Puts}
+use Rattle.record_replay.specs.ReplayerInside.{PlaysOn}
+use Rattle.record_replay.proofs.replayer.Replayer.work.Given as goal
+
+abbrev pub invariant-loop-out : goal.invariant-loop-out
+invariant-loop-out g l = PlaysOn l.fn.self.plant.now l.fn.script l.rest l.fn.self l.self (λ text. Puts g.K.Drain.written g.K.Drain.faults text l.fn.out l.out)
+
+abbrev pub decreases-loop-out : goal.decreases-loop-out
+decreases-loop-out g l = length l.rest
