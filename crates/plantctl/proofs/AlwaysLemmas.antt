@@ -8,7 +8,7 @@ use Rattle.plant_config.specs.Bench.{bench}
 use Rattle.plant_config.specs.PlantOfText.{plant_of_text}
 use Rattle.record_replay.specs.TiedReplay.{IsTiedReplay}
 use Rattle.record_replay.proofs.IsReplayLemmas.{apart}
-use Rattle.plantctl.specs.World.{World}
+use Rattle.plantctl.specs.World.{World, FilesUntouched}
 use Rattle.plantctl.specs.End.{End, Done, NoMemory, Usage, FileMissing, FileFault, PlantRefused, PlantTooLong, LineRefused, ScriptTooLong, Audited, TraceTooLong, status_of, is_file_fault}
 use Rattle.plantctl.specs.Words.{Command, Check, Replay, plant_word, Ask}
 use Rattle.plantctl.specs.OpensPlant.{longest_plant, is_bench, OpensBench, OpensFile, OpensPlant, next_opening}
@@ -17,8 +17,9 @@ use Rattle.plantctl.specs.Replay.{IfFits, ReplayEnds}
 use Rattle.plantctl.specs.Asked.{AskFile, ShowsFile, ShowsPlant, AskHeld, LeadsTo}
 use Rattle.plantctl.specs.Run.{RunEnds}
 use Rattle.plantctl.specs.Outcomes.{IsRefusedPlant, IsAccepted, IsRefused, WasKept}
-use Rattle.plantctl.proofs.AskedLemmas.{same_command, same_word, same_name, no_check, no_audit, no_replay, opened_of}
-use Rattle.plantctl.proofs.CauseLemmas.{Came, at_words, at_plant, in_check, in_replay, in_audit, came, status_or_7}
+use Rattle.plantctl.proofs.AskedLemmas.{same_word, same_name, no_check, no_audit, no_replay, opened_of}
+use Rattle.plantctl.proofs.CauseLemmas.{Cause, Came, at_words, at_plant, in_check, in_replay, in_audit, came, asked_end, status_or_7}
+use Rattle.plantctl.proofs.WordsLemmas.{same_command}
 
 -- Of the end of a run: that it has this status, or that the run was kept from another end.
 abbrev pub IsOrKept : ℕ → World → World → End → Type 0
@@ -53,10 +54,19 @@ missing_plant : (name : List ℕ) (end : End) → OpensFile name NoFile (Err end
 missing_plant name end (inl opens) = missing_file name end opens
 missing_plant name end (inr led) = absurd led.1
 
-pub no_plant : (words : List (List ℕ)) (before now : World) (status : ℕ) (name : List ℕ) → AskFile words name → before.held name 0 ≡ NoFile → RunEnds words before now status → (status ≡ 3) ⊎ (status ≡ 7)
+missing_or : (words : List (List ℕ)) (before now : World) (name : List ℕ) (end : End) → AskFile words name → before.held name 0 ≡ NoFile → Cause words before now end
+    → (status_of end ≡ 3) ⊎ ((status_of end ≡ 1) × FilesUntouched before now)
+missing_or words before now name end asks is (inl at) = inr (ap status_of (asked_end words end asks.command asks.ask at.ends), at.files)
+missing_or words before now name end asks is (inr by) = inl (missing_plant name end (opened_of words before name NoFile end by.command asks is by.ask by.ends))
+
+pub no_plant : (words : List (List ℕ)) (before now : World) (status : ℕ) (name : List ℕ) → AskFile words name → before.held name 0 ≡ NoFile → RunEnds words before now status
+    → (status ≡ 3) ⊎ (status ≡ 7) ⊎ ((status ≡ 1) × FilesUntouched before now)
 no_plant words before now status name asks is run = elim (status_or_7 run.end before now status run.output) [
-  | inl same ↦ inl (same ∙ missing_plant name run.end (opened_of words before name NoFile run.end asks is (came words before now run.end run.cause)))
-  | inr failed ↦ inr failed.0
+  | inl same ↦ elim (missing_or words before now name run.end asks is run.cause) [
+    | inl missing ↦ inl (same ∙ missing)
+    | inr unread ↦ inr (inr (same ∙ unread.0, unread.1))
+  ]
+  | inr failed ↦ inr (inl failed.0)
 ]
 
 -- a plant file that is refused
@@ -84,11 +94,17 @@ refused_or : (name text : List ℕ) (before now : World) (end : End) → IsRefus
 refused_or name text before now end refused count (inl opens) = refused_file name text before now end refused count opens
 refused_or name text before now end refused count (inr led) = absurd (no_plant_of text led.0 refused led.1.0 led.1.1)
 
+refused_at : (words : List (List ℕ)) (before now : World) (name text : List ℕ) (end : End) → AskFile words name → before.held name 0 ≡ Holds text → IsRefusedPlant text
+    → now.file_faults ≡ count_after (is_file_fault end) before.file_faults → Cause words before now end → IsOrKept 4 before now end
+refused_at words before now name text end asks is refused count (inl at) = inr (inl (ap status_of (asked_end words end asks.command asks.ask at.ends)))
+refused_at words before now name text end asks is refused count (inr by) =
+    refused_or name text before now end refused count (opened_of words before name (Holds text) end by.command asks is by.ask by.ends)
+
 pub refused_plant : (words : List (List ℕ)) (before now : World) (status : ℕ) (name text : List ℕ) → AskFile words name → before.held name 0 ≡ Holds text → IsRefusedPlant text → RunEnds words before now status
     → (status ≡ 4) ⊎ WasKept before now status
 refused_plant words before now status name text asks is refused run =
     by_end 4 words before now status run
-    (refused_or name text before now run.end refused run.file_faults (opened_of words before name (Holds text) run.end asks is (came words before now run.end run.cause)))
+    (refused_at words before now name text run.end asks is refused run.file_faults run.cause)
 
 -- a plant that the files show
 
@@ -165,7 +181,7 @@ checked plant before now TraceTooLong ends = absurd ends
 
 checked_of : (words : List (List ℕ)) (before now : World) (end : End) (word : List ℕ) (plant : PlantData) → Ask words (Check word) → ShowsPlant word before plant
     → now.file_faults ≡ count_after (is_file_fault end) before.file_faults → Came words before end → IsOrKept 0 before now end
-checked_of words before now end word plant ask shows count (at_words none is) = absurd (none (Check word) ask)
+checked_of words before now end word plant ask shows count (at_words ends) = inr (inl (ap status_of (asked_end words end (Check word) ask ends)))
 checked_of words before now end word plant ask shows count (at_plant command ask' opens) =
     inr (kept_at_word words before now end word plant (Check word) command refl ask ask' shows count opens)
 checked_of words before now end word plant ask shows count (in_check plant' by ends) = checked plant' before now end ends
@@ -182,7 +198,7 @@ check_always words before now status word plant ask shows run =
 -- how a run ends whose words ask to replay a script on a plant that the files show, unless it is kept from that
 pub replayed_of : (words : List (List ℕ)) (before now : World) (end : End) (plant : PlantData) (name : List ℕ) (held : Held) → AskHeld words before plant name held
     → now.file_faults ≡ count_after (is_file_fault end) before.file_faults → Came words before end → ReplayEnds plant name held end ⊎ WasKept before now (status_of end)
-replayed_of words before now end plant name held asks count (at_words none is) = absurd (none (Replay asks.word name) asks.ask)
+replayed_of words before now end plant name held asks count (at_words ends) = inr (inl (ap status_of (asked_end words end (Replay asks.word name) asks.ask ends)))
 replayed_of words before now end plant name held asks count (at_plant command ask opens) =
     inr (kept_at_word words before now end asks.word plant (Replay asks.word name) command refl asks.ask ask asks.shows count opens)
 replayed_of words before now end plant name held asks count (in_check plant' by ends) = no_check words asks.word by.word name asks.ask by.ask

@@ -14,8 +14,8 @@ use Rattle.trace_audit.specs.Verdict.{IsVerdict}
 use Rattle.plantctl.specs.declared.stop.Stop.{Stop}
 use Rattle.plantctl.specs.declared.stop.Stop.TheVariants as stops
 use Rattle.plantctl.specs.World.{Snapshot}
-use Rattle.plantctl.specs.End.{End, NoMemory, FileMissing, FileFault as FileFailed, Audited, TraceTooLong, status_of, text_of, is_file_fault}
-use Rattle.plantctl.specs.Audit.{longest_traces, TraceFile, times_opened, trace_file, trace_files, IfAllHeld, bytes_of, all_lines, AreWithin, OpensWithin, Reaches}
+use Rattle.plantctl.specs.End.{End, NoMemory, FileMissing, FileFault as FileFailed, Audited, TraceTooLong, status_of, end_text, is_file_fault}
+use Rattle.plantctl.specs.Audit.{longest_traces, TraceFile, times_opened, trace_file, trace_files, IfAllHeld, total_length, all_lines, AreWithin, OpensWithin, Reaches}
 use Rattle.plantctl.specs.Run.{ReadsFile, ReadsWell, LeavesOpened}
 use Rattle.plantctl.specs.StopInside.{line_of, stop_status, is_by_files, is_by_output, IsStopOf, ComesTo, StopsFor, stop_of_file, stopped_by_files}
 use Rattle.plantctl.specs.AuditInside.{AreJoined, LeavesTraces, ReadsAll, Audits, StopsReading}
@@ -25,7 +25,7 @@ use Rattle.plantctl.proofs.TraceFilesLemmas.{AreBehind, behind-more, behind-none
 
 -- Traces were read whole into one text, with which so many bytes were left of the limit.
 abbrev AreRead : List TraceFile → ℕ → List ℕ → Type 0
-AreRead files left text = IfAllHeld files (λ texts. (left + bytes_of texts ≡ longest_traces) × (lines text ≡ all_lines texts))
+AreRead files left text = IfAllHeld files (λ texts. (left + total_length texts ≡ longest_traces) × (lines text ≡ all_lines texts))
 
 -- The traces of these names were read so, and the files stand behind them.
 pub record HasRead (before : Snapshot) (names : List (List ℕ)) (now : Snapshot) (left : ℕ) (text : List ℕ) : Type 0 where
@@ -49,7 +49,7 @@ found_next before names now name behind = behind name 0 ∙ ap (before.held name
 -- the traces that were read are within the limit
 within_of : (files : List TraceFile) (left : ℕ) (text : List ℕ) → AreRead files left text → AreWithin files
 within_of files left text read =
-    if_all files (λ texts. (left + bytes_of texts ≡ longest_traces) × (lines text ≡ all_lines texts)) (λ texts. bytes_of texts ≤ longest_traces) (λ texts so. omega (arith, so.0)) read
+    if_all files (λ texts. (left + total_length texts ≡ longest_traces) × (lines text ≡ all_lines texts)) (λ texts. total_length texts ≤ longest_traces) (λ texts so. omega (arith, so.0)) read
 
 -- none of them and no next one was opened behind traces that are too long
 next_within : (before : Snapshot) (names : List (List ℕ)) (now : Snapshot) (left : ℕ) (text name : List ℕ) → HasRead before names now left text → OpensWithin before.held [] (names ++ name ∷ [])
@@ -66,8 +66,8 @@ read_more before names now next left count text more joined name read whole with
     record {
       texts =
           subst (λ (fs : List TraceFile). AreRead fs (left - count) joined) (sym (trace_files-append before.held [] names (name ∷ [])))
-          (if_all-more (trace_files before.held [] names) file (λ texts. (left + bytes_of texts ≡ longest_traces) × (lines text ≡ all_lines texts)) (λ bytes. more ≡ bytes)
-          (λ texts. ((left - count) + bytes_of texts ≡ longest_traces) × (lines joined ≡ all_lines texts))
+          (if_all-more (trace_files before.held [] names) file (λ texts. (left + total_length texts ≡ longest_traces) × (lines text ≡ all_lines texts)) (λ bytes. more ≡ bytes)
+          (λ texts. ((left - count) + total_length texts ≡ longest_traces) × (lines joined ≡ all_lines texts))
           (λ texts bytes so is. (
             omega (arith, so.0, within, counted, bytes-more texts bytes, ap (λ (b : List ℕ). length b) is),
             joins ∙ ap (λ (ls : List (List ℕ)). ls ++ lines more) so.1 ∙ ap (λ (b : List ℕ). all_lines texts ++ lines b) is ∙ sym (lines-more texts bytes),
@@ -80,8 +80,8 @@ read_more before names now next left count text more joined name read whole with
 -- all traces were read
 pub read_all : (before : Snapshot) (names : List (List ℕ)) (now : Snapshot) (left : ℕ) (text : List ℕ) → HasRead before names now left text → AreJoined (trace_files before.held [] names) text
 read_all before names now left text read =
-    if_all (trace_files before.held [] names) (λ texts. (left + bytes_of texts ≡ longest_traces) × (lines text ≡ all_lines texts))
-    (λ texts. (bytes_of texts ≤ longest_traces) × (lines text ≡ all_lines texts)) (λ texts so. (omega (arith, so.0), so.1)) read.texts
+    if_all (trace_files before.held [] names) (λ texts. (left + total_length texts ≡ longest_traces) × (lines text ≡ all_lines texts))
+    (λ texts. (total_length texts ≤ longest_traces) × (lines text ≡ all_lines texts)) (λ texts so. (omega (arith, so.0), so.1)) read.texts
 
 -- the next trace of all is reached
 reached_next : (before : Snapshot) (names later : List (List ℕ)) (now : Snapshot) (left : ℕ) (text name : List ℕ) → HasRead before names now left text
@@ -93,7 +93,7 @@ reached_next before names later now left text name read = record {
   within = within_of (trace_files before.held [] names) left text read.texts;
 }
 
-is_stop : (stop : Stop) (end : End) → status_of end ≡ stop_status stop → text_of end ≡ line_of stop → is_file_fault end ≡ is_by_files stop → is_by_output stop ≡ false → IsStopOf stop end
+is_stop : (stop : Stop) (end : End) → status_of end ≡ stop_status stop → end_text end ≡ line_of stop → is_file_fault end ≡ is_by_files stop → is_by_output stop ≡ false → IsStopOf stop end
 is_stop stop end status text fault output = record { status_is = status; text_is = text; fault = fault; output = output }
 
 -- the traces that were opened where reading stopped at the next
@@ -159,8 +159,8 @@ read_stop files.TooLong before names later now next left text name answer read i
       file = trace_file before.held names name.now;
       reached = reached_next before names later now left text name.now read;
       too_long =
-          if_all-more (trace_files before.held [] names) (trace_file before.held names name.now) (λ texts. (left + bytes_of texts ≡ longest_traces) × (lines text ≡ all_lines texts))
-          (λ bytes. left < length bytes) (λ texts. longest_traces < bytes_of texts) (λ texts bytes so long. omega (arith, so.0, long, bytes-more texts bytes)) read.texts
+          if_all-more (trace_files before.held [] names) (trace_file before.held names name.now) (λ texts. (left + total_length texts ≡ longest_traces) × (lines text ≡ all_lines texts))
+          (λ bytes. left < length bytes) (λ texts. longest_traces < total_length texts) (λ texts bytes so long. omega (arith, so.0, long, bytes-more texts bytes)) read.texts
           (subst (λ (h : Held). IfHeld h (λ bytes. left < length bytes)) (found_next before names now name.now read.behind) (too_long is));
     },
     stopped TraceTooLong before names later now next left text name.now read (one_well name.now now next reads),
@@ -189,7 +189,7 @@ audit_memory plant names before now text written joined all = record {
   end = NoMemory;
   cause = (
     inr
-        (if_all (trace_files before.held [] names) (λ texts. (bytes_of texts ≤ longest_traces) × (lines text ≡ all_lines texts)) (λ texts. bytes_of texts ≤ longest_traces) (λ texts so. so.0) joined),
+        (if_all (trace_files before.held [] names) (λ texts. (total_length texts ≤ longest_traces) × (lines text ≡ all_lines texts)) (λ texts. total_length texts ≤ longest_traces) (λ texts so. so.0) joined),
     all_opened NoMemory names before now all.within all.well,
   );
   comes = record { status_is = refl; front = []; text_is = refl; appends = sym (appended-nil written) };
@@ -203,8 +203,8 @@ pub audit_told : {T : Type 0} (result : Result T Stop) (plant : PlantData) (name
 audit_told result plant names first last text verdict before now joined all is comes no_file = record {
   end = Audited verdict;
   cause = (
-    if_all (trace_files first.held [] names) (λ texts. (bytes_of texts ≤ longest_traces) × (lines text ≡ all_lines texts))
-        (λ texts. (bytes_of texts ≤ longest_traces) × IsVerdict plant (all_lines texts) verdict)
+    if_all (trace_files first.held [] names) (λ texts. (total_length texts ≤ longest_traces) × (lines text ≡ all_lines texts))
+        (λ texts. (total_length texts ≤ longest_traces) × IsVerdict plant (all_lines texts) verdict)
         (λ texts so. (so.0, subst (λ (ls : List (List ℕ)). IsVerdict plant ls verdict) so.1 is)) joined,
     all_opened (Audited verdict) names first last all.within all.well,
   );

@@ -28,16 +28,16 @@ stops_by reading words before now name command ask opened unopened front ended =
 }
 
 stops_missing : (words : List (List ℕ)) (before now : World) (name : List ℕ) → Cause words before now (FileMissing name) → StopsAtFile Missing words before now name
-stops_missing words before now name (inl at) = absurd (let is = at.end_is in cc)
+stops_missing words before now name (inl at) = absurd at.ends
 stops_missing words before now name (inr by) = stops_by Missing words before now name by.command by.ask by.files.opened by.files.unopened by.files.front by.files.left
 
 stops_failed : (words : List (List ℕ)) (before now : World) (name : List ℕ) → Cause words before now (FileFault name) → StopsAtFile Failed words before now name
-stops_failed words before now name (inl at) = absurd (let is = at.end_is in cc)
+stops_failed words before now name (inl at) = absurd at.ends
 stops_failed words before now name (inr by) = stops_by Failed words before now name by.command by.ask by.files.opened by.files.unopened by.files.front by.files.left
 
 missing_at : (words : List (List ℕ)) (before now : World) (name : List ℕ) → Came words before (FileMissing name) → StopsAtFile Missing words before now name → now.file_faults ≡ before.file_faults
     → now.written ≡ appended before.written (file_missing name) → WasMissing words before now
-missing_at words before now name (at_words none is) stops count appends = absurd (cc)
+missing_at words before now name (at_words ends) stops count appends = absurd ends
 missing_at words before now name (at_plant command ask opens) stops count appends =
     let o = opened_file (plant_word command) (before.held (plant_word command) 0) (FileMissing name) (λ h. h) opens in
     record {
@@ -71,7 +71,7 @@ missing_at words before now name (in_audit plant files asks ends) stops count ap
 
 fault_at : (words : List (List ℕ)) (before now : World) (name : List ℕ) → Came words before (FileFault name) → StopsAtFile Failed words before now name → now.file_faults ≡ one_more before.file_faults
     → now.written ≡ appended before.written (file_fault name) → HadFileFault words before now
-fault_at words before now name (at_words none is) stops count appends = absurd (cc)
+fault_at words before now name (at_words ends) stops count appends = absurd ends
 fault_at words before now name (at_plant command ask opens) stops count appends =
     let o = opened_file (plant_word command) (before.held (plant_word command) 0) (FileFault name) (λ h. h) opens in
     record {

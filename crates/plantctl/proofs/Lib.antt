@@ -6,6 +6,7 @@ pub mod DashLemmas
 pub mod ClapLemmas
 pub mod OpensLemmas
 pub mod NamesLemmas
+pub mod WordsLemmas
 pub mod TraceFilesLemmas
 pub mod CheckLemmas
 pub mod CommandLemmas

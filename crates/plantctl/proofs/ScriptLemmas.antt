@@ -14,7 +14,7 @@ use Rattle.plantctl.proofs.CauseLemmas.{Came, at_words, at_plant, in_check, in_r
 use Rattle.plantctl.proofs.StatusesLemmas.{nowhere, audited_at}
 
 line_at : (words : List (List ℕ)) (before now : World) (number : ℕ) → Came words before (LineRefused number) → now.written ≡ appended before.written (line_refused number) → RefusedLine words before now
-line_at words before now number (at_words none is) appends = absurd (cc)
+line_at words before now number (at_words ends) appends = absurd ends
 line_at words before now number (at_plant command ask opens) appends =
     absurd (nowhere (plant_word command) (before.held (plant_word command) 0) (LineRefused number) (λ h. h) (λ h. h) opens)
 line_at words before now number (in_check plant asks ends) appends = absurd ends
@@ -31,7 +31,7 @@ line_at words before now number (in_replay plant name held asks ends) appends = 
 line_at words before now number (in_audit plant files asks ends) appends = absurd ends
 
 length_at : (words : List (List ℕ)) (before now : World) → Came words before ScriptTooLong → now.written ≡ appended before.written script_too_long → RefusedLength words before now
-length_at words before now (at_words none is) appends = absurd (cc)
+length_at words before now (at_words ends) appends = absurd ends
 length_at words before now (at_plant command ask opens) appends =
     absurd (nowhere (plant_word command) (before.held (plant_word command) 0) ScriptTooLong (λ h. h) (λ h. h) opens)
 length_at words before now (in_check plant asks ends) appends = absurd ends
@@ -40,7 +40,7 @@ length_at words before now (in_replay plant name held asks ends) appends =
 length_at words before now (in_audit plant files asks ends) appends = absurd ends
 
 traces_at : (words : List (List ℕ)) (before now : World) → Came words before TraceTooLong → now.written ≡ appended before.written trace_too_long → RefusedTraces words before now
-traces_at words before now (at_words none is) appends = absurd (cc)
+traces_at words before now (at_words ends) appends = absurd ends
 traces_at words before now (at_plant command ask opens) appends =
     absurd (nowhere (plant_word command) (before.held (plant_word command) 0) TraceTooLong (λ h. h) (λ h. h) opens)
 traces_at words before now (in_check plant asks ends) appends = absurd ends

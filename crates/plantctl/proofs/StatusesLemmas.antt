@@ -10,15 +10,15 @@ use Rattle.plant_config.specs.Bench.{bench}
 use Rattle.trace_audit.specs.declared.verdict.Verdict.{Verdict}
 use Rattle.trace_audit.specs.declared.verdict.Verdict.TheVariants.{Confirmed, BadLine, Gap, Repeat, Differs}
 use Rattle.plantctl.specs.World.{World}
-use Rattle.plantctl.specs.End.{End, Done, NoMemory, Usage, FileMissing, FileFault, PlantRefused, PlantTooLong, LineRefused, ScriptTooLong, Audited, TraceTooLong, status_of, text_of, verdict_line}
+use Rattle.plantctl.specs.End.{End, Done, NoMemory, Usage, FileMissing, FileFault, PlantRefused, PlantTooLong, LineRefused, ScriptTooLong, Audited, TraceTooLong, status_of, end_text, verdict_line}
 use Rattle.plantctl.specs.Lines.{no_memory, usage, plant_refused, plant_too_long}
 use Rattle.plantctl.specs.Words.{Command, Check, Replay, Audit, plant_word, Ask, HasNoForm}
 use Rattle.plantctl.specs.OpensPlant.{is_bench, OpensBench, OpensFile, OpensPlant, Reads}
-use Rattle.plantctl.specs.Asked.{AskFile}
-use Rattle.plantctl.specs.Run.{IsWritten, RunEnds}
+use Rattle.plantctl.specs.Asked.{AskFile, PlantMayBeHere}
+use Rattle.plantctl.specs.Run.{CommandEnds, IsWritten, RunEnds}
 use Rattle.plantctl.specs.Outcomes.{WasChecked, WasReplayed, WereAudited, RanOutOfMemory, HadPlantFault, WasTooLong}
 use Rattle.plantctl.proofs.OpensLemmas.{if_held, opened_file}
-use Rattle.plantctl.proofs.CauseLemmas.{Came, at_words, at_plant, in_check, in_replay, in_audit, came, is_written, status_or_7}
+use Rattle.plantctl.proofs.CauseLemmas.{Cause, Came, at_words, at_plant, in_check, in_replay, in_audit, came, formless_end, command_opens, is_written, status_or_7}
 use Rattle.plantctl.proofs.VerdictLemmas.{other_status}
 
 -- no plant's word leads to an end that neither the bench plant nor a plant file has
@@ -33,7 +33,7 @@ file_asked words command ask is = record { command = command; ask = ask; name_is
 
 pub audited_at : (words : List (List ℕ)) (before now : World) (verdict : Verdict) → Came words before (Audited verdict) → now.written ≡ appended before.written (verdict_line verdict)
     → WereAudited words before now verdict
-audited_at words before now verdict (at_words none is) appends = absurd (cc)
+audited_at words before now verdict (at_words ends) appends = absurd ends
 audited_at words before now verdict (at_plant command ask opens) appends =
     absurd (nowhere (plant_word command) (before.held (plant_word command) 0) (Audited verdict) (λ h. h) (λ h. h) opens)
 audited_at words before now verdict (in_check plant asks ends) appends = absurd ends
@@ -47,7 +47,7 @@ abbrev WasDone : List (List ℕ) → World → World → Type 0
 WasDone words before now = WasChecked words before now ⊎ WasReplayed words before now ⊎ ((count : ℕ) × WereAudited words before now (Confirmed count))
 
 done_at : (words : List (List ℕ)) (before now : World) (output : List ℕ) → Came words before (Done output) → now.written ≡ appended before.written output → WasDone words before now
-done_at words before now output (at_words none is) appends = absurd (cc)
+done_at words before now output (at_words ends) appends = absurd ends
 done_at words before now output (at_plant command ask opens) appends =
     absurd (nowhere (plant_word command) (before.held (plant_word command) 0) (Done output) (λ h. h) (λ h. h) opens)
 done_at words before now output (in_check plant asks ends) appends = inl (record { plant = plant; asks = asks; appends = appends ∙ ap (appended before.written) ends })
@@ -101,22 +101,18 @@ led word held plant leads = elim (either (plant ≡ bench) (Reads held (Ok plant
   | inr reads ↦ inr (if_held held (λ bytes h. tt) reads)
 ]
 
-memory_at : (words : List (List ℕ)) (before now : World) → Came words before NoMemory → now.written ≡ appended before.written no_memory → RanOutOfMemory words before now
-memory_at words before now (at_words none is) appends = absurd (cc)
-memory_at words before now (at_plant command ask opens) appends = record {
-  command = command;
-  ask = ask;
-  there = either (OpensBench (Err NoMemory)) (MayBeHere (before.held (plant_word command) 0)) (is_bench (plant_word command)) opens;
-  appends = appends;
-}
-memory_at words before now (in_check plant asks ends) appends =
-    record { command = Check asks.word; ask = asks.ask; there = led asks.word (before.held asks.word 0) plant asks.leads; appends = appends }
-memory_at words before now (in_replay plant name held asks ends) appends =
-    record { command = Replay asks.word name; ask = asks.ask; there = led asks.word (before.held asks.word 0) plant asks.leads; appends = appends }
-memory_at words before now (in_audit plant files asks ends) appends =
-    record { command = Audit asks.word asks.traces; ask = asks.ask; there = led asks.word (before.held asks.word 0) plant asks.leads; appends = appends }
+-- a command that ran out of memory may have found its plant
+memory_there : (command : Command) (before : World) → CommandEnds command before NoMemory → PlantMayBeHere before (plant_word command)
+memory_there command before ends = elim (command_opens command before NoMemory ends) [
+  | inl opens ↦ either (OpensBench (Err NoMemory)) (MayBeHere (before.held (plant_word command) 0)) (is_bench (plant_word command)) opens
+  | inr leads ↦ led (plant_word command) (before.held (plant_word command) 0) leads.0 leads.1
+]
 
-memory_of : (words : List (List ℕ)) (before now : World) (end : End) → Came words before end → IsWritten end before now 1 → RanOutOfMemory words before now
+memory_at : (words : List (List ℕ)) (before now : World) → Cause words before now NoMemory → now.written ≡ appended before.written no_memory → RanOutOfMemory words before now
+memory_at words before now (inl at) appends = record { command = at.ends.0; ask = at.ends.1; there = inl at.files; appends = appends }
+memory_at words before now (inr by) appends = record { command = by.command; ask = by.ask; there = inr (memory_there by.command before by.ends); appends = appends }
+
+memory_of : (words : List (List ℕ)) (before now : World) (end : End) → Cause words before now end → IsWritten end before now 1 → RanOutOfMemory words before now
 memory_of words before now NoMemory from written = memory_at words before now from written.appends
 memory_of words before now (Done output) from written = absurd (let h = written.status_is in omega arith)
 memory_of words before now Usage from written = absurd (let h = written.status_is in omega arith)
@@ -131,7 +127,7 @@ memory_of words before now TraceTooLong from written = absurd (let h = written.s
 
 pub ran_out : (words : List (List ℕ)) (before now : World) → RunEnds words before now 1 → RanOutOfMemory words before now
 ran_out words before now run =
-    memory_of words before now run.end (came words before now run.end run.cause) (is_written run.end before now 1 (λ h. omega arith) run.output)
+    memory_of words before now run.end run.cause (is_written run.end before now 1 (λ h. omega arith) run.output)
 
 -- status 2
 
@@ -149,7 +145,7 @@ usage_of (Audited verdict) is = absurd (other_status 2 verdict (λ h. omega arit
 usage_of TraceTooLong is = absurd (omega arith)
 
 usage_at : (words : List (List ℕ)) (before : World) → Came words before Usage → HasNoForm words
-usage_at words before (at_words none is) = none
+usage_at words before (at_words none) = none
 usage_at words before (at_plant command ask opens) = absurd (nowhere (plant_word command) (before.held (plant_word command) 0) Usage (λ h. h) (λ h. h) opens)
 usage_at words before (in_check plant asks ends) = absurd ends
 usage_at words before (in_replay plant name held asks ends) = absurd ends
@@ -163,11 +159,11 @@ usage_no_form words before now run =
 pub usage_line : (words : List (List ℕ)) (before now : World) → RunEnds words before now 2 → now.written ≡ appended before.written usage
 usage_line words before now run =
     let written = is_written run.end before now 2 (λ h. omega arith) run.output in
-    written.appends ∙ ap (λ (e : End). appended before.written (text_of e)) (usage_of run.end written.status_is)
+    written.appends ∙ ap (λ (e : End). appended before.written (end_text e)) (usage_of run.end written.status_is)
 
 -- words without a form end at them
 no_form_end : (words : List (List ℕ)) (before : World) (end : End) → HasNoForm words → Came words before end → end ≡ Usage
-no_form_end words before end none (at_words without is) = is
+no_form_end words before end none (at_words ends) = formless_end words end none ends
 no_form_end words before end none (at_plant command ask opens) = absurd (none command ask)
 no_form_end words before end none (in_check plant asks ends) = absurd (none (Check asks.word) asks.ask)
 no_form_end words before end none (in_replay plant name held asks ends) = absurd (none (Replay asks.word name) asks.ask)
@@ -183,7 +179,7 @@ usage_always words before now status none run = elim (status_or_7 run.end before
 
 plant_fault_at : (words : List (List ℕ)) (before now : World) (fault : PlantFault) → Came words before (PlantRefused fault) → now.written ≡ appended before.written (plant_refused (fault_text fault))
     → HadPlantFault words before now
-plant_fault_at words before now fault (at_words none is) appends = absurd (cc)
+plant_fault_at words before now fault (at_words ends) appends = absurd ends
 plant_fault_at words before now fault (at_plant command ask opens) appends =
     let o = opened_file (plant_word command) (before.held (plant_word command) 0) (PlantRefused fault) (λ h. h) opens in
     record { name = plant_word command; asks = file_asked words command ask o.0; fault = fault; reads = o.1; appends = appends }
@@ -192,7 +188,7 @@ plant_fault_at words before now fault (in_replay plant script held asks ends) ap
 plant_fault_at words before now fault (in_audit plant files asks ends) appends = absurd ends
 
 too_long_at : (words : List (List ℕ)) (before now : World) → Came words before PlantTooLong → now.written ≡ appended before.written plant_too_long → WasTooLong words before now
-too_long_at words before now (at_words none is) appends = absurd (cc)
+too_long_at words before now (at_words ends) appends = absurd ends
 too_long_at words before now (at_plant command ask opens) appends =
     let o = opened_file (plant_word command) (before.held (plant_word command) 0) PlantTooLong (λ h. h) opens in
     record { name = plant_word command; asks = file_asked words command ask o.0; too_long = o.1; appends = appends }

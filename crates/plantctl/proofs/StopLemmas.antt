@@ -12,7 +12,7 @@ use Rattle.plantctl.specs.declared.stop.Stop.{Stop}
 use Rattle.plantctl.specs.declared.stop.Stop.TheVariants as stops
 use Rattle.plantctl.specs.World.{World}
 use Rattle.plantctl.specs.Lines.{line, plant_refused}
-use Rattle.plantctl.specs.End.{End, text_of, status_of}
+use Rattle.plantctl.specs.End.{End, end_text, status_of}
 use Rattle.plantctl.specs.Run.{EndsAtWords, EndsByCommand, IsWritten, IsCutShort, RunEnds}
 use Rattle.plantctl.specs.StopInside.{line_of, stop_status, stopped_by_output, IsFrontOf, ComesTo, Reports, RunStops}
 
@@ -61,14 +61,14 @@ moved mid written faults = record mid { written = written; output_faults = fault
 
 moved-cause : (words : List (List ℕ)) (before mid : World) (end : End) (written : Option (List ℕ)) (faults : ℕ) → EndsAtWords words before mid end ⊎ EndsByCommand words before mid end
     → EndsAtWords words before (moved mid written faults) end ⊎ EndsByCommand words before (moved mid written faults) end
-moved-cause words before mid end written faults (inl at) = inl (record { no_form = at.no_form; end_is = at.end_is; files = at.files })
+moved-cause words before mid end written faults (inl at) = inl (record { ends = at.ends; files = at.files })
 moved-cause words before mid end written faults (inr by) = inr (record { command = by.command; ask = by.ask; ends = by.ends; files = by.files })
 
 -- What the output of a run came to.
 abbrev IsOutput : End → Option (List ℕ) → ℕ → Option (List ℕ) → ℕ → ℕ → Type 0
 IsOutput end before faults_before now faults_now status =
-    ((status ≡ status_of end) × (now ≡ appended before (text_of end)) × (faults_now ≡ faults_before))
-    ⊎ ((status ≡ 7) × AppendsPart (text_of end) before now × (faults_now ≡ one_more faults_before))
+    ((status ≡ status_of end) × (now ≡ appended before (end_text end)) × (faults_now ≡ faults_before))
+    ⊎ ((status ≡ 7) × AppendsPart (end_text end) before now × (faults_now ≡ one_more faults_before))
 
 left_line : (stop : Stop) (end : End) (before mid now : Option (List ℕ)) (faults_before faults_mid faults_now status : ℕ) → IsFrontOf stop end before mid → faults_mid ≡ faults_before
     → ((status ≡ stop_status stop) × (now ≡ appended mid (line_of stop)) × (faults_now ≡ faults_mid)) ⊎ ((status ≡ 7) × AppendsPart (line_of stop) mid now × (faults_now ≡ one_more faults_mid))
@@ -100,7 +100,7 @@ output_of (Err stops.ScriptTooLong) end before mid now fb fm fn status comes kep
 output_of (Err (stops.Found verdict)) end before mid now fb fm fn status comes kept reports = left_line (stops.Found verdict) end before mid now fb fm fn status comes kept reports
 output_of (Err stops.TraceTooLong) end before mid now fb fm fn status comes kept reports = left_line stops.TraceTooLong end before mid now fb fm fn status comes kept reports
 output_of (Err stops.OutputFault) end before mid now fb fm fn status comes kept (inl reported) =
-    inr (reported.0, subst (AppendsPart (text_of end) before) (sym (reported.1 ∙ appended-nil mid)) comes, reported.2 ∙ kept)
+    inr (reported.0, subst (AppendsPart (end_text end) before) (sym (reported.1 ∙ appended-nil mid)) comes, reported.2 ∙ kept)
 output_of (Err stops.OutputFault) end before mid now fb fm fn status comes kept (inr failed) = no-part mid now failed.1
 
 is_output : (end : End) (before now : World) (status : ℕ) → IsOutput end before.written before.output_faults now.written now.output_faults status

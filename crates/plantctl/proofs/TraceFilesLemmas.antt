@@ -9,7 +9,7 @@ use Rattle.std.proofs.lemmas.Slice.Eq.{bytes_eq-Decides}
 use Rattle.ctl_io.specs.Held.{Held, IfHeld, CountsOn, OtherOpeningsStay}
 use Rattle.line_text.specs.Lines.{lines}
 use Rattle.plantctl.specs.OpensPlant.{is_bench, next_opening, opened_for}
-use Rattle.plantctl.specs.Audit.{TraceFile, times_opened, trace_file, trace_files, IfAllHeld, bytes_of, all_lines}
+use Rattle.plantctl.specs.Audit.{TraceFile, times_opened, trace_file, trace_files, IfAllHeld, total_length, all_lines}
 use Rattle.plantctl.proofs.OpensLemmas.{if_held}
 
 -- a name was opened as often as in the one list and in the other
@@ -96,8 +96,8 @@ if_all-more (first ∷ files) file P R Q both p r =
     if_held first.held (λ text all. if_all-more files file (λ texts. P (text ∷ texts)) R (λ texts. Q (text ∷ texts)) (λ texts last. both (text ∷ texts) last) all r) p
 
 -- one more text
-pub bytes-more : (texts : List (List ℕ)) (text : List ℕ) → bytes_of (texts ++ text ∷ []) ≡ bytes_of texts + length text
-bytes-more texts text = sum_by-append length texts (text ∷ []) ∙ ap (λ (n : ℕ). bytes_of texts + n) (zero-add (length text))
+pub bytes-more : (texts : List (List ℕ)) (text : List ℕ) → total_length (texts ++ text ∷ []) ≡ total_length texts + length text
+bytes-more texts text = sum_by-append length texts (text ∷ []) ∙ ap (λ (n : ℕ). total_length texts + n) (zero-add (length text))
 
 pub lines-more : (texts : List (List ℕ)) (text : List ℕ) → all_lines (texts ++ text ∷ []) ≡ all_lines texts ++ lines text
 lines-more texts text = flat_map-append lines texts (text ∷ []) ∙ ap (λ (ls : List (List ℕ)). all_lines texts ++ ls) (append-nil (lines text))

@@ -40,8 +40,8 @@ IfAllHeld (file ∷ later) P =
     IfHeld file.held (λ text. IfAllHeld later (λ texts. P (text ∷ texts)))
 
 -- how many bytes texts have together
-abbrev pub bytes_of : List (List ℕ) → ℕ
-bytes_of texts = sum_by length texts
+abbrev pub total_length : List (List ℕ) → ℕ
+total_length texts = sum_by length texts
 
 -- the lines of texts in order: each text begins with a line of its own, whether or not LF ends the one before it
 abbrev pub all_lines : List (List ℕ) → List (List ℕ)
@@ -49,11 +49,11 @@ all_lines texts = flat_map lines texts
 
 -- There are all of these traces, and together they aren't too long.
 abbrev pub AreWithin : List TraceFile → Type 0
-AreWithin files = IfAllHeld files (λ texts. bytes_of texts ≤ longest_traces)
+AreWithin files = IfAllHeld files (λ texts. total_length texts ≤ longest_traces)
 
 -- There are all of these traces, and together they are too long.
 abbrev pub AreTooLong : List TraceFile → Type 0
-AreTooLong files = IfAllHeld files (λ texts. longest_traces < bytes_of texts)
+AreTooLong files = IfAllHeld files (λ texts. longest_traces < total_length texts)
 
 -- Of traces that are read in order, this one is reached: there are all that stand before it, and together they aren't too long.
 pub record Reaches (files : List TraceFile) (file : TraceFile) : Type 0 where
@@ -81,7 +81,7 @@ RunsOut files = ((file : TraceFile) × Reaches files file × MayBeHere file.held
 -- There are all of these traces, together they aren't too long, and their lines have this verdict on the plant.
 abbrev pub HaveVerdict : PlantData → List TraceFile → Verdict → Type 0
 HaveVerdict plant files verdict = IfAllHeld files
-    (λ texts. (bytes_of texts ≤ longest_traces) × IsVerdict plant (all_lines texts) verdict)
+    (λ texts. (total_length texts ≤ longest_traces) × IsVerdict plant (all_lines texts) verdict)
 
 -- The audit of these traces on this plant ends so, with its cause. The first trace that is missing or failed, or with which they
 -- are too long, ends it. That the files had a fault shows in their count, for every command alike.

@@ -5,14 +5,14 @@ use Rattle.plant_config.specs.Plant.{PlantData}
 use Rattle.plantctl.specs.declared.stop.Stop.{Stop}
 use Rattle.plantctl.specs.World.{Snapshot}
 use Rattle.plantctl.specs.End.{End}
-use Rattle.plantctl.specs.Audit.{longest_traces, TraceFile, trace_files, IfAllHeld, bytes_of, all_lines, OpensWithin, AuditEnds}
+use Rattle.plantctl.specs.Audit.{longest_traces, TraceFile, trace_files, IfAllHeld, total_length, all_lines, OpensWithin, AuditEnds}
 use Rattle.plantctl.specs.Run.{ReadsWell, LeavesOpened}
 use Rattle.plantctl.specs.StopInside.{IsStopOf}
 
 -- Traces were read whole, and their lines are those of this text.
 abbrev pub AreJoined : List TraceFile → List ℕ → Type 0
 AreJoined files text = IfAllHeld files
-    (λ texts. (bytes_of texts ≤ longest_traces) × (lines text ≡ all_lines texts))
+    (λ texts. (total_length texts ≤ longest_traces) × (lines text ≡ all_lines texts))
 
 -- Of the traces of these names a front was opened, in order, and left so where the run ends so.
 pub record LeavesTraces (names : List (List ℕ)) (before now : Snapshot) (end : End)

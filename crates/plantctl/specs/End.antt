@@ -57,18 +57,18 @@ abbrev pub output_failed : ℕ
 output_failed = 7
 
 -- all that is appended to the output
-abbrev pub text_of : End → List ℕ
-text_of (Done output) = output
-text_of NoMemory = no_memory
-text_of Usage = usage
-text_of (FileMissing name) = file_missing name
-text_of (FileFault name) = file_fault name
-text_of (PlantRefused fault) = plant_refused (fault_text fault)
-text_of PlantTooLong = plant_too_long
-text_of (LineRefused number) = line_refused number
-text_of ScriptTooLong = script_too_long
-text_of (Audited verdict) = verdict_line verdict
-text_of TraceTooLong = trace_too_long
+abbrev pub end_text : End → List ℕ
+end_text (Done output) = output
+end_text NoMemory = no_memory
+end_text Usage = usage
+end_text (FileMissing name) = file_missing name
+end_text (FileFault name) = file_fault name
+end_text (PlantRefused fault) = plant_refused (fault_text fault)
+end_text PlantTooLong = plant_too_long
+end_text (LineRefused number) = line_refused number
+end_text ScriptTooLong = script_too_long
+end_text (Audited verdict) = verdict_line verdict
+end_text TraceTooLong = trace_too_long
 
 -- whether the files had a fault
 abbrev pub is_file_fault : End → Bool

@@ -13,7 +13,7 @@ use Rattle.record_replay.specs.Replay.{IsReplay}
 use Rattle.record_replay.specs.TiedReplay.{IsTiedReplay}
 use Rattle.trace_audit.specs.declared.verdict.Verdict.{Verdict}
 use Rattle.trace_audit.specs.declared.verdict.Verdict.TheVariants.{Confirmed, BadLine, Gap, Repeat, Differs}
-use Rattle.plantctl.specs.World.{World, snapshot}
+use Rattle.plantctl.specs.World.{World, snapshot, FilesUntouched}
 use Rattle.plantctl.specs.Lines.{no_memory, file_missing, file_fault, plant_refused, plant_too_long, line_refused, script_too_long, trace_too_long}
 use Rattle.plantctl.specs.End.{verdict_line}
 use Rattle.plantctl.specs.Words.{Command, plant_word, Ask}
@@ -42,12 +42,12 @@ pub record WasReplayed (words : List (List ℕ)) (before now : World) : Type 0 w
   pub replay : IfHeld held (λ script. IsTiedReplay plant script output)
   pub appends : now.written ≡ appended before.written output
 
--- Memory ran out, though the plant's file, where one was asked for, may be there; and nothing was appended but the line that
--- says so.
+-- Memory ran out, before any file was opened or though the plant's file, where one was asked for, may be there; and nothing was
+-- appended but the line that says so.
 pub record RanOutOfMemory (words : List (List ℕ)) (before now : World) : Type 0 where
   pub command : Command
   pub ask : Ask words command
-  pub there : PlantMayBeHere before (plant_word command)
+  pub there : FilesUntouched before now ⊎ PlantMayBeHere before (plant_word command)
   pub appends : now.written ≡ appended before.written no_memory
 
 -- Of the files that the words ask for, in order, the last that was opened has this name and was read so, and with those before

@@ -5,9 +5,9 @@ use Rattle.ctl_io.specs.Sink.{appended, AppendsPart}
 use Rattle.ctl_io.specs.Held.{OtherOpeningsStay}
 use Rattle.ctl_io.specs.WholeFile.{FileReading, Well, Missing, Failed, reading_failed, AfterReading, IsGivenBack}
 use Rattle.plant_config.specs.Plant.{PlantData}
-use Rattle.plantctl.specs.World.{World, Snapshot, snapshot}
-use Rattle.plantctl.specs.End.{End, Usage, FileMissing, FileFault, status_of, output_failed, text_of, is_file_fault}
-use Rattle.plantctl.specs.Words.{Command, Check, Replay, Audit, plant_word, other_files, Ask, HasNoForm}
+use Rattle.plantctl.specs.World.{World, Snapshot, snapshot, FilesUntouched}
+use Rattle.plantctl.specs.End.{End, NoMemory, Usage, FileMissing, FileFault, status_of, output_failed, end_text, is_file_fault}
+use Rattle.plantctl.specs.Words.{Command, Check, Replay, Audit, plant_word, other_files, Ask, AskCommand, HasNoForm}
 use Rattle.plantctl.specs.OpensPlant.{OpensPlant, ThenEnds, next_opening, opened_for}
 use Rattle.plantctl.specs.Check.{CheckEnds}
 use Rattle.plantctl.specs.Replay.{ReplayEnds}
@@ -69,11 +69,16 @@ pub record LeavesFiles (command : Command) (before now : Snapshot) (end : End) :
   pub refused : status_of end ≡ 4 → opened ≡ []
   pub within : OpensWithin before.held (opened_for (plant_word command)) opened
 
--- The words have no form, the run says so, and leaves the files alone.
+-- Words lead to this end before any file is opened: they have no form, or they have one and memory runs out.
+abbrev pub WordsEnd : List (List ℕ) → End → Type 0
+WordsEnd words Usage = HasNoForm words
+WordsEnd words NoMemory = AskCommand words
+WordsEnd words other = ⊥
+
+-- The run ends at its words, says so, and leaves the files alone.
 pub record EndsAtWords (words : List (List ℕ)) (before now : World) (end : End) : Type 0 where
-  pub no_form : HasNoForm words
-  pub end_is : end ≡ Usage
-  pub files : snapshot now ≡ snapshot before
+  pub ends : WordsEnd words end
+  pub files : FilesUntouched before now
 
 -- The words ask for a command, which ends so.
 pub record EndsByCommand (words : List (List ℕ)) (before now : World) (end : End) : Type 0 where
@@ -85,13 +90,13 @@ pub record EndsByCommand (words : List (List ℕ)) (before now : World) (end : E
 -- The end's text was appended, and the status is the end's.
 pub record IsWritten (end : End) (before now : World) (status : ℕ) : Type 0 where
   pub status_is : status ≡ status_of end
-  pub appends : now.written ≡ appended before.written (text_of end)
+  pub appends : now.written ≡ appended before.written (end_text end)
   pub output_faults : now.output_faults ≡ before.output_faults
 
 -- A write failed behind a shorter front of the end's text, and the status says so.
 pub record IsCutShort (end : End) (before now : World) (status : ℕ) : Type 0 where
   pub status_is : status ≡ output_failed
-  pub appends : AppendsPart (text_of end) before.written now.written
+  pub appends : AppendsPart (end_text end) before.written now.written
   pub output_faults : now.output_faults ≡ one_more before.output_faults
 
 -- A run with these words ended with this status, between these two moments.

@@ -7,11 +7,11 @@ use Rattle.plant_config.specs.Plant.{PlantData}
 use Rattle.trace_audit.specs.declared.verdict.Verdict.{Verdict}
 use Rattle.trace_audit.specs.declared.verdict.Verdict.TheVariants.{Confirmed, BadLine}
 use Rattle.trace_audit.specs.Verdict.{IsVerdict}
-use Rattle.plantctl.specs.World.{World}
+use Rattle.plantctl.specs.World.{World, FilesUntouched}
 use Rattle.plantctl.specs.Lines.{usage}
 use Rattle.plantctl.specs.End.{verdict_status}
 use Rattle.plantctl.specs.Words.{Check, Ask, HasNoForm}
-use Rattle.plantctl.specs.Audit.{longest_traces, TraceFile, bytes_of, all_lines, HoldTexts}
+use Rattle.plantctl.specs.Audit.{longest_traces, TraceFile, total_length, all_lines, HoldTexts}
 use Rattle.plantctl.specs.Asked.{AskFile, AskHeld, AskTraces, ShowsPlant, NamesFile}
 use Rattle.plantctl.specs.Run.{RunEnds}
 use Rattle.plantctl.specs.Outcomes.{WasChecked, WasReplayed, RanOutOfMemory, WasMissing, HadFileFault, HadPlantFault, WasTooLong, RefusedLine}
@@ -66,11 +66,13 @@ abbrev pub ThreeHasCause : Type 0
 ThreeHasCause = (words : List (List ℕ)) (before now : World)
     → RunEnds words before now 3 → WasMissing words before now ⊎ HadFileFault words before now
 
--- A plant file that is missing leads to 3, or to 7 where the line could not be written.
+-- A plant file that is missing leads to 3, or to 7 where the line could not be written, or to 1 where memory ran out before any
+-- file was opened.
 abbrev pub NoPlantEndsWithThree : Type 0
 NoPlantEndsWithThree = (words : List (List ℕ)) (before now : World) (status : ℕ) (name : List ℕ)
     → AskFile words name → before.held name 0 ≡ NoFile
-    → RunEnds words before now status → (status ≡ 3) ⊎ (status ≡ 7)
+    → RunEnds words before now status
+    → (status ≡ 3) ⊎ (status ≡ 7) ⊎ ((status ≡ 1) × FilesUntouched before now)
 
 -- A script that is missing leads to 3, unless the run is kept from its end.
 abbrev pub NoScriptEndsWithThree : Type 0
@@ -86,7 +88,7 @@ NoTraceEndsWithThree =
     (words : List (List ℕ)) (before now : World) (status : ℕ) (plant : PlantData)
     (earlier later : List TraceFile) (file : TraceFile) (texts : List (List ℕ))
     → AskTraces words before plant (earlier ++ file ∷ later)
-    → HoldTexts earlier texts → bytes_of texts ≤ longest_traces → file.held ≡ NoFile
+    → HoldTexts earlier texts → total_length texts ≤ longest_traces → file.held ≡ NoFile
     → RunEnds words before now status → (status ≡ 3) ⊎ WasKept before now status
 
 -- Where a run ends with 4, its plant file has a fault or is too long.
@@ -143,7 +145,7 @@ LongTracesEndWithFive =
     (words : List (List ℕ)) (before now : World) (status : ℕ) (plant : PlantData)
     (files : List TraceFile) (texts : List (List ℕ))
     → AskTraces words before plant files → HoldTexts files texts
-    → longest_traces < bytes_of texts
+    → longest_traces < total_length texts
     → RunEnds words before now status → (status ≡ 5) ⊎ WasKept before now status
 
 -- Where a run ends with 6, its audit found a gap, a repeat or a difference.
@@ -158,7 +160,7 @@ VerdictsEndRuns =
     (words : List (List ℕ)) (before now : World) (status : ℕ) (plant : PlantData)
     (files : List TraceFile) (texts : List (List ℕ)) (verdict : Verdict)
     → AskTraces words before plant files → HoldTexts files texts
-    → bytes_of texts ≤ longest_traces → IsVerdict plant (all_lines texts) verdict
+    → total_length texts ≤ longest_traces → IsVerdict plant (all_lines texts) verdict
     → RunEnds words before now status
     → (status ≡ verdict_status verdict) ⊎ WasKept before now status
 

@@ -19,7 +19,7 @@ use Rattle.plantctl.specs.declared.stop.Status.TheVariants as statuses
 use Rattle.plantctl.specs.declared.words.Command as code
 use Rattle.plantctl.specs.declared.words.Command.TheVariants as commands
 use Rattle.plantctl.specs.Lines.{usage, no_memory, file_missing, file_fault, plant_refused, plant_too_long, line_refused, script_too_long, trace_too_long}
-use Rattle.plantctl.specs.End.{End, status_of, output_failed, text_of, is_file_fault, verdict_status, verdict_line}
+use Rattle.plantctl.specs.End.{End, status_of, output_failed, end_text, is_file_fault, verdict_status, verdict_line}
 use Rattle.plantctl.specs.World.{World, Snapshot, snapshot}
 use Rattle.plantctl.specs.Words.{Command, Check, Replay, Audit, texts}
 use Rattle.plantctl.specs.OpensPlant.{OpensPlant, OpensFile, next_opening, opened_for}
@@ -90,18 +90,18 @@ stopped_by_files (Err stop) = is_by_files stop
 pub record IsFrontOf (stop : Stop) (end : End) (before now : Option (List ℕ)) : Type 0 where
   pub status_is : status_of end ≡ stop_status stop
   pub front : List ℕ
-  pub text_is : text_of end ≡ front ++ line_of stop
+  pub text_is : end_text end ≡ front ++ line_of stop
   pub appends : now ≡ appended before front
 
 -- A stop comes to this end. Where a write failed, a shorter front of the end's text was written.
 abbrev pub StopComesTo : Stop → End → Option (List ℕ) → Option (List ℕ) → Type 0
-StopComesTo stops.OutputFault end before now = AppendsPart (text_of end) before now
+StopComesTo stops.OutputFault end before now = AppendsPart (end_text end) before now
 StopComesTo other end before now = IsFrontOf other end before now
 
 -- What was done, or a stop, comes to this end.
 abbrev pub ComesTo : {T : Type 0} → Result T Stop → End → Option (List ℕ)
     → Option (List ℕ) → Type 0
-ComesTo (Ok done) end before now = (status_of end ≡ 0) × (now ≡ appended before (text_of end))
+ComesTo (Ok done) end before now = (status_of end ≡ 0) × (now ≡ appended before (end_text end))
 ComesTo (Err stop) end before now = StopComesTo stop end before now
 
 -- It comes to an end that has this cause.
@@ -133,7 +133,7 @@ Reports result status before now faults_before faults_now =
 -- A stop has yet to write all of this end's text: it has the end's status, line and fault, and no write failed.
 pub record IsStopOf (stop : Stop) (end : End) : Type 0 where
   pub status_is : status_of end ≡ stop_status stop
-  pub text_is : text_of end ≡ line_of stop
+  pub text_is : end_text end ≡ line_of stop
   pub fault : is_file_fault end ≡ is_by_files stop
   pub output : is_by_output stop ≡ false
 

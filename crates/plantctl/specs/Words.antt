@@ -59,6 +59,10 @@ pub record Ask (words : List (List ℕ)) (command : Command) : Type 0 where
   pub form : words ≡ words_of command
   pub proper : IsProper command
 
+-- The words have a form: they ask for a command.
+abbrev pub AskCommand : List (List ℕ) → Type 0
+AskCommand words = (command : Command) × Ask words command
+
 -- The words have no form.
 abbrev pub HasNoForm : List (List ℕ) → Type 0
 HasNoForm words = (command : Command) → Ask words command → ⊥

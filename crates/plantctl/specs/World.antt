@@ -1,5 +1,5 @@
 -- What stands outside of the program.
-use Rattle.std.specs.Prelude.{ℕ, List, Option}
+use Rattle.std.specs.Prelude.{◌≡◌, ℕ, List, Option}
 use Rattle.ctl_io.specs.Held.{Held}
 use Rattle.ctl_io.specs.Custody.{FilesCustody}
 
@@ -35,6 +35,10 @@ pub record Snapshot : Type 0 where
 abbrev pub snapshot : World → Snapshot
 snapshot world =
     record { held = world.held; custody = world.custody; faults = world.file_faults }
+
+-- The files stand as they did: what they hold, what they handed out and took back, and how often they have failed.
+abbrev pub FilesUntouched : World → World → Type 0
+FilesUntouched before now = snapshot now ≡ snapshot before
 
 -- that of files by what their type says of them
 abbrev pub snapshot_of : {F : Type 0} → (F → List ℕ → ℕ → Held) → (F → FilesCustody)

@@ -48,7 +48,8 @@ pub fn usage_told()
 {}
 
 /// Status 3: a file that the words ask for is missing, or the files had a fault. A missing plant file always ends
-/// so, unless the line could not be written, and a missing script or trace, unless memory runs out or the output fails.
+/// so, unless the line could not be written or memory ran out before any file was opened, and a missing script or trace,
+/// unless memory runs out or the output fails.
 pub fn file_refused()
     ensures cause { ThreeHasCause }
     ensures no_plant { NoPlantEndsWithThree }

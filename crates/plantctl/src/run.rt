@@ -48,10 +48,11 @@ fn run<'a, F: Files, K: Sink>(
         result }
 {
     match read_words(alloc, words) {
-        Some(Command::Check { plant }) => run_check(alloc, plant, files, out),
-        Some(Command::Replay { plant, script }) => run_replay(alloc, plant, script, files, out),
-        Some(Command::Audit { plant, traces }) => run_audit(alloc, plant, traces, files, out),
-        None => Err(Stop::Usage),
+        Ok(Some(Command::Check { plant })) => run_check(alloc, plant, files, out),
+        Ok(Some(Command::Replay { plant, script })) => run_replay(alloc, plant, script, files, out),
+        Ok(Some(Command::Audit { plant, traces })) => run_audit(alloc, plant, traces, files, out),
+        Ok(None) => Err(Stop::Usage),
+        Err(_) => Err(Stop::NoMemory),
     }
 }
 

@@ -1,11 +1,11 @@
 //! The words of the command line.
 
-ghost use Rattle.std.specs.Prelude.{◌↔◌, [], ◌∷◌, codes, All, IsTrue, MatchOption};
-ghost use Rattle.plantctl.specs.Words.{HasNoForm, Ask, IsName, NameTraces, texts};
+ghost use Rattle.std.specs.Prelude.{◌↔◌, [], ◌∷◌, codes, All, IfErr, IfOk, IsTrue, MatchOption};
+ghost use Rattle.plantctl.specs.Words.{Ask, AskCommand, HasNoForm, IsName, NameTraces, texts};
 ghost use Rattle.plantctl.specs.StopInside.{asked};
 
 use crate::parsed_words::{command_of, parse};
-use std::alloc::Global;
+use std::alloc::{AllocError, Global};
 use std::rt::Env;
 use std::{env, io};
 
@@ -34,89 +34,69 @@ pub(crate) enum Command<'a> {
     },
 }
 
-// `None` where the words have no form. Without memory for `clap` the own reading stands.
-pub(crate) fn read_words<'a>(alloc: Global, words: &'a [String]) -> Option<Command<'a>>
-    ensures { MatchOption result
+// `None` where the words have no form. Memory runs out only where they have one.
+pub(crate) fn read_words<'a>(
+    alloc: Global,
+    words: &'a [String],
+) -> Result<Option<Command<'a>>, AllocError>
+    ensures read { IfOk result (λ read. MatchOption read
         (HasNoForm (texts words.now))
-        (λ command. Ask (texts words.now) (asked command)) }
+        (λ command. Ask (texts words.now) (asked command))) }
+    ensures no_memory { IfErr result (λ _. AskCommand (texts words.now)) }
 {
-    let own = match own_reading(words) {
-        Some(own) => own,
-        None => return None,
-    };
+    if !have_form(words) {
+        return Ok(None);
+    }
     match parse(alloc, words) {
-        Ok(matches) => command_of(&matches, words),
-        Err(_) => Some(own),
+        Ok(matches) => Ok(command_of(&matches, words)),
+        // It refuses no words that have a form, so that memory ran out.
+        Err(_) => Err(AllocError),
     }
 }
 
-// What the program itself makes of the words. `clap` would take more: `help`, `-h`, `--`.
-fn own_reading(words: &[String]) -> Option<Command<'_>>
-    ensures { MatchOption result
-        (HasNoForm (texts words.now))
-        (λ command. Ask (texts words.now) (asked command)) }
+// Whether the words have a form. `clap` would take more: `help`, `-h`, `--`.
+fn have_form(words: &[String]) -> bool
+    ensures { IsTrue result ↔ AskCommand (texts words.now) }
 {
     let [first, others @ ..] = words else {
-        return None;
+        return false;
     };
     match first.as_str() {
-        "check" => read_check(others),
-        "replay" => read_replay(others),
-        "audit" => read_audit(others),
-        _ => None,
+        "check" => ask_check(others),
+        "replay" => ask_replay(others),
+        "audit" => ask_audit(others),
+        _ => false,
     }
 }
 
-// The command of the words behind `check`.
-fn read_check(words: &[String]) -> Option<Command<'_>>
-    ensures { MatchOption result
-        (HasNoForm (codes "check" ∷ texts words.now))
-        (λ command. Ask (codes "check" ∷ texts words.now) (asked command)) }
+// Whether words may stand behind `check`.
+fn ask_check(words: &[String]) -> bool
+    ensures { IsTrue result ↔ AskCommand (codes "check" ∷ texts words.now) }
 {
     let [plant] = words else {
-        return None;
+        return false;
     };
-    let plant = plant.as_str();
-    if is_name(plant) {
-        Some(Command::Check { plant })
-    } else {
-        None
-    }
+    is_name(plant.as_str())
 }
 
-// The command of the words behind `replay`.
-fn read_replay(words: &[String]) -> Option<Command<'_>>
-    ensures { MatchOption result
-        (HasNoForm (codes "replay" ∷ texts words.now))
-        (λ command. Ask (codes "replay" ∷ texts words.now) (asked command)) }
+// Whether words may stand behind `replay`.
+fn ask_replay(words: &[String]) -> bool
+    ensures { IsTrue result ↔ AskCommand (codes "replay" ∷ texts words.now) }
 {
     let [plant, script] = words else {
-        return None;
+        return false;
     };
-    let plant = plant.as_str();
-    let script = script.as_str();
-    if is_name(plant) && is_name(script) {
-        Some(Command::Replay { plant, script })
-    } else {
-        None
-    }
+    is_name(plant.as_str()) && is_name(script.as_str())
 }
 
-// The command of the words behind `audit`.
-fn read_audit(words: &[String]) -> Option<Command<'_>>
-    ensures { MatchOption result
-        (HasNoForm (codes "audit" ∷ texts words.now))
-        (λ command. Ask (codes "audit" ∷ texts words.now) (asked command)) }
+// Whether words may stand behind `audit`.
+fn ask_audit(words: &[String]) -> bool
+    ensures { IsTrue result ↔ AskCommand (codes "audit" ∷ texts words.now) }
 {
     let [plant, traces @ ..] = words else {
-        return None;
+        return false;
     };
-    let plant = plant.as_str();
-    if is_name(plant) && name_traces(traces) {
-        Some(Command::Audit { plant, traces })
-    } else {
-        None
-    }
+    is_name(plant.as_str()) && name_traces(traces)
 }
 
 // Whether words name traces: there are 1 to 200 of them, and each is a name.
