@@ -14,11 +14,11 @@ use Rattle.dle_framing.proofs.FeedLemmas.{take-add}
 use Rattle.plant_config.specs.Plant.{PlantData}
 use Rattle.plant_core.specs.declared.answer.Answer.{Answer}
 use Rattle.plant_core.specs.declared.request.Request.TheVariants.{Poll}
-use Rattle.panel_session.specs.declared.asked.Asked.{Asked}
-use Rattle.panel_session.specs.declared.asked.Asked.TheVariants.{Nothing, Repeat, Refused, Noted, Named, Sent}
+use Rattle.panel_session.specs.declared.session.asked.Asked.{Asked}
+use Rattle.panel_session.specs.declared.session.asked.Asked.TheVariants.{Nothing, Repeat, Refused, Noted, Named, Sent}
 use Rattle.panel_session.specs.declared.session.Session.{Session}
-use Rattle.panel_session.specs.declared.phase.Phase.{Phase}
-use Rattle.panel_session.specs.declared.phase.Phase.TheVariants.{Read, Poll as PollStage, End}
+use Rattle.panel_session.specs.declared.session.phase.Phase.{Phase}
+use Rattle.panel_session.specs.declared.session.phase.Phase.TheVariants.{Read, Poll as PollStage, End}
 use Rattle.panel_session.specs.Asked.{Asks}
 use Rattle.panel_session.specs.AskedInside.{FoundAsks, MayAsk}
 use Rattle.panel_session.specs.Counted.{goods_of, bads_of}

@@ -9,8 +9,8 @@ use Rattle.swp08_messages.specs.Spelled.{Spells}
 use Rattle.swp08_messages.specs.Text.{kind_of}
 use Rattle.swp08_messages.proofs.ReadingLemmas.{one_message}
 use Rattle.swp08_messages.proofs.SpellsLemmas.{spells}
-use Rattle.panel_session.specs.declared.asked.Asked.{Asked}
-use Rattle.panel_session.specs.declared.asked.Asked.TheVariants.{Nothing, Repeat, Refused, Noted, Named, Sent}
+use Rattle.panel_session.specs.declared.session.asked.Asked.{Asked}
+use Rattle.panel_session.specs.declared.session.asked.Asked.TheVariants.{Nothing, Repeat, Refused, Noted, Named, Sent}
 use Rattle.panel_session.specs.Asked.{GoodAsks, Asks}
 
 -- What DATA asks that spells a message, by its kind.

@@ -10,10 +10,10 @@ use Rattle.plant_config.specs.Plant.{PlantData}
 use Rattle.plant_core.specs.declared.answer.Answer.{Answer}
 use Rattle.plant_core.specs.declared.request.Request.{Request}
 use Rattle.plant_core.specs.declared.request.Request.TheVariants.{Told, Poll}
-use Rattle.panel_session.specs.declared.asked.Asked.{Asked}
-use Rattle.panel_session.specs.declared.asked.Asked.TheVariants.{Sent}
-use Rattle.panel_session.specs.declared.phase.Phase.{Phase}
-use Rattle.panel_session.specs.declared.phase.Phase.TheVariants.{Read, Tell, Poll as PollStage, End}
+use Rattle.panel_session.specs.declared.session.asked.Asked.{Asked}
+use Rattle.panel_session.specs.declared.session.asked.Asked.TheVariants.{Sent}
+use Rattle.panel_session.specs.declared.session.phase.Phase.{Phase}
+use Rattle.panel_session.specs.declared.session.phase.Phase.TheVariants.{Read, Tell, Poll as PollStage, End}
 use Rattle.panel_session.specs.Entry.{PlantEntry}
 use Rattle.panel_session.specs.Asked.{sent_to_plant}
 use Rattle.panel_session.specs.Turns.{bytes_of, entries_of_turns, Turn}

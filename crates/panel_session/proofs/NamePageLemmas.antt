@@ -13,7 +13,7 @@ use Rattle.panel_session.specs.RoomsInside.{most_named}
 use Rattle.panel_session.proofs.RoomLemmas.{names-most}
 use Rattle.dle_framing.specs.Frame.{frame}
 use Rattle.plant_config.specs.Plant.{PlantData}
-use Rattle.panel_session.specs.declared.name_page.NamePage.{NamePage}
+use Rattle.panel_session.specs.declared.sending.name_page.NamePage.{NamePage}
 use Rattle.panel_session.specs.Text.{Output, with_frame, with_frames}
 use Rattle.panel_session.specs.NamePagesInside.{IsNamePage, HasRoomFor, GoesOnWith, numbers_left, pages_from, pages_behind, command_of, level_of, names_of, data_of, end_of, frames_left, AddsNames}
 

@@ -6,8 +6,8 @@ use Rattle.std.proofs.lemmas.List.{append-nil, append_assoc}
 use Rattle.dle_framing.specs.Numbers.{ack, nak}
 use Rattle.plant_config.specs.Plant.{PlantData}
 use Rattle.plant_core.specs.declared.answer.Answer.{Answer}
-use Rattle.panel_session.specs.declared.asked.Asked.{Asked}
-use Rattle.panel_session.specs.declared.asked.Asked.TheVariants.{Nothing, Repeat, Refused, Noted, Named, Sent}
+use Rattle.panel_session.specs.declared.session.asked.Asked.{Asked}
+use Rattle.panel_session.specs.declared.session.asked.Asked.TheVariants.{Nothing, Repeat, Refused, Noted, Named, Sent}
 use Rattle.panel_session.specs.Entry.{PlantEntry}
 use Rattle.panel_session.specs.Text.{frames_of, Output, with_control, with_frame, with_frames, repeated, polled_at, told_at, with_polls, output_from}
 use Rattle.panel_session.specs.NamePages.{name_frames}

@@ -6,10 +6,10 @@ use Rattle.dle_framing.specs.Framer.{GoesOver}
 use Rattle.dle_framing.specs.declared.framer.Framer.{Framer}
 use Rattle.plant_config.specs.Plant.{PlantData}
 use Rattle.swp08_messages.specs.declared.message.Message.{Message}
-use Rattle.panel_session.specs.declared.asked.Asked.{Asked}
-use Rattle.panel_session.specs.declared.asked.Asked.TheVariants.{Nothing, Repeat, Refused, Noted, Named, Sent}
+use Rattle.panel_session.specs.declared.session.asked.Asked.{Asked}
+use Rattle.panel_session.specs.declared.session.asked.Asked.TheVariants.{Nothing, Repeat, Refused, Noted, Named, Sent}
 use Rattle.panel_session.specs.declared.session.Session.{Session}
-use Rattle.panel_session.specs.declared.phase.Phase.{Phase}
+use Rattle.panel_session.specs.declared.session.phase.Phase.{Phase}
 use Rattle.panel_session.specs.AskedInside.{FoundAsks}
 use Rattle.panel_session.specs.MovesInside.{took, phase_with}
 use Rattle.panel_session.specs.ReadingInside.{HasReadOn}

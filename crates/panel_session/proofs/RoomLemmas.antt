@@ -15,8 +15,8 @@ use Rattle.plant_core.specs.Answer.{room_of}
 use Rattle.plant_core.specs.declared.answer.Answer.{Answer}
 use Rattle.panel_session.specs.NamePagesInside.{names_of}
 use Rattle.panel_session.specs.RoomsInside.{fitting, most_named}
-use Rattle.panel_session.specs.declared.name_page.NamesOf.{NamesOf}
-use Rattle.panel_session.specs.declared.name_page.NamesOf.TheVariants.{Sources, Dests}
+use Rattle.panel_session.specs.declared.sending.name_page.NamesOf.{NamesOf}
+use Rattle.panel_session.specs.declared.sending.name_page.NamesOf.TheVariants.{Sources, Dests}
 
 -- the most so far, and the names of one level more
 abbrev more : ℕ → Level → ℕ

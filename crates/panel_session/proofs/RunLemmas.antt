@@ -11,8 +11,8 @@ use Rattle.plant_core.specs.Answer.{IsSayable}
 use Rattle.plant_core.specs.declared.answer.Answer.{Answer}
 use Rattle.plant_core.specs.declared.request.Request.{Request}
 use Rattle.plant_core.specs.declared.request.Request.TheVariants.{Told, Poll, Leave, DisplayPoll}
-use Rattle.panel_session.specs.declared.act.Act.{Act}
-use Rattle.panel_session.specs.declared.act.Act.TheVariants.{Send, Rest}
+use Rattle.panel_session.specs.declared.session.act.Act.{Act}
+use Rattle.panel_session.specs.declared.session.act.Act.TheVariants.{Send, Rest}
 use Rattle.panel_session.specs.declared.session.Session.{Session}
 use Rattle.panel_session.specs.Acting.{Acts, ActsOn, IsInPlace, MayGoOn}
 use Rattle.panel_session.specs.Entry.{PlantEntry}

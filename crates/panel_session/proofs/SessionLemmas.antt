@@ -12,11 +12,11 @@ use Rattle.plant_core.specs.Answer.{room_of}
 use Rattle.plant_core.specs.declared.answer.Answer.{Answer}
 use Rattle.plant_core.specs.declared.request.Request.{Request}
 use Rattle.plant_core.specs.declared.request.Request.TheVariants.{Told, Poll}
-use Rattle.panel_session.specs.declared.asked.Asked.{Asked}
-use Rattle.panel_session.specs.declared.asked.Asked.TheVariants.{Sent}
+use Rattle.panel_session.specs.declared.session.asked.Asked.{Asked}
+use Rattle.panel_session.specs.declared.session.asked.Asked.TheVariants.{Sent}
 use Rattle.panel_session.specs.declared.session.Session.{Session}
-use Rattle.panel_session.specs.declared.phase.Phase.{Phase}
-use Rattle.panel_session.specs.declared.phase.Phase.TheVariants.{Read, Tell, Poll as PollStage, End}
+use Rattle.panel_session.specs.declared.session.phase.Phase.{Phase}
+use Rattle.panel_session.specs.declared.session.phase.Phase.TheVariants.{Read, Tell, Poll as PollStage, End}
 use Rattle.panel_session.specs.Entry.{PlantEntry}
 use Rattle.panel_session.specs.SoFar.{Progress, read_so_far, with_bytes, with_sent, with_entry}
 use Rattle.panel_session.specs.Text.{frames_of, with_frames}
@@ -25,7 +25,7 @@ use Rattle.panel_session.specs.Session.{Stands, StandsFor, Awaits, AsksAt, kept_
 use Rattle.panel_session.specs.PolledInside.{HasPolled}
 use Rattle.panel_session.specs.ReadingInside.{IsReading, HasRead}
 use Rattle.panel_session.specs.Acting.{Acts, MayGoOn}
-use Rattle.panel_session.specs.declared.act.Act.TheVariants.{Send, Ask, Rest}
+use Rattle.panel_session.specs.declared.session.act.Act.TheVariants.{Send, Ask, Rest}
 use Rattle.panel_session.specs.RoomsInside.{fitting}
 use Rattle.panel_session.proofs.RoomLemmas.{fits-all}
 use Rattle.panel_session.specs.MovesInside.{took_answers, ended_turn}

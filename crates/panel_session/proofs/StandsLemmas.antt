@@ -15,13 +15,13 @@ use Rattle.dle_framing.proofs.LawLemmas.{items_front}
 use Rattle.plant_config.specs.Plant.{PlantData}
 use Rattle.plant_core.specs.declared.answer.Answer.{Answer}
 use Rattle.plant_core.specs.declared.request.Request.TheVariants.{Told}
-use Rattle.panel_session.specs.declared.asked.Asked.{Asked}
-use Rattle.panel_session.specs.declared.asked.Asked.TheVariants.{Nothing, Repeat, Refused, Noted, Named, Sent}
+use Rattle.panel_session.specs.declared.session.asked.Asked.{Asked}
+use Rattle.panel_session.specs.declared.session.asked.Asked.TheVariants.{Nothing, Repeat, Refused, Noted, Named, Sent}
 use Rattle.panel_session.specs.declared.session.Session.{Session}
-use Rattle.panel_session.specs.declared.phase.Phase.{Phase}
-use Rattle.panel_session.specs.declared.phase.Phase.TheVariants.{Read, Tell, Poll as PollStage}
+use Rattle.panel_session.specs.declared.session.phase.Phase.{Phase}
+use Rattle.panel_session.specs.declared.session.phase.Phase.TheVariants.{Read, Tell, Poll as PollStage}
 use Rattle.panel_session.specs.Asked.{Asks}
-use Rattle.panel_session.specs.declared.counts.Counts.{Counts}
+use Rattle.panel_session.specs.declared.session.counts.Counts.{Counts}
 use Rattle.panel_session.specs.Counted.{is_good_item, is_bad_item, goods_of, bads_of}
 use Rattle.panel_session.specs.SoFar.{Progress, read_so_far, with_bytes, with_sent, with_entry}
 use Rattle.panel_session.specs.TakenInside.{taken_phase, taken_output, sent_by}

@@ -5,7 +5,7 @@ use Rattle.std.proofs.lemmas.List.{append_cancel_left}
 use Rattle.std.proofs.lemmas.List.Elements.{All-head, All-tail}
 use Rattle.dle_framing.specs.declared.item.Item.{Item}
 use Rattle.dle_framing.specs.Items.{items}
-use Rattle.panel_session.specs.declared.asked.Asked.{Asked}
+use Rattle.panel_session.specs.declared.session.asked.Asked.{Asked}
 use Rattle.panel_session.specs.Asked.{AllAsk, sent_to_plant}
 use Rattle.panel_session.specs.Entry.{PlantEntry}
 use Rattle.panel_session.specs.Turns.{Turn, bytes_of, entries_in, entries_of_turns, AreTurns, IsTurn}

@@ -10,10 +10,10 @@ use Rattle.plant_core.specs.declared.answer.Answer.{Answer}
 use Rattle.plant_core.specs.declared.request.Request.{Request}
 use Rattle.plant_core.specs.declared.request.Request.TheVariants.{Told, Poll}
 use Rattle.swp08_messages.specs.declared.message.Message.{Message}
-use Rattle.panel_session.specs.declared.act.Act.TheVariants.{Ask}
+use Rattle.panel_session.specs.declared.session.act.Act.TheVariants.{Ask}
 use Rattle.panel_session.specs.declared.session.Session.{Session}
-use Rattle.panel_session.specs.declared.phase.Phase.{Phase}
-use Rattle.panel_session.specs.declared.phase.Phase.TheVariants.{Read, Tell, Poll as PollStage, End}
+use Rattle.panel_session.specs.declared.session.phase.Phase.{Phase}
+use Rattle.panel_session.specs.declared.session.phase.Phase.TheVariants.{Read, Tell, Poll as PollStage, End}
 use Rattle.panel_session.specs.Acting.{Acts}
 use Rattle.panel_session.specs.MovesInside.{answered_too, silenced, ended_turn}
 use Rattle.panel_session.specs.OutgoingInside.{emptied}

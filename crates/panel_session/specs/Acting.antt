@@ -6,8 +6,8 @@ use Rattle.plant_core.specs.Answer.{room_of}
 use Rattle.plant_core.specs.State.{FitsPlant}
 use Rattle.plant_core.specs.declared.request.Request.{Request}
 use Rattle.plant_core.specs.declared.request.Request.TheVariants.{Told, Poll, Leave, DisplayPoll}
-use Rattle.panel_session.specs.declared.act.Act.{Act}
-use Rattle.panel_session.specs.declared.act.Act.TheVariants.{Send, Ask, Rest}
+use Rattle.panel_session.specs.declared.session.act.Act.{Act}
+use Rattle.panel_session.specs.declared.session.act.Act.TheVariants.{Send, Ask, Rest}
 use Rattle.panel_session.specs.declared.session.Session.{Session}
 use Rattle.panel_session.specs.SoFar.{Progress, read_so_far, entries_so_far, with_bytes, with_sent, with_turn, IsOver}
 use Rattle.panel_session.specs.Text.{IsText}

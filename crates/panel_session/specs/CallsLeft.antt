@@ -2,11 +2,11 @@
 use Rattle.std.specs.Prelude.{ℕ, ◌+◌, ◌-◌, ◌*◌, ◌<◌, ◌≤◌, Bool, true, false}
 use Rattle.plant_config.specs.Plant.{PlantData}
 use Rattle.plant_core.specs.declared.request.Request.{Request}
-use Rattle.panel_session.specs.declared.act.Act.{Act}
-use Rattle.panel_session.specs.declared.act.Act.TheVariants.{Send, Ask, Rest}
+use Rattle.panel_session.specs.declared.session.act.Act.{Act}
+use Rattle.panel_session.specs.declared.session.act.Act.TheVariants.{Send, Ask, Rest}
 use Rattle.panel_session.specs.declared.session.Session.{Session}
-use Rattle.panel_session.specs.declared.phase.Phase.{Phase}
-use Rattle.panel_session.specs.declared.phase.Phase.TheVariants.{Read, Tell, Poll, End}
+use Rattle.panel_session.specs.declared.session.phase.Phase.{Phase}
+use Rattle.panel_session.specs.declared.session.phase.Phase.TheVariants.{Read, Tell, Poll, End}
 use Rattle.panel_session.specs.Session.{Awaits}
 use Rattle.panel_session.specs.SoFar.{Progress}
 

@@ -3,7 +3,7 @@ use Rattle.std.specs.Prelude.{◌≡◌, ℕ, Bool, true, false, List, length, c
 use Rattle.dle_framing.specs.declared.item.Item.{Item}
 use Rattle.dle_framing.specs.declared.item.Item.TheVariants.{Good, Bad, Ack, Nak}
 use Rattle.dle_framing.specs.Items.{items}
-use Rattle.panel_session.specs.declared.counts.Counts.{Counts}
+use Rattle.panel_session.specs.declared.session.counts.Counts.{Counts}
 use Rattle.panel_session.specs.SoFar.{Progress, read_so_far}
 
 abbrev pub is_good_item : Item (List ℕ) → Bool

@@ -2,7 +2,7 @@
 use Rattle.std.specs.Prelude.{◌≡◌, ⊤}
 use Rattle.std.specs.Borrow.{follows_so, MutBor, Fml}
 use mathlib.Core.Option.{none}
-use Rattle.panel_session.specs.declared.leave_line.LeaveLine.{LeaveLine}
+use Rattle.panel_session.specs.declared.traces.leave_line.LeaveLine.{LeaveLine}
 use Rattle.panel_session.specs.contracts.leave_line.LeaveLine.{the_row}
 
 -- It ends as it was, so that another line can be written.

@@ -6,9 +6,9 @@ use Rattle.swp08_messages.specs.Field.{wide_numbers}
 use Rattle.plant_config.specs.Plant.{PlantData}
 use Rattle.plant_names.specs.declared.paged.Paged.{Paged}
 use Rattle.plant_names.specs.Pages.{page_data, page_end, names_of_sources, names_of_dests, source_page_command, dest_page_command}
-use Rattle.panel_session.specs.declared.name_page.NamePage.{NamePage}
-use Rattle.panel_session.specs.declared.name_page.NamesOf.{NamesOf}
-use Rattle.panel_session.specs.declared.name_page.NamesOf.TheVariants.{Sources, Dests}
+use Rattle.panel_session.specs.declared.sending.name_page.NamePage.{NamePage}
+use Rattle.panel_session.specs.declared.sending.name_page.NamesOf.{NamesOf}
+use Rattle.panel_session.specs.declared.sending.name_page.NamesOf.TheVariants.{Sources, Dests}
 use Rattle.panel_session.specs.NamePages.{page_count, page_first, page_from, one_page}
 use Rattle.panel_session.specs.Text.{Output, with_frames}
 

@@ -5,7 +5,7 @@ use Rattle.plant_names.specs.Pages.{max_page_len}
 use Rattle.panel_session.specs.Text.{Output}
 use Rattle.panel_session.specs.declared.sending.Sending.{Sending}
 use Rattle.panel_session.specs.declared.sending.Sending.TheVariants.{Nothing, Ack, Nak, Bytes}
-use Rattle.panel_session.specs.declared.outgoing.Outgoing.TheInside.{Inside}
+use Rattle.panel_session.specs.declared.sending.outgoing.Outgoing.TheInside.{Inside}
 
 -- the most bytes of a message's frame, and of that of a message or a page
 abbrev pub most_message_frame : ℕ

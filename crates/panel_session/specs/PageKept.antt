@@ -1,6 +1,6 @@
 -- How a page that is being filled is kept.
 use Rattle.swp08_messages.specs.Dump.{Page}
-use Rattle.panel_session.specs.declared.dump_page.DumpPage.TheInside.{Inside}
+use Rattle.panel_session.specs.declared.sending.dump_page.DumpPage.TheInside.{Inside}
 
 abbrev pub kept_page : Inside → Page
 kept_page page =

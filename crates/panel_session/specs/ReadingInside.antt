@@ -2,9 +2,9 @@
 use Rattle.std.specs.Prelude.{◌≡◌, ◌≢◌, ℕ, ◌^◌, ◌<◌, Bool, true, false, List, [], ◌++◌, length, take}
 use Rattle.dle_framing.specs.Items.{items}
 use Rattle.plant_config.specs.Plant.{PlantData}
-use Rattle.panel_session.specs.declared.act.Act.{Act}
+use Rattle.panel_session.specs.declared.session.act.Act.{Act}
 use Rattle.panel_session.specs.declared.session.Session.{Session}
-use Rattle.panel_session.specs.declared.phase.Phase.TheVariants.{Read, Poll}
+use Rattle.panel_session.specs.declared.session.phase.Phase.TheVariants.{Read, Poll}
 use Rattle.panel_session.specs.SoFar.{Progress, read_so_far, with_bytes, with_sent}
 use Rattle.panel_session.specs.Session.{Stands, outgoing_of}
 use Rattle.panel_session.specs.Acting.{Acts, MayGoOn}

@@ -3,7 +3,7 @@ use Rattle.std.specs.Prelude.{◌≡◌, ◌≤◌}
 use Rattle.plant_config.specs.Plant.{PlantData}
 use Rattle.panel_session.specs.RoomsInside.{most_named, room_to_send}
 use Rattle.panel_session.specs.Text.{Output}
-use Rattle.panel_session.specs.declared.sender.Sender.TheInside.{Inside}
+use Rattle.panel_session.specs.declared.sending.sender.Sender.TheInside.{Inside}
 
 pub record SenderData : Type 0 where
   pub names : PlantData

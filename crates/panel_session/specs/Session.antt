@@ -9,8 +9,8 @@ use Rattle.plant_core.specs.declared.answer.Answer.{Answer}
 use Rattle.plant_core.specs.declared.request.Request.{Request}
 use Rattle.plant_core.specs.declared.request.Request.TheVariants.{Told, Poll}
 use Rattle.panel_session.specs.declared.session.Session.{Session}
-use Rattle.panel_session.specs.declared.phase.Phase.{Phase}
-use Rattle.panel_session.specs.declared.phase.Phase.TheVariants.{Read, Tell, Poll as PollStage, End}
+use Rattle.panel_session.specs.declared.session.phase.Phase.{Phase}
+use Rattle.panel_session.specs.declared.session.phase.Phase.TheVariants.{Read, Tell, Poll as PollStage, End}
 use Rattle.panel_session.specs.SoFar.{Progress, nothing_yet, read_so_far, with_entry}
 use Rattle.panel_session.specs.StandsInside.{Kept, Keeps}
 use Rattle.panel_session.specs.Counted.{goods_of, bads_of}

@@ -1,7 +1,7 @@
 -- A session whose turns are all over.
 use Rattle.std.specs.Prelude.{◌≡◌, ℕ, false}
 use Rattle.plant_config.specs.Plant.{PlantData}
-use Rattle.panel_session.specs.declared.phase.Phase.TheVariants.{Read}
+use Rattle.panel_session.specs.declared.session.phase.Phase.TheVariants.{Read}
 use Rattle.panel_session.specs.SoFar.{Progress, unread}
 use Rattle.panel_session.specs.StandsInside.{Kept, Keeps}
 use Rattle.panel_session.specs.Text.{Output}

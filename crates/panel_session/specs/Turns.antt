@@ -6,7 +6,7 @@ use Rattle.dle_framing.specs.Items.{items}
 use Rattle.plant_core.specs.declared.request.Request.{Request}
 use Rattle.plant_core.specs.declared.request.Request.TheVariants.{Poll}
 use Rattle.panel_session.specs.Entry.{PlantEntry}
-use Rattle.panel_session.specs.declared.asked.Asked.{Asked}
+use Rattle.panel_session.specs.declared.session.asked.Asked.{Asked}
 use Rattle.panel_session.specs.Asked.{AllAsk, sent_to_plant}
 
 -- One turn: the piece that was read, empty where the panel was idle, the entries of what the panel sent to the plant, and

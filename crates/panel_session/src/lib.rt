@@ -4,33 +4,19 @@
 //! `specs/Text.antt`, the bytes that it sends, and `specs/DisplayPacket.antt`, the packet.
 #![tactic(auto)]
 
-mod act;
-mod answer_frames;
-mod asked;
-mod counts;
-mod dump_page;
 mod laws;
-mod leave_line;
-mod name_frames;
-mod name_page;
-mod outgoing;
 mod outlet;
 mod packet;
-mod phase;
-mod sender;
 mod sending;
 mod session;
-mod spell;
-mod trace_laws;
-mod trace_line;
-mod turn;
+mod traces;
 
-pub use act::Act;
-pub use counts::Counts;
 pub use laws::{display_poll_answers_are_lamps, one_turn, stands_so_far, turns_fit};
 pub use outlet::Outlet;
 pub use packet::display_packet;
 pub use session::Session;
-pub use trace_laws::{lines_end_once, one_entry};
-pub use trace_line::TraceLines;
-pub use turn::run_turn;
+pub use session::act::Act;
+pub use session::counts::Counts;
+pub use session::turn::run_turn;
+pub use traces::trace_laws::{lines_end_once, one_entry};
+pub use traces::trace_line::TraceLines;

@@ -4,6 +4,14 @@ ghost use Rattle.std.specs.Prelude.{◌≡◌, ◌≤◌, length, drop, vec_len,
 ghost use Rattle.panel_session.specs.OutgoingKept.{sent_as};
 ghost use Rattle.panel_session.specs.declared.sending.Sending.TheVariants.{Bytes};
 
+pub(crate) mod answer_frames;
+pub(crate) mod dump_page;
+pub(crate) mod name_frames;
+pub(crate) mod name_page;
+pub(crate) mod outgoing;
+pub(crate) mod sender;
+pub(crate) mod spell;
+
 use dle_framing::{append_ack, append_nak};
 
 // What is to be sent. While a control is sent alone, the bytes stand as they were, with the last frame in them.

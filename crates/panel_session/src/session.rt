@@ -9,16 +9,21 @@ ghost use Rattle.plant_core.specs.Answer.{IsSayable, room_of};
 ghost use Rattle.panel_session.specs.SoFar.{Progress, nothing_yet};
 ghost use Rattle.panel_session.specs.TraceLine.{trace_line};
 
+pub(crate) mod act;
+pub(crate) mod asked;
+pub(crate) mod counts;
 mod moves;
+pub(crate) mod phase;
 mod requests;
+pub(crate) mod turn;
 mod work;
 
-use crate::act::Act;
-use crate::asked::next_asked;
-use crate::counts::Counts;
-use crate::leave_line::LeaveLine;
-use crate::phase::{Phase, phase_behind};
-use crate::sender::Sender;
+use crate::sending::sender::Sender;
+use crate::session::act::Act;
+use crate::session::asked::next_asked;
+use crate::session::counts::Counts;
+use crate::session::phase::{Phase, phase_behind};
+use crate::traces::leave_line::LeaveLine;
 use dle_framing::Framer;
 use history_lock::OutBox;
 use plant_config::{PanelNo, Plant};
@@ -50,7 +55,7 @@ impl<'p> Session<'p> {
     ghost use Rattle.panel_session.specs.Counted.{AreCounts};
     ghost use Rattle.panel_session.specs.Lending.{LendsOutbox, StaysTheSame};
     ghost use Rattle.panel_session.specs.CallsLeft.{phase_left, IsNearer, LeavesLess};
-    ghost use Rattle.panel_session.specs.declared.phase.Phase.TheVariants.{Read};
+    ghost use Rattle.panel_session.specs.declared.session.phase.Phase.TheVariants.{Read};
     ghost use Rattle.panel_session.specs.ReadingInside.{ReadsOn, HasReadOn};
     ghost use Rattle.panel_session.specs.Session.{outgoing_of, outbox_of, StandsFor, Awaits};
     ghost use Rattle.panel_session.specs.Session.{TakesAnswers, BeginsAnew, BeginsAnewUnanswered};

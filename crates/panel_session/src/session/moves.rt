@@ -8,8 +8,8 @@ ghost use Rattle.panel_session.specs.RoomsInside.{fitting};
 ghost use Rattle.panel_session.specs.TakenInside.{IsSending, IsAnswer, IsNoAnswer};
 
 use super::Session;
-use crate::asked::Asked;
-use crate::phase::Phase;
+use crate::session::asked::Asked;
+use crate::session::phase::Phase;
 
 impl Session<'_> {
     // Does what an item asks, and answers whether something is to be sent.

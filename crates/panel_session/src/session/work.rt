@@ -6,12 +6,12 @@ ghost use Rattle.plant_core.specs.declared.request.Request.{Request};
 ghost use Rattle.panel_session.specs.MovesInside.{answered_too};
 ghost use Rattle.panel_session.specs.Run.{IsReady, RunsOn};
 ghost use Rattle.panel_session.specs.WorkInside.{unsent_bytes, IsOnItsWay, WorksOn, GoesOn, Ends};
-ghost use Rattle.panel_session.specs.declared.phase.Phase.TheVariants.{Read};
+ghost use Rattle.panel_session.specs.declared.session.phase.Phase.TheVariants.{Read};
 
 use super::Session;
-use crate::asked::{Asked, next_asked};
 use crate::outlet::Outlet;
-use crate::phase::{Phase, phase_behind};
+use crate::session::asked::{Asked, next_asked};
+use crate::session::phase::{Phase, phase_behind};
 use history_lock::Machine;
 use plant_core::{Answer, Request};
 

@@ -1,5 +1,5 @@
 use Rattle.std.proofs.Common.{[], false, sym, ap, subst, arith}
-use Rattle.panel_session.specs.declared.act.Act.TheVariants.{Rest}
+use Rattle.panel_session.specs.declared.session.act.Act.TheVariants.{Rest}
 use Rattle.panel_session.specs.declared.session.Session.{Session}
 use Rattle.panel_session.specs.Acting.{Acts}
 use Rattle.panel_session.specs.CallsLeft.{unsent_left}

@@ -2,8 +2,8 @@ use Rattle.std.proofs.Common.{ℕ, ◌+◌, ◌^◌, ◌<◌, List, length, take
 use Rattle.std.proofs.lemmas.List.{take_rest, length-drop}
 use Rattle.dle_framing.specs.Items.{items}
 use Rattle.panel_session.specs.declared.session.Session.{Session}
-use Rattle.panel_session.specs.declared.phase.Phase.{Phase}
-use Rattle.panel_session.specs.declared.phase.Phase.TheVariants.{Poll as PollStage}
+use Rattle.panel_session.specs.declared.session.phase.Phase.{Phase}
+use Rattle.panel_session.specs.declared.session.phase.Phase.TheVariants.{Poll as PollStage}
 use Rattle.panel_session.specs.CallsLeft.{phase_left, unsent_left}
 use Rattle.panel_session.proofs.LeftLemmas.{left-by}
 use Rattle.panel_session.specs.ReadingInside.{HasRead}

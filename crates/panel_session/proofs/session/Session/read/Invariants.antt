@@ -2,7 +2,7 @@ use Rattle.std.proofs.Common.{◌≡◌, ℕ, ◌-◌, ◌^◌, ◌<◌, ◌≤�
 use Rattle.dle_framing.specs.Items.{items}
 use Rattle.plant_config.specs.Plant.{PlantData}
 use Rattle.panel_session.specs.SoFar.{Progress, read_so_far, with_bytes}
-use Rattle.panel_session.specs.declared.phase.Phase.TheVariants.{Read}
+use Rattle.panel_session.specs.declared.session.phase.Phase.TheVariants.{Read}
 use Rattle.panel_session.specs.ReadingInside.{IsReading}
 use Rattle.panel_session.proofs.session.Session.read.Given as goal
 

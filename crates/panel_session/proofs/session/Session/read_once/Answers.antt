@@ -1,6 +1,6 @@
 use Rattle.std.proofs.Common.{Option, ap, subst}
 use Rattle.panel_session.specs.AskedInside.{FoundAsks}
-use Rattle.panel_session.specs.declared.asked.Asked.{Asked}
+use Rattle.panel_session.specs.declared.session.asked.Asked.{Asked}
 use Rattle.panel_session.specs.declared.session.Session.{Session}
 use Rattle.panel_session.proofs.LeftLemmas.{taken-most}
 use Rattle.panel_session.proofs.ReadLemmas.{has_passed, has_taken}

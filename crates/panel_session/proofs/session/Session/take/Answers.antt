@@ -1,6 +1,6 @@
 use Rattle.std.proofs.Common.{◌≢◌, [], sym, subst}
 use Rattle.dle_framing.specs.Numbers.{ack}
-use Rattle.panel_session.specs.declared.asked.Asked.{Asked}
+use Rattle.panel_session.specs.declared.session.asked.Asked.{Asked}
 use Rattle.panel_session.specs.NamePages.{name_frames}
 use Rattle.panel_session.specs.OutgoingInside.{emptied}
 use Rattle.panel_session.specs.TakenInside.{sent_by}

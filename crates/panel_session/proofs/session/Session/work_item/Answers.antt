@@ -4,11 +4,11 @@ use Rattle.plant_core.specs.Answer.{IsSayable, room_of}
 use Rattle.plant_core.specs.declared.answer.Answer.{Answer}
 use Rattle.plant_core.specs.declared.request.Request.TheVariants.{Told}
 use Rattle.panel_session.specs.AskedInside.{FoundAsks}
-use Rattle.panel_session.specs.declared.asked.Asked.{Asked}
-use Rattle.panel_session.specs.declared.asked.Asked.TheVariants.{Sent}
+use Rattle.panel_session.specs.declared.session.asked.Asked.{Asked}
+use Rattle.panel_session.specs.declared.session.asked.Asked.TheVariants.{Sent}
 use Rattle.panel_session.specs.declared.session.Session.{Session}
-use Rattle.panel_session.specs.declared.phase.Phase.{Phase}
-use Rattle.panel_session.specs.declared.phase.Phase.TheVariants.{Read}
+use Rattle.panel_session.specs.declared.session.phase.Phase.{Phase}
+use Rattle.panel_session.specs.declared.session.phase.Phase.TheVariants.{Read}
 use Rattle.panel_session.specs.MovesInside.{answered_too}
 use Rattle.panel_session.specs.Session.{outgoing_of, with_outbox}
 use Rattle.panel_session.specs.WorkInside.{HasCome}

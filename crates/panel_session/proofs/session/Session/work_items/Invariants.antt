@@ -1,7 +1,7 @@
 use Rattle.std.proofs.Common.{◌≡◌, false, length}
 use Rattle.plant_core.specs.declared.request.Request.{Request}
 use Rattle.panel_session.specs.WorkInside.{GoesOn}
-use Rattle.panel_session.specs.declared.phase.Phase.TheVariants.{Read}
+use Rattle.panel_session.specs.declared.session.phase.Phase.TheVariants.{Read}
 use Rattle.panel_session.proofs.session.Session.work_items.Given as goal
 
 -- The items so far were worked, and the machine still takes what it took.

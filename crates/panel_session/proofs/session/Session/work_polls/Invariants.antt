@@ -1,7 +1,7 @@
 use Rattle.std.proofs.Common.{◌≡◌, ◌-◌, ◌<◌, false, ℕ, List, []}
 use Rattle.plant_core.specs.declared.request.Request.{Request}
 use Rattle.plant_core.specs.declared.request.Request.TheVariants.{Poll}
-use Rattle.panel_session.specs.declared.act.Act.TheVariants.{Ask}
+use Rattle.panel_session.specs.declared.session.act.Act.TheVariants.{Ask}
 use Rattle.panel_session.specs.declared.session.Session.{Session}
 use Rattle.panel_session.specs.Acting.{Acts}
 use Rattle.panel_session.specs.SoFar.{Progress}

@@ -1,9 +1,0 @@
-use Rattle.std.proofs.Common.{arith}
-use Rattle.panel_session.proofs.RoomLemmas.{names-bounded}
-use Rattle.panel_session.proofs.sender.Sender.new.Goals as goal
-
-pub overflow_mul-most : goal.overflow_mul-most
-overflow_mul-most c = omega (arith, c.count_most-most.ensures.is, names-bounded c.args.plant.now c.count_most-most.ensures.plant)
-
-pub overflow_add-most : goal.overflow_add-most
-overflow_add-most c = omega (arith, c.count_most-most.ensures.is, names-bounded c.args.plant.now c.count_most-most.ensures.plant)

@@ -1,0 +1,300 @@
+//! The lines of a trace, from which the history of a plant can be told.
+
+ghost use Rattle.std.specs.Prelude.{◌≡◌, ◌+◌, ◌*◌, ◌≤◌, ◌++◌, All, length};
+ghost use Rattle.std.specs.Prelude.{vec_len, vec_capacity};
+ghost use Rattle.std.specs.List.{flat_map};
+ghost use Rattle.swp08_messages.specs.Text.{InRange};
+ghost use Rattle.plant_core.specs.Answer.{IsSayable};
+ghost use Rattle.plant_core.specs.Displays.{lamp_limit};
+ghost use Rattle.plant_core.specs.declared.request.Request.TheVariants.{Told, Poll, Leave};
+ghost use Rattle.plant_core.specs.declared.request.Request.TheVariants.{DisplayPoll};
+ghost use Rattle.panel_session.specs.DisplayPacket.{AreLamps, longest_packet};
+ghost use Rattle.panel_session.specs.MostAnswers.{most_answers};
+ghost use Rattle.panel_session.specs.OutgoingKept.{answer_bytes};
+ghost use Rattle.panel_session.specs.Text.{frames_of};
+ghost use Rattle.panel_session.specs.TraceLine.{trace_limit, trace_line, longest_trace_line};
+ghost use Rattle.panel_session.specs.TraceLine.{request_text, reply_text, told_bytes};
+ghost use Rattle.panel_session.specs.TraceLine.{display_reply, MayTrace, MayReply};
+ghost use Rattle.panel_session.specs.TraceInside.{most_request, most_reply};
+
+use crate::packet::display_packet;
+use crate::sending::outgoing::Outgoing;
+use crate::sending::spell::append;
+use line_text::{append_decimal, append_hex};
+use plant_config::{PanelNo, Plant};
+use plant_core::{Answer, Request};
+use std::alloc::{AllocError, Global};
+use std::marker::Model;
+use swp08_messages::Message;
+
+// The most bytes of the frames of 1,024 answers: no page of a dump is longer than the messages of as many answers.
+const MAX_SENT: usize = 1024 * 24;
+
+// The most bytes of the packet of a display poll. The DATA of a message have fewer.
+const MAX_PACKET: usize = 1158;
+
+/// What the lines of a trace are made with. All memory is taken by `new`.
+#[derive(Drop)]
+pub struct TraceLines {
+    // The frames of answers.
+    outgoing: Outgoing,
+    // A packet, or the DATA of a message.
+    spelled: Vec<u8>,
+}
+
+impl Model for TraceLines {
+    ghost use Rattle.std.specs.Prelude.{◌≤◌, vec_capacity};
+    ghost use Rattle.panel_session.specs.DisplayPacket.{longest_packet};
+    ghost use Rattle.panel_session.specs.MostAnswers.{most_answers};
+    ghost use Rattle.panel_session.specs.OutgoingKept.{answer_bytes};
+
+    ghost Value = { Unit {0} };
+
+    ghost view = { λ lines. tt };
+
+    ghost invariant = { λ lines. (answer_bytes most_answers ≤ lines.outgoing.room)
+        × (longest_packet ≤ vec_capacity lines.spelled) };
+}
+
+impl TraceLines {
+    /// Lines can be made with it, of any plant and in any order.
+    pub fn new(alloc: Global) -> Result<TraceLines, AllocError> {
+        Ok(TraceLines {
+            outgoing: Outgoing::new(alloc, MAX_SENT)?,
+            spelled: Vec::with_capacity(alloc, MAX_PACKET)?,
+        })
+    }
+
+    /// Appends the line of an entry of the history, with its LF: of the request at this position, 0 to 2^62, and its answers, at
+    /// most 1,024, and at most 64 to a display poll. It needs 65,537 spare bytes, and takes no memory.
+    pub fn append(
+        &mut self,
+        plant: &Plant,
+        position: u64,
+        request: &Request,
+        answers: &[Answer],
+        out: &mut Vec<u8>,
+    )
+        requires position { position ≤ trace_limit }
+        requires request { MayTrace request.now }
+        requires sayable { All IsSayable answers.now }
+        requires few { length answers.now ≤ most_answers }
+        requires reply { MayReply plant.now request.now answers.now }
+        requires room { vec_len out.old + longest_trace_line ≤ vec_capacity out.old }
+        ensures line { out.new.items
+            ≡ out.old.items ++ trace_line plant.now position request.now answers.now }
+        ensures most { length (trace_line plant.now position request.now answers.now)
+            ≤ longest_trace_line }
+        ensures room { vec_capacity out.new ≡ vec_capacity out.old }
+    {
+        let TraceLines { outgoing, spelled } = self;
+        append_decimal(position, out);
+        append(out, b" ");
+        append_request(request, spelled, out);
+        append(out, b" = ");
+        put_reply(plant, request, answers, outgoing, spelled, out);
+        out.push_reserved(b'\n');
+    }
+
+    /// Appends the reply of an entry alone, as its line tells it. It needs 65,537 spare bytes, and takes no memory.
+    pub fn append_reply(
+        &mut self,
+        plant: &Plant,
+        request: &Request,
+        answers: &[Answer],
+        out: &mut Vec<u8>,
+    )
+        requires sayable { All IsSayable answers.now }
+        requires few { length answers.now ≤ most_answers }
+        requires reply { MayReply plant.now request.now answers.now }
+        requires room { vec_len out.old + longest_trace_line ≤ vec_capacity out.old }
+        ensures text { out.new.items
+            ≡ out.old.items ++ reply_text plant.now request.now answers.now }
+        ensures most { length (reply_text plant.now request.now answers.now)
+            ≤ longest_trace_line }
+        ensures room { vec_capacity out.new ≡ vec_capacity out.old }
+    {
+        let TraceLines {
+            outgoing,
+            spelled: packet,
+        } = self;
+        put_reply(plant, request, answers, outgoing, packet, out);
+    }
+}
+
+// Appends the request of an entry.
+fn append_request(request: &Request, spelled: &mut Vec<u8>, out: &mut Vec<u8>)
+    requires request { MayTrace request.now }
+    requires spelled { longest_packet ≤ vec_capacity spelled.old }
+    requires room { vec_len out.old + most_request ≤ vec_capacity out.old }
+    ensures text { out.new.items ≡ out.old.items ++ request_text request.now }
+    ensures most { vec_len out.new ≤ vec_len out.old + most_request }
+    ensures room { vec_capacity out.new ≡ vec_capacity out.old }
+    ensures spelled { vec_capacity spelled.new ≡ vec_capacity spelled.old }
+{
+    match *request {
+        Request::Told { panel, at, message } => append_told(panel, at, message, spelled, out),
+        Request::Poll { panel, at, turn } => append_poll(panel, at, turn, out),
+        Request::Leave { panel } => append_leave(panel, out),
+        Request::DisplayPoll { screen, refresh } => append_show(screen, refresh, out),
+    }
+}
+
+// Appends what a panel told, its message by the DATA in hexadecimal.
+fn append_told(
+    panel: PanelNo,
+    item: u64,
+    message: Message,
+    spelled: &mut Vec<u8>,
+    out: &mut Vec<u8>,
+)
+    requires in_range { InRange message }
+    requires spelled { longest_packet ≤ vec_capacity spelled.old }
+    requires room { vec_len out.old + most_request ≤ vec_capacity out.old }
+    ensures text { out.new.items ≡ out.old.items ++ request_text (Told panel item message) }
+    ensures most { vec_len out.new ≤ vec_len out.old + most_request }
+    ensures room { vec_capacity out.new ≡ vec_capacity out.old }
+    ensures spelled { vec_capacity spelled.new ≡ vec_capacity spelled.old }
+{
+    spelled.clear();
+    message.write(spelled);
+    append(out, b"told ");
+    append_decimal(u64::from(panel.get()), out);
+    append(out, b" ");
+    append_decimal(item, out);
+    append(out, b" ");
+    append_hex(spelled, out);
+}
+
+// Appends the poll of a panel.
+fn append_poll(panel: PanelNo, item: u64, turn: u64, out: &mut Vec<u8>)
+    requires { vec_len out.old + most_request ≤ vec_capacity out.old }
+    ensures text { out.new.items ≡ out.old.items ++ request_text (Poll panel item turn) }
+    ensures most { vec_len out.new ≤ vec_len out.old + most_request }
+    ensures room { vec_capacity out.new ≡ vec_capacity out.old }
+{
+    append(out, b"poll ");
+    append_decimal(u64::from(panel.get()), out);
+    append(out, b" ");
+    append_decimal(item, out);
+    append(out, b" ");
+    append_decimal(turn, out);
+}
+
+// Appends the leave of a panel.
+pub(crate) fn append_leave(panel: PanelNo, out: &mut Vec<u8>)
+    requires { vec_len out.old + most_request ≤ vec_capacity out.old }
+    ensures text { out.new.items ≡ out.old.items ++ request_text (Leave panel) }
+    ensures most { vec_len out.new ≤ vec_len out.old + most_request }
+    ensures room { vec_capacity out.new ≡ vec_capacity out.old }
+{
+    append(out, b"leave ");
+    append_decimal(u64::from(panel.get()), out);
+}
+
+// Appends the display poll of a screen.
+fn append_show(screen: u16, refresh: bool, out: &mut Vec<u8>)
+    requires { vec_len out.old + most_request ≤ vec_capacity out.old }
+    ensures text { out.new.items ≡ out.old.items ++ request_text (DisplayPoll screen refresh) }
+    ensures most { vec_len out.new ≤ vec_len out.old + most_request }
+    ensures room { vec_capacity out.new ≡ vec_capacity out.old }
+{
+    append(out, b"show ");
+    append_decimal(u64::from(screen), out);
+    if refresh {
+        append(out, b" 1");
+    } else {
+        append(out, b" 0");
+    }
+}
+
+// Appends the reply of an entry.
+fn put_reply(
+    plant: &Plant,
+    request: &Request,
+    answers: &[Answer],
+    outgoing: &mut Outgoing,
+    spelled: &mut Vec<u8>,
+    out: &mut Vec<u8>,
+)
+    requires sayable { All IsSayable answers.now }
+    requires few { length answers.now ≤ most_answers }
+    requires reply { MayReply plant.now request.now answers.now }
+    requires sent { answer_bytes most_answers ≤ outgoing.old.room }
+    requires spelled { longest_packet ≤ vec_capacity spelled.old }
+    requires room { vec_len out.old + most_reply ≤ vec_capacity out.old }
+    ensures text { out.new.items
+        ≡ out.old.items ++ reply_text plant.now request.now answers.now }
+    ensures most { vec_len out.new ≤ vec_len out.old + most_reply }
+    ensures room { vec_capacity out.new ≡ vec_capacity out.old }
+    ensures spelled { vec_capacity spelled.new ≡ vec_capacity spelled.old }
+    ensures sent { outgoing.new.room ≡ outgoing.old.room }
+{
+    match *request {
+        Request::Told { .. } | Request::Poll { .. } | Request::Leave { .. } => {
+            append_sent(answers, outgoing, out);
+        }
+        Request::DisplayPoll { screen, .. } => {
+            append_shown(plant, screen, answers, spelled, out);
+        }
+    }
+}
+
+// Appends the frames that a panel is sent, in hexadecimal.
+fn append_sent(answers: &[Answer], outgoing: &mut Outgoing, out: &mut Vec<u8>)
+    requires sayable { All IsSayable answers.now }
+    requires few { length answers.now ≤ most_answers }
+    requires sent { answer_bytes most_answers ≤ outgoing.old.room }
+    requires room { vec_len out.old + most_reply ≤ vec_capacity out.old }
+    ensures text { out.new.items
+        ≡ out.old.items ++ told_bytes (flat_map (λ sent. sent) (frames_of answers.now)) }
+    ensures most { vec_len out.new ≤ vec_len out.old + most_reply }
+    ensures room { vec_capacity out.new ≡ vec_capacity out.old }
+    ensures sent { outgoing.new.room ≡ outgoing.old.room }
+{
+    outgoing.answer(answers);
+    append_bytes(outgoing.as_slice(), out);
+}
+
+// Appends bytes in hexadecimal, and a dash for none.
+fn append_bytes(bytes: &[u8], out: &mut Vec<u8>)
+    requires few { 2 * length bytes.now ≤ most_reply }
+    requires room { vec_len out.old + most_reply ≤ vec_capacity out.old }
+    ensures text { out.new.items ≡ out.old.items ++ told_bytes bytes.now }
+    ensures most { vec_len out.new ≤ vec_len out.old + most_reply }
+    ensures room { vec_capacity out.new ≡ vec_capacity out.old }
+{
+    match bytes {
+        [] => append(out, b"-"),
+        [_, ..] => append_hex(bytes, out),
+    }
+}
+
+// Appends what a screen is sent: the packet of the lamps, or that all is finished.
+fn append_shown(
+    plant: &Plant,
+    screen: u16,
+    answers: &[Answer],
+    spelled: &mut Vec<u8>,
+    out: &mut Vec<u8>,
+)
+    requires few { length answers.now ≤ lamp_limit }
+    requires lamps { AreLamps plant.now answers.now }
+    requires spelled { longest_packet ≤ vec_capacity spelled.old }
+    requires room { vec_len out.old + most_reply ≤ vec_capacity out.old }
+    ensures text { out.new.items
+        ≡ out.old.items ++ display_reply plant.now screen answers.now }
+    ensures most { vec_len out.new ≤ vec_len out.old + most_reply }
+    ensures room { vec_capacity out.new ≡ vec_capacity out.old }
+    ensures spelled { vec_capacity spelled.new ≡ vec_capacity spelled.old }
+{
+    match answers {
+        [] => append(out, b"-"),
+        [Answer::Finished, ..] => append(out, b"finished"),
+        [_, ..] => {
+            spelled.clear();
+            display_packet(plant, screen, answers, spelled);
+            append_hex(spelled, out);
+        }
+    }
+}
