@@ -71,6 +71,7 @@ impl Shown {
 }
 
 // So many times no value.
+// kit: `vec![in alloc; None; count]` of values beside a plant meets a fault of the prover; so the function is generic.
 fn none_of_each<T: Copy>(alloc: Global, count: usize) -> Result<Vec<Option<T>>, AllocError>
     ensures { IfOk result (λ values. values.items ≡ replicate count None) }
 {

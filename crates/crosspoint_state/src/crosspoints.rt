@@ -51,6 +51,7 @@ impl Crosspoints {
     pub fn source_at(&self, dest: DestId) -> Option<SourceId>
         ensures { result ≡ source_of self.now.entries dest }
     {
+        // kit: `self.at(dest).map(|spot| spot.source)` gets no proof, as the type of a field is named nowhere here.
         match self.at(dest) {
             Some(Spot { source, .. }) => Some(source),
             None => None,

@@ -29,8 +29,8 @@ pub enum Answer {
     Finished,
 }
 
-// Puts an answer behind the others. The arm for lamps is there for the check: it names the types of what a lamp has, which a
-// function must do that calls a generic one with an answer.
+// Puts an answer behind the others.
+// kit: `out.put(answer)` alone gets no proof, as no type of what a lamp has is named here; so lamps have an arm.
 pub(crate) fn put(answer: Answer, out: &mut OutBox<Answer>)
     requires { length out.old.items < out.old.places }
     ensures items { out.new.items ≡ out.old.items ++ answer ∷ [] }

@@ -118,6 +118,7 @@ impl Picture<'_> {
 }
 
 // Shows a display a value, and answers a lamp for it.
+// kit: `value: Value`, used twice, isn't copied, since its numbers have a model; so it goes by reference.
 fn light(display: DisplayId, value: &Value, shown: &mut Shown, out: &mut OutBox<Answer>)
     requires below { display < length shown.old }
     requires places { length out.old.items < out.old.places }

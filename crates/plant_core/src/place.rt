@@ -7,6 +7,7 @@ ghost use Rattle.plant_core.specs.Salvos.{message_place};
 use plant_config::Point;
 
 // A message's place as the plant's.
+// kit: `impl From<swp08_messages::Point> for Point` is an impl of another crate's trait for another crate's type.
 pub(crate) fn place_of(at: swp08_messages::Point) -> Point
     ensures { result ≡ record { matrix = at.matrix; level = at.level; dest = at.dest } }
 {

@@ -22,6 +22,7 @@ pub(crate) fn write_number<K: Sink>(out: &mut K, front: &[u8], number: u64, end:
 }
 
 // Appends these parts one after the other, and answers whether it could.
+// kit: `a && b && c` over one sink loses the clauses of its arms; so each function has one `&&`.
 pub(crate) fn write_parts<K: Sink>(out: &mut K, front: &[u8], middle: &[u8], end: &[u8]) -> bool
     ensures all { OnTrue result
         (K.written out.new ≡ appended (K.written out.old) (front.now ++ middle.now ++ end.now)) }

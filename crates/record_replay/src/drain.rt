@@ -7,8 +7,9 @@ ghost use Rattle.ctl_io.specs.Sink.{appended, AppendsPart};
 
 use ctl_io::{Sink, Write};
 
-/// A sink as an output sees it. It doesn't say that it can be moved to another thread, as `Sink` does: in a method of
-/// another trait, as `Outlet::give`, no call can rest on that.
+/// A sink as an output sees it.
+// kit: `Sink` says that it can be moved to another thread, and in a method of another trait's impl, as `Outlet::give`, no
+// call can rest on that; so a drain doesn't say it.
 pub(crate) trait Drain {
     /// The bytes that were appended, where the sink shows them.
     ghost written: { Self → Option (List ℕ) };

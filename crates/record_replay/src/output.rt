@@ -19,6 +19,7 @@ use plant_config::PanelNo;
 const MOST_BYTES: usize = 32 << 10;
 
 /// An output that lines are put into. Where a write of its sink fails, it drops what comes later.
+// kit: with a `Vec` of its own the caller would know nothing of the sink after the drop; so the buffer is lent too.
 #[derive(Drop)]
 pub(crate) struct Output<'k, K: Drain> {
     out: &'k mut K,
