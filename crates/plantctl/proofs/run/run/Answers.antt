@@ -1,12 +1,30 @@
-use Rattle.std.proofs.Common.{inl, [], refl, sym}
+use Rattle.std.proofs.Common.{inl, [], refl, sym, subst}
+use Rattle.std.specs.Prelude.{MatchOption}
 use Rattle.ctl_io.proofs.SinkLemmas.{appended-nil}
-use Rattle.plantctl.specs.End.{Usage}
+use Rattle.plantctl.specs.End.{NoMemory, Usage}
+use Rattle.plantctl.specs.Words.{Ask, HasNoForm, texts}
+use Rattle.plantctl.specs.StopInside.{asked}
 use Rattle.plantctl.proofs.run.run.Goals as goal
 
-pub returns-in-None : goal.returns-in-None
-returns-in-None g c = record {
-  end = Usage;
-  cause = inl (record { no_form = c.in-None.ensures; end_is = refl; files = refl });
+pub returns-in-Ok-None : goal.returns-in-Ok-None
+returns-in-Ok-None g c =
+    let words = texts c.args.words.now in
+    record {
+      end = Usage;
+      cause = inl (record {
+        ends = subst (λ read. MatchOption read (HasNoForm words) (λ command. Ask words (asked command))) c.in-Ok-None.field-0-is c.in-Ok-None.ensures.read;
+        files = refl;
+      });
+      comes = record { status_is = refl; front = []; text_is = refl; appends = sym (appended-nil _) };
+      fault = refl;
+      file_faults = refl;
+      output_faults = refl;
+    }
+
+pub returns-in-Err : goal.returns-in-Err
+returns-in-Err g c = record {
+  end = NoMemory;
+  cause = inl (record { ends = c.in-Err.ensures.no_memory; files = refl });
   comes = record { status_is = refl; front = []; text_is = refl; appends = sym (appended-nil _) };
   fault = refl;
   file_faults = refl;
