@@ -21,6 +21,7 @@ mod DefaultNames
 pub mod BenchLemmas
 pub mod OriginLemmas
 mod LevelsLemmas
+pub mod PartsLemmas
 pub mod OneMore
 pub mod OfFileLemmas
 pub mod FactsOfFile

@@ -6,6 +6,7 @@ pub mod NamesOfLevel
 pub mod IsPlant
 pub mod Origins
 pub mod LevelsInside
+pub mod PartsInside
 pub mod PlantInside
 pub mod Bench
 pub mod PlantOfFile

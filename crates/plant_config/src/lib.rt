@@ -7,6 +7,7 @@ mod levels;
 mod limits;
 mod numbers;
 mod of_file;
+mod parts;
 mod plant;
 mod readers;
 mod records;

@@ -7,12 +7,11 @@ ghost use Rattle.plant_config.specs.Plant.{destinations_of, sources_of};
 ghost use Rattle.plant_config.specs.IsPlant.{IsPlant};
 ghost use Rattle.plant_config.specs.Sites.{dest_at, source_at, level_at, level_of};
 ghost use Rattle.plant_config.specs.Sites.{point_of, source_number_of};
-ghost use Rattle.plant_config.specs.Bench.{bench, bench_sources, bench_dest_names};
+ghost use Rattle.plant_config.specs.Bench.{bench};
 
-use crate::levels::Levels;
 use crate::numbers::{DestId, SourceId};
-use crate::records::{Bus, Device, Display, Level, Panel, Point, Pool, Source};
-use plant_file::{Name, Server, Text};
+use crate::parts::{Mixing, Parts, Routing, Service};
+use crate::records::{Level, Panel, Point};
 use std::alloc::{AllocError, Global};
 use std::marker::Model;
 
@@ -21,23 +20,6 @@ use std::marker::Model;
 pub struct Plant {
     // Behind one pointer: a plant is moved and let go in one step.
     pub(crate) parts: Box<Parts>,
-}
-
-// The parts of a plant.
-#[derive(Debug, Drop)]
-pub(crate) struct Parts {
-    pub(crate) title: Text,
-    pub(crate) server: Server,
-    pub(crate) levels: Levels,
-    pub(crate) sources: Vec<Source>,
-    pub(crate) dest_names: Vec<Name>,
-    pub(crate) pools: Vec<Pool>,
-    pub(crate) devices: Vec<Device>,
-    pub(crate) buses: Vec<Bus>,
-    pub(crate) air: Vec<DestId>,
-    pub(crate) preview: Vec<DestId>,
-    pub(crate) displays: Vec<Display>,
-    pub(crate) panels: Vec<Panel>,
 }
 
 impl Model for Plant {
@@ -55,41 +37,13 @@ impl Model for Plant {
 
 impl Plant {
     /// The bench plant: one level of 32 by 32 with default names, and two panels, the second a master.
-    #[tactic(auto, unfolding(crate::specs::Bench::bench))]
     pub fn bench(alloc: Global) -> Result<Plant, AllocError>
         ensures { IfOk result (λ plant. plant ≡ bench) }
     {
-        let level = Level {
-            matrix: 0,
-            level: 0,
-            first_source: 0,
-            sources: 32,
-            first_dest: 0,
-            destinations: 32,
-        };
-        let panel = Panel {
-            device: 1,
-            port: 9001,
-            master: false,
-        };
-        let master = Panel {
-            device: 2,
-            port: 9002,
-            master: true,
-        };
         let parts = Parts {
-            title: Text::of(alloc, "Bench")?,
-            server: Server::given(alloc)?,
-            levels: Levels::of(alloc, [level].to_vec(alloc)?)?,
-            sources: bench_sources(alloc)?,
-            dest_names: bench_dest_names(alloc)?,
-            pools: Vec::new(alloc),
-            devices: Vec::new(alloc),
-            buses: Vec::new(alloc),
-            air: Vec::new(alloc),
-            preview: Vec::new(alloc),
-            displays: Vec::new(alloc),
-            panels: [panel, master].to_vec(alloc)?,
+            routing: Routing::bench(alloc)?,
+            mixing: Mixing::bench(alloc),
+            service: Service::bench(alloc)?,
         };
         Ok(Plant {
             parts: Box::new(alloc, parts)?,
@@ -102,18 +56,9 @@ impl Plant {
         ensures plant { IsPlant self.now }
     {
         let parts = Parts {
-            title: self.parts.title.copy(alloc)?,
-            server: self.parts.server.copy(alloc)?,
-            levels: self.parts.levels.copy(alloc)?,
-            sources: self.parts.sources.as_slice().to_vec(alloc)?,
-            dest_names: self.parts.dest_names.as_slice().to_vec(alloc)?,
-            pools: self.parts.pools.as_slice().to_vec(alloc)?,
-            devices: self.parts.devices.as_slice().to_vec(alloc)?,
-            buses: self.parts.buses.as_slice().to_vec(alloc)?,
-            air: self.parts.air.as_slice().to_vec(alloc)?,
-            preview: self.parts.preview.as_slice().to_vec(alloc)?,
-            displays: self.parts.displays.as_slice().to_vec(alloc)?,
-            panels: self.parts.panels.as_slice().to_vec(alloc)?,
+            routing: self.parts.routing.copy(alloc)?,
+            mixing: self.parts.mixing.copy(alloc)?,
+            service: self.parts.service.copy(alloc)?,
         };
         Ok(Plant {
             parts: Box::new(alloc, parts)?,
@@ -125,7 +70,7 @@ impl Plant {
         ensures levels { result.now ≡ self.now.levels }
         ensures plant { IsPlant self.now }
     {
-        self.parts.levels.as_slice()
+        self.parts.routing.levels.as_slice()
     }
 
     /// The panels, in the order of their numbers.
@@ -133,7 +78,7 @@ impl Plant {
         ensures panels { result.now ≡ self.now.panels }
         ensures plant { IsPlant self.now }
     {
-        self.parts.panels.as_slice()
+        self.parts.service.panels.as_slice()
     }
 
     /// The level of this matrix and this level number. `None` where the plant has no such level.
@@ -141,7 +86,7 @@ impl Plant {
         ensures at { result ≡ level_at self.now matrix level }
         ensures plant { IsPlant self.now }
     {
-        self.parts.levels.at(matrix, level)
+        self.parts.routing.levels.at(matrix, level)
     }
 
     /// The destination of this number at a level. `None` where the plant has no such level or the level no such
@@ -183,7 +128,7 @@ impl Plant {
         ensures found { result ≡ level_of dest_numbers self.now dest }
         ensures plant { IsPlant self.now }
     {
-        self.parts.levels.of_dest(dest)
+        self.parts.routing.levels.of_dest(dest)
     }
 
     // The level that has this source.
@@ -191,7 +136,7 @@ impl Plant {
         ensures found { result ≡ level_of source_numbers self.now source }
         ensures plant { IsPlant self.now }
     {
-        self.parts.levels.of_source(source)
+        self.parts.routing.levels.of_source(source)
     }
 
     /// The place of a destination.
@@ -222,32 +167,6 @@ impl Plant {
         ensures count { result ≡ destinations_of self.now }
         ensures plant { IsPlant self.now }
     {
-        self.parts.dest_names.len() as u32
+        self.parts.routing.dest_names.len() as u32
     }
-}
-
-// The sources of the bench plant, all local and with default names.
-fn bench_sources(alloc: Global) -> Result<Vec<Source>, AllocError>
-    ensures { IfOk result (λ made. made.items ≡ bench_sources) }
-{
-    let mut sources = Vec::new(alloc);
-    for number in 0..32u16 {
-        sources.push(Source {
-            name: Name::numbered(b'S', number),
-            origin: SourceId::of(u32::from(number)),
-            pool: None,
-        })?;
-    }
-    Ok(sources)
-}
-
-// The names of the bench plant's destinations.
-fn bench_dest_names(alloc: Global) -> Result<Vec<Name>, AllocError>
-    ensures { IfOk result (λ made. made.items ≡ bench_dest_names) }
-{
-    let mut names = Vec::new(alloc);
-    for number in 0..32u16 {
-        names.push(Name::numbered(b'D', number))?;
-    }
-    Ok(names)
 }

@@ -17,7 +17,7 @@ impl Plant {
         ensures title { result.now ≡ self.now.title }
         ensures plant { IsPlant self.now }
     {
-        &self.parts.title
+        &self.parts.service.title
     }
 
     /// How the plant is served.
@@ -25,7 +25,7 @@ impl Plant {
         ensures server { result.now ≡ self.now.server }
         ensures plant { IsPlant self.now }
     {
-        &self.parts.server
+        &self.parts.service.server
     }
 
     /// The sources, in the order of their numbers.
@@ -33,7 +33,7 @@ impl Plant {
         ensures sources { result.now ≡ self.now.sources }
         ensures plant { IsPlant self.now }
     {
-        self.parts.sources.as_slice()
+        self.parts.routing.sources.as_slice()
     }
 
     /// The names of the destinations, in the order of their numbers.
@@ -41,7 +41,7 @@ impl Plant {
         ensures names { result.now ≡ self.now.dest_names }
         ensures plant { IsPlant self.now }
     {
-        self.parts.dest_names.as_slice()
+        self.parts.routing.dest_names.as_slice()
     }
 
     /// The pools of tie-lines, in the order of their numbers.
@@ -49,7 +49,7 @@ impl Plant {
         ensures pools { result.now ≡ self.now.pools }
         ensures plant { IsPlant self.now }
     {
-        self.parts.pools.as_slice()
+        self.parts.routing.pools.as_slice()
     }
 
     /// The devices, in the order of their numbers.
@@ -57,7 +57,7 @@ impl Plant {
         ensures devices { result.now ≡ self.now.devices }
         ensures plant { IsPlant self.now }
     {
-        self.parts.devices.as_slice()
+        self.parts.mixing.devices.as_slice()
     }
 
     /// The buses, in the order of their numbers: those of one device stand together.
@@ -65,7 +65,7 @@ impl Plant {
         ensures buses { result.now ≡ self.now.buses }
         ensures plant { IsPlant self.now }
     {
-        self.parts.buses.as_slice()
+        self.parts.mixing.buses.as_slice()
     }
 
     /// The destinations that are on air, each once.
@@ -73,7 +73,7 @@ impl Plant {
         ensures air { result.now ≡ self.now.air }
         ensures plant { IsPlant self.now }
     {
-        self.parts.air.as_slice()
+        self.parts.mixing.air.as_slice()
     }
 
     /// The destinations that are on preview, each once.
@@ -81,7 +81,7 @@ impl Plant {
         ensures preview { result.now ≡ self.now.preview }
         ensures plant { IsPlant self.now }
     {
-        self.parts.preview.as_slice()
+        self.parts.mixing.preview.as_slice()
     }
 
     /// The displays, in the order of their numbers.
@@ -89,7 +89,7 @@ impl Plant {
         ensures displays { result.now ≡ self.now.displays }
         ensures plant { IsPlant self.now }
     {
-        self.parts.displays.as_slice()
+        self.parts.service.displays.as_slice()
     }
 
     /// How many sources the plant has in all.
@@ -97,7 +97,7 @@ impl Plant {
         ensures count { result ≡ sources_of self.now }
         ensures plant { IsPlant self.now }
     {
-        self.parts.sources.len() as u32
+        self.parts.routing.sources.len() as u32
     }
 
     /// The local source that a source stands for, itself where it is local.
@@ -107,7 +107,7 @@ impl Plant {
         ensures local { is_local self.now result ≡ true }
         ensures below { result < sources_of self.now }
     {
-        self.parts.sources[source.get() as usize].origin
+        self.parts.routing.sources[source.get() as usize].origin
     }
 
     /// The pool of tie-lines that leads to a source, `None` where it is local.
@@ -116,7 +116,7 @@ impl Plant {
         ensures pool { result ≡ pool_of self.now source }
         ensures below { IfSome result (λ pool. pool < length self.now.pools) }
     {
-        self.parts.sources[source.get() as usize].pool
+        self.parts.routing.sources[source.get() as usize].pool
     }
 
     /// A pool of tie-lines.
@@ -125,7 +125,7 @@ impl Plant {
         ensures pool { slice_get self.now.pools pool ≡ Some result }
         ensures plant { IsPlant self.now }
     {
-        self.parts.pools[pool.get() as usize]
+        self.parts.routing.pools[pool.get() as usize]
     }
 
     /// The name of a source, 1 to 12 printable bytes.
@@ -134,7 +134,9 @@ impl Plant {
         ensures named { source_name_of self.now source ≡ Some result.now }
         ensures name { IsName result.now }
     {
-        self.parts.sources[source.get() as usize].name.as_bytes()
+        self.parts.routing.sources[source.get() as usize]
+            .name
+            .as_bytes()
     }
 
     /// The name of a destination, 1 to 12 printable bytes.
@@ -143,6 +145,6 @@ impl Plant {
         ensures named { dest_name_of self.now dest ≡ Some result.now }
         ensures name { IsName result.now }
     {
-        self.parts.dest_names[dest.get() as usize].as_bytes()
+        self.parts.routing.dest_names[dest.get() as usize].as_bytes()
     }
 }

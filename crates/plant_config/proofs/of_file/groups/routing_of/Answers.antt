@@ -1,0 +1,29 @@
+use Rattle.std.proofs.Common.{All, map, flat_map, ap, sym, subst, ◌∙◌}
+use Rattle.plant_file.specs.FileData.{LevelData}
+use Rattle.plant_config.specs.PlantOfFile.{plant_of_file, levels_of, sources_at, pool_in}
+use Rattle.plant_config.specs.Limits.{all_destinations_limit, all_sources_limit}
+use Rattle.plant_config.specs.Plant.{dest_numbers, source_numbers}
+use Rattle.plant_config.specs.LevelsInside.{IsInGrid, AreNumbered}
+use Rattle.plant_config.proofs.LevelsOfFile.{each_level, length-levels_of, dests_follow, sources_follow, all_dests, all_sources}
+use Rattle.plant_config.proofs.of_file.groups.routing_of.Goals as goal
+
+pub of-requires : goal.of-requires
+of-requires c =
+    let file = c.args.file.now in
+    let numbered = c.requires.numbered in
+    let in_grid : All IsInGrid (levels_of file) = λ k d inside. let level = each_level file c.requires.file k d inside in (level.matrix, level.level) in
+    record {
+      in_grid = subst (All IsInGrid) (sym numbered) in_grid;
+      few = rw (numbered, length-levels_of file c.requires.file) c.requires.file.ranges.levels.0.1;
+      dests = subst (AreNumbered dest_numbers all_destinations_limit) (sym numbered) (record { follow = dests_follow file c.requires.file; few = rw (all_dests file c.requires.file) c.requires.file.destinations });
+      sources = subst (AreNumbered source_numbers all_sources_limit) (sym numbered) (record { follow = sources_follow file c.requires.file; few = rw (all_sources file c.requires.file) c.requires.file.sources });
+    }
+
+pub returns : goal.returns
+unfolding plant_of_file
+returns c = record {
+  levels = c.in_ok-of.ensures ∙ c.requires.numbered;
+  sources = c.in_ok-sources.ensures ∙ ap (flat_map (sources_at c.args.file.now)) c.requires.ordered;
+  dest_names = c.in_ok-dest_names.ensures ∙ ap (flat_map (λ (level : LevelData). level.destination_names)) c.requires.ordered;
+  pools = c.in_ok-pools.ensures ∙ ap (map pool_in) c.pools.ensures;
+}
