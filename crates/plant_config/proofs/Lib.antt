@@ -22,6 +22,7 @@ pub mod BenchLemmas
 pub mod OriginLemmas
 mod LevelsLemmas
 pub mod PartsLemmas
+pub mod ScreenLemmas
 pub mod OneMore
 pub mod OfFileLemmas
 pub mod FactsOfFile

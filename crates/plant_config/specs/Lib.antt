@@ -5,6 +5,8 @@ pub mod Sources
 pub mod NamesOfLevel
 pub mod IsPlant
 pub mod Origins
+pub mod Screens
+pub mod DisplaysInside
 pub mod LevelsInside
 pub mod PartsInside
 pub mod PlantInside

@@ -23,5 +23,5 @@ pub record HasMixing (plant : PlantData) (mixing : Mixing) : Type 0 where
 pub record HasService (plant : PlantData) (service : Service) : Type 0 where
   pub title : service.title ≡ plant.title
   pub server : service.server ≡ plant.server
-  pub displays : service.displays.items ≡ plant.displays
+  pub displays : service.displays ≡ plant.displays
   pub panels : service.panels.items ≡ plant.panels

@@ -15,7 +15,7 @@ data_of parts = record {
   buses = parts.mixing.buses.items;
   air = parts.mixing.air.items;
   preview = parts.mixing.preview.items;
-  displays = parts.service.displays.items;
+  displays = parts.service.displays;
   panels = parts.service.panels.items;
 }
 

@@ -6,6 +6,7 @@ ghost use Rattle.plant_config.specs.Plant.{PlantData, dest_numbers, source_numbe
 ghost use Rattle.plant_config.specs.IsPlant.{IsPlant};
 ghost use Rattle.plant_config.specs.Sites.{LeadBothWays};
 ghost use Rattle.plant_config.specs.Origins.{OriginsAreLocal, PoolsLeadAcross, BusesDiffer};
+ghost use Rattle.plant_config.specs.Screens.{ScreensAreOfDisplays};
 ghost use Rattle.plant_config.specs.Bench.{bench, bench_file};
 ghost use Rattle.plant_config.specs.PlantOfFile.{plant_of_file};
 
@@ -53,4 +54,9 @@ pub fn pools_lead_across()
 /// No destination is two buses.
 pub fn buses_differ()
     ensures { (plant : PlantData) → IsPlant plant → BusesDiffer plant }
+{}
+
+/// The screens of a plant ascend, each once, and a number is among them exactly where a display has it.
+pub fn screens_are_of_displays()
+    ensures { (plant : PlantData) → IsPlant plant → ScreensAreOfDisplays plant }
 {}

@@ -5,9 +5,10 @@ ghost use Rattle.plant_config.specs.Plant.{PlantData};
 ghost use Rattle.plant_config.specs.Bench.{bench, bench_sources, bench_dest_names};
 ghost use Rattle.plant_config.specs.PartsInside.{HasRouting, HasMixing, HasService};
 
+use crate::displays::Displays;
 use crate::levels::Levels;
 use crate::numbers::{DestId, SourceId};
-use crate::records::{Bus, Device, Display, Level, Panel, Pool, Source};
+use crate::records::{Bus, Device, Level, Panel, Pool, Source};
 use plant_file::{Name, Server, Text};
 use std::alloc::{AllocError, Global};
 
@@ -42,7 +43,7 @@ pub(crate) struct Mixing {
 pub(crate) struct Service {
     pub(crate) title: Text,
     pub(crate) server: Server,
-    pub(crate) displays: Vec<Display>,
+    pub(crate) displays: Displays,
     pub(crate) panels: Vec<Panel>,
 }
 
@@ -129,7 +130,7 @@ impl Service {
         Ok(Service {
             title: Text::of(alloc, "Bench")?,
             server: Server::given(alloc)?,
-            displays: Vec::new(alloc),
+            displays: Displays::of(alloc, Vec::new(alloc))?,
             panels: [panel, master].to_vec(alloc)?,
         })
     }
@@ -142,7 +143,7 @@ impl Service {
         Ok(Service {
             title: self.title.copy(alloc)?,
             server: self.server.copy(alloc)?,
-            displays: self.displays.as_slice().to_vec(alloc)?,
+            displays: self.displays.copy(alloc)?,
             panels: self.panels.as_slice().to_vec(alloc)?,
         })
     }

@@ -4,6 +4,7 @@ ghost use Rattle.std.specs.Prelude.{◌≡◌, ◌<◌, true, length, slice_get,
 ghost use Rattle.plant_file.specs.Ranges.{IsName};
 ghost use Rattle.plant_config.specs.Plant.{destinations_of, sources_of};
 ghost use Rattle.plant_config.specs.IsPlant.{IsPlant, is_local};
+ghost use Rattle.plant_config.specs.Screens.{screens_of, has_screen};
 ghost use Rattle.plant_config.specs.Sources.{origin_of, pool_of, source_name_of, dest_name_of};
 
 use crate::numbers::{DestId, PoolId, SourceId};
@@ -90,6 +91,22 @@ impl Plant {
         ensures plant { IsPlant self.now }
     {
         self.parts.service.displays.as_slice()
+    }
+
+    /// The screens, ascending, each once: those that displays are on.
+    pub fn screens(&self) -> &[u16]
+        ensures screens { result.now ≡ screens_of self.now }
+        ensures plant { IsPlant self.now }
+    {
+        self.parts.service.displays.screens()
+    }
+
+    /// Whether the plant has a screen: some display is on it. The displays aren't looked through.
+    pub fn has_screen(&self, screen: u16) -> bool
+        ensures has { result ≡ has_screen self.now screen }
+        ensures plant { IsPlant self.now }
+    {
+        self.parts.service.displays.has_screen(screen)
     }
 
     /// How many sources the plant has in all.

@@ -7,6 +7,7 @@ ghost use Rattle.plant_config.specs.PlantOfFile.{plant_of_file, in_order, levels
 ghost use Rattle.plant_config.specs.OfFileInside.{AreLow, HasFewSources, shown};
 
 use super::{devices, levels, parts, sources};
+use crate::displays::Displays;
 use crate::levels::Levels;
 use crate::parts::{Mixing, Routing, Service};
 use crate::records::Level;
@@ -63,6 +64,7 @@ pub fn mixing(alloc: Global, file: &PlantFile, levels: &[Level]) -> Result<Mixin
 
 /// How the plant is served, by its levels.
 pub fn service(alloc: Global, file: &PlantFile, levels: &[Level]) -> Result<Service, AllocError>
+    requires file { IsFile file.now }
     requires numbered { levels.now ≡ levels_of file.now }
     requires low { AreLow levels.now }
     ensures { IfOk result (HasService (plant_of_file file.now)) }
@@ -70,7 +72,7 @@ pub fn service(alloc: Global, file: &PlantFile, levels: &[Level]) -> Result<Serv
     Ok(Service {
         title: file.title().copy(alloc)?,
         server: file.server().copy(alloc)?,
-        displays: parts::displays(alloc, levels, file.displays())?,
+        displays: Displays::of(alloc, parts::displays(alloc, levels, file.displays())?)?,
         panels: parts::panels(alloc, file.panels())?,
     })
 }

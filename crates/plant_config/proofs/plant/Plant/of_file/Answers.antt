@@ -20,7 +20,7 @@ unfolding plant_of_file
 service-requires c =
     let file = c.args.file.now in
     let numbered = c.as_slice-levels.ensures ∙ c.in_ok-routing.ensures.levels in
-    record { numbered = numbered; low = subst AreLow (sym numbered) (AreLow-levels file c.requires) }
+    record { file = c.requires; numbered = numbered; low = subst AreLow (sym numbered) (AreLow-levels file c.requires) }
 
 pub returns : goal.returns
 returns c =
