@@ -6,7 +6,8 @@ use Rattle.std.specs.List.Sorted.{IsStrictlyIncreasing}
 use Rattle.plant_config.specs.declared.records.Display.{Display}
 use Rattle.plant_config.specs.Plant.{PlantData}
 use Rattle.change_boards.specs.declared.value.Value.{Value}
-use Rattle.change_boards.specs.Screens.{displays_of, has_screen}
+use Rattle.change_boards.specs.Screens.{displays_of}
+use Rattle.plant_config.specs.Screens.{has_screen}
 use Rattle.change_boards.specs.Shown.{Shown, last, differs, with_shown, with_forgotten}
 
 -- whether a display of this number is one of the plant, and on this screen

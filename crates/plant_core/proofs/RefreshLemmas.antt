@@ -7,7 +7,8 @@ use Rattle.std.proofs.lemmas.Bool.{cases_eq, cases_lt, both_ways, eq-eqb}
 use Rattle.std.proofs.lemmas.List.{get_or-set_same, get_or-set_other, get_or_past, set_past}
 use Rattle.std.proofs.lemmas.List.Elements.{All-nil, All-cons, All-head, All-tail, All-take, All-filter, All-weaker, All-contains_itself}
 use Rattle.change_boards.specs.declared.value.Value.{Value}
-use Rattle.change_boards.specs.Screens.{displays_of, has_screen}
+use Rattle.change_boards.specs.Screens.{displays_of}
+use Rattle.plant_config.specs.Screens.{has_screen}
 use Rattle.change_boards.specs.Shown.{Shown, is_same, last, with_shown, with_forgotten}
 use Rattle.plant_core.specs.declared.request.Request.TheVariants.{DisplayPoll}
 use Rattle.plant_core.specs.State.{State, IsValid}

@@ -14,7 +14,8 @@ use Rattle.std.proofs.lemmas.List.Elements.{All-from_recursion, All-weaker}
 use Rattle.std.proofs.lemmas.Map.Keys.{IsDistinct-head, IsDistinct-tail, IsDistinct-cons}
 use Rattle.plant_config.specs.declared.records.Display.{Display}
 use Rattle.plant_config.specs.Plant.{PlantData}
-use Rattle.change_boards.specs.Screens.{by_index, displays_of, has_screen}
+use Rattle.change_boards.specs.Screens.{by_index, displays_of}
+use Rattle.plant_config.specs.Screens.{has_screen}
 
 -- the displays of entries
 abbrev numbers : List (ℕ × ℕ) → List ℕ

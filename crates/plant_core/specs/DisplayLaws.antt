@@ -5,7 +5,8 @@ use Rattle.swp08_messages.specs.declared.point.Point.{Point}
 use Rattle.swp08_messages.specs.declared.message.Message.TheVariants.{Connect, Go}
 use Rattle.change_boards.specs.declared.value.Value.{Value}
 use Rattle.change_boards.specs.Notices.{has_left}
-use Rattle.change_boards.specs.Screens.{displays_of, has_screen}
+use Rattle.change_boards.specs.Screens.{displays_of}
+use Rattle.plant_config.specs.Screens.{has_screen}
 use Rattle.change_boards.specs.Shown.{last}
 use Rattle.plant_core.specs.declared.request.Request.{Request}
 use Rattle.plant_core.specs.declared.request.Request.TheVariants.{Told, DisplayPoll}

@@ -23,7 +23,7 @@ use Rattle.change_boards.specs.Board.{Board}
 use Rattle.change_boards.specs.Notices as notices
 use Rattle.change_boards.specs.Laws.{AreBoards}
 use Rattle.change_boards.specs.declared.value.Value.{Value}
-use Rattle.change_boards.specs.Screens.{has_screen}
+use Rattle.plant_config.specs.Screens.{has_screen}
 use Rattle.change_boards.specs.Shown as displays
 use Rattle.plant_core.specs.declared.request.Request.{Request}
 use Rattle.plant_core.specs.declared.request.Request.TheVariants.{Told, Poll, Leave, DisplayPoll}

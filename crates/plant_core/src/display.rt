@@ -3,7 +3,7 @@
 ghost use Rattle.std.specs.Prelude.{◌≡◌, ◌<◌, ◌≤◌, nat_eq, true, if◌then◌else◌};
 ghost use Rattle.std.specs.Prelude.{[], ◌∷◌, ◌++◌, length};
 ghost use Rattle.std.specs.List.{IsDistinct, list_any, range_with_len};
-ghost use Rattle.change_boards.specs.Screens.{has_screen};
+ghost use Rattle.plant_config.specs.Screens.{has_screen};
 ghost use Rattle.change_boards.specs.Shown.{differs as is_news, with_shown};
 ghost use Rattle.tally.specs.Tally.{IsTallyOf, CarrySources};
 ghost use Rattle.plant_core.specs.declared.answer.Answer.TheVariants.{Lamp};

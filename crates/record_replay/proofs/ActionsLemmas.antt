@@ -9,7 +9,7 @@ use Rattle.dle_framing.proofs.Readings.{reading-by_start}
 use Rattle.history_lock.specs.History.{run, IsLegal}
 use Rattle.history_lock.proofs.HistoryLemmas.{run-append, legal-append}
 use Rattle.plant_config.specs.Plant.{PlantData}
-use Rattle.change_boards.specs.Screens.{has_screen}
+use Rattle.plant_config.specs.Screens.{has_screen}
 use Rattle.plant_core.specs.State.{State, Fits, FitsPlant, start}
 use Rattle.plant_core.specs.Step.{step}
 use Rattle.plant_core.specs.declared.request.Request.{Request}

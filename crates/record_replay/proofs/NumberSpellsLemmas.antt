@@ -8,7 +8,7 @@ use Rattle.std.proofs.lemmas.List.Elements.{All-nil, All-cons, All-head, All-tai
 use Rattle.std.proofs.lemmas.List.Folds.{list_any_more}
 use Rattle.plant_config.specs.declared.records.Display.{Display}
 use Rattle.plant_config.specs.Plant.{PlantData}
-use Rattle.change_boards.specs.Screens.{has_screen}
+use Rattle.plant_config.specs.Screens.{has_screen}
 use Rattle.line_text.specs.Decimal.{IsDigit}
 use Rattle.record_replay.specs.Script.{NumberSpells}
 use Rattle.record_replay.specs.LineInside.{SpellsNoScreen}

@@ -2,7 +2,7 @@
 use Rattle.std.specs.Prelude.{◌≡◌, ◌⊎◌, ℕ, ◌<◌, ◌≤◌, Bool, true, false, List, ◌∷◌, ◌++◌, length, Ok}
 use Rattle.hex.specs.Hex.{decode_of}
 use Rattle.plant_config.specs.Plant.{PlantData}
-use Rattle.change_boards.specs.Screens.{has_screen}
+use Rattle.plant_config.specs.Screens.{has_screen}
 use Rattle.record_replay.specs.declared.line.Line as code
 use Rattle.record_replay.specs.declared.line.Line.TheVariants as found
 use Rattle.swp08_messages.specs.declared.message.Message.{Message}

@@ -3,7 +3,7 @@ use Rattle.std.specs.Prelude.{◌≡◌, ◌⊎◌, ℕ, ◌+◌, ◌<◌, ◌�
 use Rattle.hex.specs.Hex.{decode_of}
 use Rattle.swp08_messages.specs.declared.message.Message.{Message}
 use Rattle.plant_config.specs.Plant.{PlantData}
-use Rattle.change_boards.specs.Screens.{has_screen}
+use Rattle.plant_config.specs.Screens.{has_screen}
 use Rattle.record_replay.specs.Take.{connect_named, message_frame}
 use Rattle.line_text.specs.Decimal.{SpellsDecimal}
 pub use Rattle.line_text.specs.Cut.{space, longest_line, HasNo}

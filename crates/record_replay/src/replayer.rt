@@ -2,7 +2,7 @@
 
 ghost use Rattle.std.specs.Prelude.{◌≡◌, ℕ, ◌+◌, ◌*◌, ◌<◌, true, List, [], ◌∷◌, length, IfOk};
 ghost use Rattle.plant_config.specs.IsPlant.{IsPlant};
-ghost use Rattle.change_boards.specs.Screens.{has_screen};
+ghost use Rattle.plant_config.specs.Screens.{has_screen};
 ghost use Rattle.record_replay.specs.OutputInside.{Puts};
 ghost use Rattle.record_replay.specs.Script.{Work, Read, Leave, Show, lines, worked, LinesSpell};
 ghost use Rattle.record_replay.specs.Replay.{begun};

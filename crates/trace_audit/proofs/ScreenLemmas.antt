@@ -8,7 +8,7 @@ use Rattle.std.proofs.lemmas.List.Folds.{list_any_more}
 use Rattle.plant_config.specs.declared.records.Display.{Display}
 use Rattle.plant_config.specs.Plant.{PlantData}
 use Rattle.plant_config.specs.IsPlant.{IsDisplay, IsPlant}
-use Rattle.change_boards.specs.Screens.{has_screen}
+use Rattle.plant_config.specs.Screens.{has_screen}
 use Rattle.panel_session.specs.TraceLine.{trace_limit}
 use Rattle.trace_audit.specs.LineInside.{is_on}
 

@@ -1,6 +1,7 @@
 use Rattle.std.proofs.Common.{not, ap, length, ◌∙◌}
 use Rattle.std.specs.Prelude.{◌==◌}
-use Rattle.change_boards.specs.Screens.{has_screen, displays_at}
+use Rattle.change_boards.specs.Screens.{displays_at}
+use Rattle.plant_config.specs.Screens.{has_screen}
 use Rattle.plant_core.specs.declared.tables.Tables.{Tables}
 use Rattle.plant_core.specs.State.{State}
 use Rattle.plant_core.proofs.ScreenLemmas.{displays-some}
