@@ -6,4 +6,5 @@ mod of_history_lock;
 mod of_line_text;
 mod of_number_tables;
 mod of_swp08_messages;
+mod of_tap_lists;
 mod of_tsl_umd5;

@@ -1,0 +1,9 @@
+pub mod ListLemmas
+pub mod NeighbourLemmas
+pub mod ColumnLemmas
+pub mod WalkLemmas
+pub mod LinkLemmas
+pub mod UnlinkLemmas
+pub mod PlaceLemmas
+pub mod EmptyLemmas
+pub mod LawLemmas

@@ -1,0 +1,20 @@
+//! What is true of all lists, not only of those that a program makes.
+
+ghost use Rattle.tap_lists.specs.Lists.{Lists};
+ghost use Rattle.tap_lists.specs.Laws.{LinksPutFirst, UnlinksTakeOut, WalksAnswerAll};
+
+/// A link puts a member first in one list, and leaves every other list as it was.
+pub fn links_put_first()
+    ensures { (lists : Lists) → LinksPutFirst lists }
+{}
+
+/// An unlink leaves a member under no head, its list without it, and every other list as it was.
+pub fn unlinks_take_out()
+    ensures { (lists : Lists) → UnlinksTakeOut lists }
+{}
+
+/// A first read of a list, and a read behind each member that is answered, answer all members of the list in their order
+/// and then nothing: one read more than there are members.
+pub fn walks_answer_all()
+    ensures { (lists : Lists) → WalksAnswerAll lists }
+{}
