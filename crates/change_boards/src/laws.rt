@@ -36,7 +36,7 @@ pub fn leaves_are_of_one_panel()
 /// Whoever has left has no notices and gets none, and all notices are of destinations of the plant, whatever is
 /// marked, taken and left.
 pub fn boards_stay_boards()
-    ensures start_boards { (panels count : ℕ) → AreBoards (start_boards panels) panels count }
+    ensures start { (panels count : ℕ) → AreBoards (start_boards panels) panels count }
     ensures stay { (boards : List Board) (panels count : ℕ) → AreBoards boards panels count →
         StayBoards boards panels count }
 {}

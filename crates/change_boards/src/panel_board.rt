@@ -115,7 +115,7 @@ impl PanelBoard {
     #[inline(always)]
     pub(crate) fn take_lowest(&mut self) -> Option<(DestId, Sort)>
         ensures next { result ≡ next self.old }
-        ensures without_next { self.new ≡ without_next self.old }
+        ensures taken { self.new ≡ without_next self.old }
         ensures none { IsNone result ↔ IsEmpty self.old }
     {
         let (dest, sort) = self.next()?;

@@ -8,7 +8,7 @@ use Rattle.swp08_messages.specs.declared.message.Message.TheVariants.{Interrogat
 use Rattle.plant_config.specs.declared.records.Change.{Change}
 use Rattle.plant_config.specs.Plant.{destinations_of}
 use Rattle.crosspoint_state.specs.Crosspoints.{is_idle}
-use Rattle.protects.specs.Owners.{allows, may_lift, without_next as taken_owner, lifted}
+use Rattle.protects.specs.Owners.{allows, may_lift, taken as taken_owner, lifted}
 use Rattle.salvo_groups.specs.Groups.{Group, group_of}
 use Rattle.change_boards.specs.declared.sort.Sort.{Sort}
 use Rattle.change_boards.specs.declared.sort.Sort.TheVariants.{Source, Protect}

@@ -7,7 +7,7 @@ use Rattle.swp08_messages.specs.declared.message.Message.{Message}
 use Rattle.swp08_messages.specs.declared.message.Message.TheVariants.{Interrogate, Connect, ProtectConnect, ProtectDisconnect, ProtectTally, ProtectConnected, ProtectDisconnected, Store, Go}
 use Rattle.plant_config.specs.declared.records.Change.{Change}
 use Rattle.crosspoint_state.specs.Crosspoints.{is_idle}
-use Rattle.protects.specs.Owners.{allows, may_lift, without_next, lifted}
+use Rattle.protects.specs.Owners.{allows, may_lift, taken, lifted}
 use Rattle.salvo_groups.specs.Groups.{Group, group_of}
 use Rattle.change_boards.specs.declared.sort.Sort.{Sort}
 use Rattle.change_boards.specs.declared.sort.Sort.TheVariants.{Source, Protect}
@@ -53,8 +53,8 @@ module _ (state : State) (panel dest : ℕ) (sort : Sort) (stands : has state.bo
   protect_keeps p at None = stands
   protect_keeps p at (Some d) =
       let device : ℕ = device_of state.plant p in
-      elim (allows state.owners device d) as (λ b. has (cond b (says (with_owners state p d (without_next state.owners device d)) (owner_told ProtectConnected at (Some device))) (says state (owner_told ProtectTally at (finite.get state.owners d)))).state.boards panel dest sort ≡ true) [
-        | true ↦ owners_keep p d (has_same_owner state.owners (without_next state.owners device d) d)
+      elim (allows state.owners device d) as (λ b. has (cond b (says (with_owners state p d (taken state.owners device d)) (owner_told ProtectConnected at (Some device))) (says state (owner_told ProtectTally at (finite.get state.owners d)))).state.boards panel dest sort ≡ true) [
+        | true ↦ owners_keep p d (has_same_owner state.owners (taken state.owners device d) d)
         | false ↦ stands
       ]
 

@@ -63,12 +63,12 @@ IsValid-start plant is = record {
         ] in
         cc
 
-    none_stored : (number : ℕ) → All (IsChangeOf plant) (group_of salvos.start number)
+    none_stored : (number : ℕ) → All (IsChangeOf plant) (group_of salvos.start_groups number)
     none_stored number =
-        let empty : group_of salvos.start number ≡ [] =
+        let empty : group_of salvos.start_groups number ≡ [] =
         elim (cases_lt number salvo_limit) [
           | inl within ↦ get_or-replicate salvo_limit number [] [] within
-          | inr past ↦ get_or_past salvos.start number [] (omega (arith, past, length-replicate {A = Group} salvo_limit []))
+          | inr past ↦ get_or_past salvos.start_groups number [] (omega (arith, past, length-replicate {A = Group} salvo_limit []))
         ] in
         subst (All (IsChangeOf plant)) (sym empty) (All-nil (IsChangeOf plant))
 

@@ -45,8 +45,8 @@ start plant = record {
   plant = plant;
   crosspoints = empty;
   owners = empty;
-  groups = salvos.start;
-  boards = notices.start (length plant.panels);
+  groups = salvos.start_groups;
+  boards = notices.start_boards (length plant.panels);
   shown = displays.never_shown (length plant.displays);
 }
 

@@ -87,7 +87,7 @@ impl PageAsk {
         requires level { head.level < 16 }
         requires names { length names.now ≤ pages.most_names self.size }
         requires room { vec_len out.old + pages.max_page_len ≤ vec_capacity out.old }
-        ensures text { out.new.items ≡ out.old.items ++ pages.page_text head.command head.matrix
+        ensures text { out.new.items ≡ out.old.items ++ pages.names_text head.command head.matrix
             head.level self.size self.first names.now }
         ensures room { vec_capacity out.new ≡ vec_capacity out.old }
         ensures most { vec_len out.new ≤ vec_len out.old + pages.max_page_len }

@@ -69,9 +69,9 @@ polled-tell k (entry ∷ entries) =
     all_tell-append (frames_of answers) (polled_at k entries) (frames-tell answers) (polled-tell k entries)
 
 -- So do those of pages of names.
-page_of_names-tells : (command matrix level size first : ℕ) (names : List (List ℕ)) → IsTelling (frame (pages.page_text command matrix level size first names))
+page_of_names-tells : (command matrix level size first : ℕ) (names : List (List ℕ)) → IsTelling (frame (pages.names_text command matrix level size first names))
 page_of_names-tells command matrix level size first names =
-    inr (inr (pages.page_text command matrix level size first names, (command, matrix, level, size, first, names, refl), refl))
+    inr (inr (pages.names_text command matrix level size first names, (command, matrix, level, size, first, names, refl), refl))
 
 each-tells : (page_of : ℕ → List ℕ) → ((number : ℕ) → IsTelling (frame (page_of number))) → (numbers : List ℕ) → AllTell (map frame (map page_of numbers))
 each-tells page_of tells [] = tt
@@ -81,7 +81,7 @@ one_page-tells : (command matrix level size number : ℕ) (names : Option (List 
 one_page-tells command matrix level size number None = tt
 one_page-tells command matrix level size number (Some names) =
     let its = page_names true size number names in
-    elim (nat_lt number (length names)) as (λ test. AllTell (map frame (if test then pages.page_text command matrix level size number its ∷ [] else []))) [
+    elim (nat_lt number (length names)) as (λ test. AllTell (map frame (if test then pages.names_text command matrix level size number its ∷ [] else []))) [
       | true ↦ (page_of_names-tells command matrix level size number its, tt)
       | false ↦ tt
     ]

@@ -16,7 +16,7 @@ use Rattle.record_replay.specs.Laws.{Action, Turned, Left, Polled, pieces_of}
 abbrev pub IsPageOfNames : List ℕ → Type 0
 IsPageOfNames bytes =
     (command matrix level size first : ℕ) × (names : List (List ℕ))
-    × (bytes ≡ pages.page_text command matrix level size first names)
+    × (bytes ≡ pages.names_text command matrix level size first names)
 
 -- A frame that tells a panel something: that of a message, of a page of a dump, or of a page of names.
 abbrev pub IsTelling : List ℕ → Type 0

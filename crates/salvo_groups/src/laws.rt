@@ -29,14 +29,14 @@ pub fn clears_are_of_one_group()
 
 /// No group ever has more than 256 entries, or two of one destination, whatever is stored and cleared.
 pub fn groups_stay_groups()
-    ensures start_groups { AreGroups start_groups }
+    ensures start { AreGroups start_groups }
     ensures stay { (groups : List Group) → AreGroups groups → StayGroups groups }
 {}
 
 /// Groups have only what was stored: they begin with no entries, so that all of them pass every test, and whatever test
 /// all entries pass, they go on passing it, if each change that is stored passes it.
 pub fn groups_have_only_what_was_stored()
-    ensures start_groups { (test : Change → Bool) → EntriesPass test start_groups }
+    ensures start { (test : Change → Bool) → EntriesPass test start_groups }
     ensures stay { (test : Change → Bool) (groups : List Group) → EntriesPass test groups →
         GoOnPassing test groups }
 {}
