@@ -28,3 +28,4 @@ pub mod LampLemmas
 pub mod TraceLemmas
 pub mod TraceEntry
 pub mod TraceEnds
+pub mod ScreenLemmas

@@ -1,12 +1,8 @@
 -- The number that digits spell.
-use Rattle.std.proofs.Common.{◌≡◌, ◌≢◌, ℕ, suc, ◌+◌, ◌<◌, ◌⊎◌, inl, inr, Bool, true, false, List, ◌∷◌, [], length, get_or, take, All, refl, sym, ◌∙◌, ap, arith}
-use Rattle.std.specs.Prelude.{◌==◌, ◌||◌}
-use Rattle.std.specs.List.{list_any}
+use Rattle.std.proofs.Common.{◌≡◌, ◌≢◌, ℕ, suc, ◌<◌, ◌⊎◌, inl, inr, true, false, List, ◌∷◌, [], length, All, refl, sym, ◌∙◌, ap, arith}
 use Rattle.std.specs.Str.Parse.{digits_value}
-use Rattle.std.proofs.lemmas.Bool.{cases_lt, true≢false, ne_eqb}
+use Rattle.std.proofs.lemmas.Bool.{cases_lt, true≢false}
 use Rattle.std.proofs.lemmas.List.Elements.{All-nil, All-cons, All-head, All-tail}
-use Rattle.std.proofs.lemmas.List.Folds.{list_any_more}
-use Rattle.plant_config.specs.declared.records.Display.{Display}
 use Rattle.plant_config.specs.Plant.{PlantData}
 use Rattle.plant_config.specs.Screens.{has_screen}
 use Rattle.line_text.specs.Decimal.{IsDigit}
@@ -79,13 +75,3 @@ screen_of_digits plant text = elim (number_or text) [
         absurd (true≢false (sym has ∙ ap (has_screen plant) (sym same) ∙ hasnt)))
   ] refl
 ]
-
--- a display is on this screen
-abbrev pub is_on : ℕ → Display → Bool
-is_on screen display = display.screen == screen
-
--- No display so far is on a screen, and the next one isn't.
-pub none_on-more : (displays : List Display) (screen i : ℕ) (d : Display) → i < length displays → list_any (is_on screen) (take i displays) ≡ false → (get_or displays i d).screen ≢ screen
-    → list_any (is_on screen) (take (i + 1) displays) ≡ false
-none_on-more displays screen i d below none other =
-    list_any_more (is_on screen) displays i d below ∙ (λ k. none k || ne_eqb (get_or displays i d).screen screen other k)

@@ -34,14 +34,14 @@ pub(crate) fn read_screen(plant: &Plant, digits: &[u8]) -> Option<u16>
         (SpellsNoScreen plant.now digits.now)
         (λ screen. SpellsScreen plant.now digits.now screen) }
 {
-    let displays = plant.displays();
     let number = read_number(digits)?;
-    for display in displays {
-        if u32::from(display.screen) == number {
-            return Some(display.screen);
-        }
+    // No display is on screen 65,535, so this number may stand for all that are greater.
+    let screen = number.min(65_535) as u16;
+    if plant.has_screen(screen) {
+        Some(screen)
+    } else {
+        None
     }
-    None
 }
 
 // The number that digits spell, `None` where a text isn't one to five digits.

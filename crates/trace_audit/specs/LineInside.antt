@@ -1,14 +1,13 @@
 -- What the code finds in a line, field by field.
-use Rattle.std.specs.Prelude.{◌≡◌, ◌⊎◌, ℕ, ◌+◌, ◌-◌, ◌*◌, ◌<◌, ◌≤◌, ◌==◌, nat_lt, if◌then◌else◌, Bool, true, List, ◌∷◌, ◌++◌, All, length, slice_index_or}
+use Rattle.std.specs.Prelude.{◌≡◌, ◌⊎◌, ℕ, ◌+◌, ◌-◌, ◌*◌, ◌<◌, ◌≤◌, nat_lt, if◌then◌else◌, true, List, ◌∷◌, ◌++◌, All, length, slice_index_or}
 use Rattle.std.specs.Int.{IsInRange}
-use Rattle.std.specs.List.{list_any}
 use Rattle.std.specs.Fmt.{decimal}
 use Rattle.hex.specs.Hex.{encode_upper}
 use Rattle.line_text.specs.Cut.{space}
 use Rattle.swp08_messages.specs.declared.message.Message.{Message}
 use Rattle.swp08_messages.specs.Text.{text as text_of}
-use Rattle.plant_config.specs.declared.records.Display.{Display}
 use Rattle.plant_config.specs.Plant.{PlantData}
+use Rattle.plant_config.specs.Screens.{has_screen}
 use Rattle.plant_core.specs.State.{FitsPlant, IsForPlant}
 use Rattle.plant_core.specs.declared.request.Request.{Request}
 use Rattle.panel_session.specs.TraceLine.{trace_limit, request_text}
@@ -50,10 +49,6 @@ pub record IsHex (text : List ℕ) : Type 0 where
   pub each : All (λ byte. byte < 256) bytes
   pub text_is : text ≡ encode_upper bytes
 
--- whether a display is on a screen
-abbrev pub is_on : ℕ → Display → Bool
-is_on screen display = display.screen == screen
-
 -- A text is the canonical DATA of a message for the plant, in hexadecimal.
 pub record IsMessageText (text : List ℕ) (message : Message) : Type 0 where
   pub for_plant : IsForPlant message
@@ -74,7 +69,7 @@ pub record BeginsWithPanel (plant : PlantData) (text : List ℕ) (panel : ℕ) (
 pub record BeginsWithScreen (plant : PlantData) (text : List ℕ) (screen : ℕ) (behind : List ℕ)
     : Type 0 where
   pub number : BeginsWithNumber text screen behind
-  pub has_screen : list_any (is_on screen) plant.displays ≡ true
+  pub has_screen : has_screen plant screen ≡ true
 
 -- A text begins with the canonical DATA of a message for the plant, in hexadecimal, and a space.
 pub record BeginsWithMessage (text : List ℕ) (message : Message) (behind : List ℕ) : Type 0 where

@@ -1,17 +1,16 @@
 //! The request that a line tells.
 
-ghost use Rattle.std.specs.Prelude.{◌≡◌, ◌++◌, ℕ, Bool, true, List, codes, Some, IfSome};
-ghost use Rattle.std.specs.List.{list_any};
+ghost use Rattle.std.specs.Prelude.{◌≡◌, ◌++◌, ℕ, Bool, List, codes, Some, IfSome};
 ghost use Rattle.std.specs.Option.{IsSomeAnd};
 ghost use Rattle.swp08_messages.specs.declared.message.Message.{Message};
 ghost use Rattle.plant_config.specs.IsPlant.{IsPlant};
 ghost use Rattle.plant_core.specs.declared.request.Request.{Request};
 ghost use Rattle.plant_core.specs.declared.request.Request.TheVariants as requests;
 ghost use Rattle.trace_audit.specs.LineInside.{BeginsWithRequest, BeginsWithPanel};
-ghost use Rattle.trace_audit.specs.LineInside.{BeginsWithScreen, is_on};
+ghost use Rattle.trace_audit.specs.LineInside.{BeginsWithScreen};
 
 use crate::field::{behind, take_message, take_number};
-use plant_config::{Display, PanelNo, Plant};
+use plant_config::{PanelNo, Plant};
 use plant_core::Request;
 
 // The request that a text begins with, which fits the plant, and what stands behind the space there.
@@ -178,26 +177,14 @@ fn take_screen<'t>(plant: &Plant, text: &'t [u8]) -> Option<(u16, &'t [u8])>
         → IsSomeAnd result (λ found. (found.0 ≡ screen) × (found.1.now ≡ behind)) }
     ensures plant { IsPlant plant.now }
 {
-    let displays = plant.displays();
     let Some((number, rest)) = take_number(text) else {
         return None;
     };
-    let Some(screen) = screen_of(displays, number) else {
-        return None;
-    };
-    Some((screen, rest))
-}
-
-// The screen of this number, if one of the displays is on it.
-fn screen_of(displays: &[Display], number: u64) -> Option<u16>
-    ensures found { IfSome result
-        (λ screen. (screen ≡ number) × (list_any (is_on screen) displays.now ≡ true)) }
-    ensures only { list_any (is_on number) displays.now ≡ true → result ≡ Some number }
-{
-    for display in displays {
-        if u64::from(display.screen) == number {
-            return Some(display.screen);
-        }
+    // No display is on screen 65,535, so this number may stand for all that are greater.
+    let screen = number.min(65_535) as u16;
+    if plant.has_screen(screen) {
+        Some((screen, rest))
+    } else {
+        None
     }
-    None
 }
