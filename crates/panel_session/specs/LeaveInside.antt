@@ -3,7 +3,7 @@ use Rattle.std.specs.Prelude.{◌≡◌, ⊤}
 use Rattle.std.specs.Borrow.{follows_so, MutBor, Fml}
 use mathlib.Core.Option.{none}
 use Rattle.panel_session.specs.declared.traces.leave_line.LeaveLine.{LeaveLine}
-use Rattle.panel_session.specs.contracts.leave_line.LeaveLine.{the_row}
+use Rattle.panel_session.specs.contracts.traces.leave_line.LeaveLine.{the_row}
 
 -- It ends as it was, so that another line can be written.
 abbrev pub LineStays : MutBor LeaveLine → Fml

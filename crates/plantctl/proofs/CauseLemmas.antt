@@ -86,7 +86,7 @@ formless_end words TraceTooLong none ends = absurd ends
 
 -- a command ends at its plant's word, or behind the plant that this leads to
 
-goes_behind : (word : List ℕ) (held : Held) (opened : Result PlantData End) (Next : PlantData → End → Type 0) (end : End) → OpensPlant word held opened → GoesOn Next opened end
+goes_behind : (word : List ℕ) (held : Held) (opened : Result PlantData End) (Next : PlantData → End → Type 0) (end : End) → OpensPlant word held opened → ThenEnds Next opened end
     → OpensPlant word held (Err end) ⊎ ((plant : PlantData) × OpensPlant word held (Ok plant))
 goes_behind word held (Ok plant) Next end opens ends = inr (plant, opens)
 goes_behind word held (Err stopped) Next end opens ends = inl (subst (λ (e : End). OpensPlant word held (Err e)) (sym ends) opens)

@@ -96,7 +96,7 @@ says plant panel past settled =
     record {
       asked = asked;
       ask = subst AskOf (sym k.end_in ∙ ap items read) (all_ask-append (items (bytes_of past.turns)) k.ended k.before k.asked k.ask_before k.ask);
-      told = subst ToldIn entries k.replayer.2;
+      told = subst ToldIn entries k.phase.2;
       none = subst NoneOf read (subst NoneIn entries k.none_from);
       bytes = ap (λ (entries : List PlantEntry). (output_of plant entries asked).bytes) (sym entries) ∙ ap (λ (output : Output). output.bytes) k.output ∙ append-nil past.sent;
     }

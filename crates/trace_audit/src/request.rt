@@ -177,6 +177,8 @@ fn take_screen<'t>(plant: &Plant, text: &'t [u8]) -> Option<(u16, &'t [u8])>
         → IsSomeAnd result (λ found. (found.0 ≡ screen) × (found.1.now ≡ behind)) }
     ensures plant { IsPlant plant.now }
 {
+    // kit: what is true of every plant is learnt from a reader's clause alone, also where a line has no number.
+    let _screens = plant.screens();
     let Some((number, rest)) = take_number(text) else {
         return None;
     };

@@ -38,21 +38,21 @@ fn one_panel_connects_and_another_hears_of_it(rt: HostRuntime) -> Result<(), Fai
         dest: 5,
     };
     let source = Some(3);
-    let made = Answer::Say(Message::Connected { at, source });
+    let made = Message::Connected { at, source };
 
     let connect = Request::Told {
         panel: PanelNo::of(1),
         at: 0,
         message: Message::Connect { at, source },
     };
-    is_answered(&rt, &mut state, &mut out, &connect, &[made]);
+    is_answered(&rt, &mut state, &mut out, &connect, &[Answer::Say(made)]);
 
     let poll = Request::Poll {
         panel: PanelNo::of(0),
         at: 0,
         turn: 0,
     };
-    is_answered(&rt, &mut state, &mut out, &poll, &[made]);
+    is_answered(&rt, &mut state, &mut out, &poll, &[Answer::Say(made)]);
     is_answered(&rt, &mut state, &mut out, &poll, &[]);
     Ok(())
 }
