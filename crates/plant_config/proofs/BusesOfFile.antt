@@ -9,7 +9,7 @@ use Rattle.std.proofs.lemmas.Slice.Eq.{bytes_eq-Decides}
 use Rattle.plant_file.specs.FileData.{FileData}
 use Rattle.plant_file.specs.declared.entries.DeviceEntry.{DeviceEntry}
 use Rattle.plant_file.specs.declared.entries.BusEntry.{BusEntry}
-use Rattle.plant_file.specs.IsFile.{IsFile}
+use Rattle.plant_rules.specs.IsFile.{IsFile}
 use Rattle.plant_config.specs.declared.records.Bus.{Bus}
 use Rattle.plant_config.specs.IsPlant.{buses_of}
 use Rattle.plant_config.specs.PlantOfFile.{named_buses, device_in, bus_in, plant_of_file}

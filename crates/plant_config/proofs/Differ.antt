@@ -5,7 +5,7 @@ use Rattle.std.proofs.lemmas.Bool.Decides.{Decides-eqb}
 use Rattle.std.proofs.lemmas.List.{get_or-map, length-map}
 use Rattle.std.proofs.lemmas.Map.Made.{AllPairs-from_IsDistinct, IsDistinct-from_AllPairs}
 use Rattle.std.proofs.lemmas.Slice.Eq.{bytes_eq-Decides}
-use Rattle.plant_file.specs.IsFile.{AllDiffer}
+use Rattle.plant_rules.specs.IsFile.{AllDiffer}
 
 module _ {X : Type 0} (key : X → List ℕ) where
   pub pairs_differ : (xs : List X) → AllDiffer (map key xs) → AllPairs (λ x y. key x ≢ key y) xs

@@ -6,7 +6,7 @@ use Rattle.std.proofs.lemmas.List.Filters.{sum_by-filter_both}
 use Rattle.plant_file.specs.FileData.{FileData, LevelData}
 use Rattle.plant_file.specs.Limits.{matrix_limit, level_limit}
 use Rattle.plant_file.specs.Ranges.{IsLevelData}
-use Rattle.plant_file.specs.IsFile.{IsFile}
+use Rattle.plant_rules.specs.IsFile.{IsFile}
 use Rattle.plant_config.specs.PlantOfFile.{placed, in_order, levels_of, order}
 use Rattle.plant_config.specs.OfFileInside.{IsLow, AreLow, HasFewSources}
 

@@ -6,7 +6,7 @@ use Rattle.std.proofs.lemmas.List.Elements.{All-map}
 use Rattle.std.proofs.lemmas.List.Sorted.{All-permutation, length_permutation, sum_by-IsPermutation}
 use Rattle.std.proofs.lemmas.List.Sums.{sum_by-cons}
 use Rattle.plant_file.specs.FileData.{LevelData, FileData}
-use Rattle.plant_file.specs.IsFile.{IsFile}
+use Rattle.plant_rules.specs.IsFile.{IsFile}
 use Rattle.plant_config.specs.Plant.{dest_numbers, source_numbers, AreNumberedFrom}
 use Rattle.plant_config.specs.IsPlant.{IsLevel, rank}
 use Rattle.plant_config.specs.PlantOfFile.{order, in_order, placed, levels_of}

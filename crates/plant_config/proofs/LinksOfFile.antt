@@ -14,9 +14,9 @@ use Rattle.plant_file.specs.declared.entries.SwitchEntry.{SwitchEntry}
 use Rattle.plant_file.specs.declared.entries.BusEntry.{BusEntry}
 use Rattle.plant_file.specs.declared.entries.RootEntry.{RootEntry}
 use Rattle.plant_file.specs.Ranges.{IsSwitchEntry, IsBusEntry, AreEntries}
-use Rattle.plant_file.specs.Rules.{output_key, bus_key, root_key}
-use Rattle.plant_file.specs.Links.{has_source, has_destination}
-use Rattle.plant_file.specs.IsFile.{IsLinkedDevice, IsLinkedBus, IsLinkedSwitch, IsMainDestination, IsFile}
+use Rattle.plant_rules.specs.Rules.{output_key, bus_key, root_key}
+use Rattle.plant_rules.specs.Links.{has_source, has_destination}
+use Rattle.plant_rules.specs.IsFile.{IsLinkedDevice, IsLinkedBus, IsLinkedSwitch, IsMainDestination, IsFile}
 use Rattle.plant_config.specs.declared.records.Pool.{Pool}
 use Rattle.plant_config.specs.declared.records.Device.{Device}
 use Rattle.plant_config.specs.declared.records.Bus.{Bus}

@@ -7,8 +7,8 @@ use Rattle.plant_file.specs.FileData.{LevelData, FileData}
 use Rattle.plant_file.specs.declared.entries.RemoteEntry.{RemoteEntry}
 use Rattle.plant_file.specs.declared.entries.PoolEntry.{PoolEntry}
 use Rattle.plant_file.specs.Ranges.{IsName}
-use Rattle.plant_file.specs.Rules.{remote_key, pool_key}
-use Rattle.plant_file.specs.IsFile.{IsLinkedRemote, AllDiffer, IsFile}
+use Rattle.plant_rules.specs.Rules.{remote_key, pool_key}
+use Rattle.plant_rules.specs.IsFile.{IsLinkedRemote, AllDiffer, IsFile}
 use Rattle.plant_config.specs.declared.records.Source.{Source}
 use Rattle.plant_config.specs.Plant.{Numbering, PlantData, dest_numbers, source_numbers, destinations_of}
 use Rattle.plant_config.specs.IsPlant.{IsSomeSo, AllPlaced, IsOf, Leads, IsRemote, IsSource, AreTold, AreNamed}

@@ -9,8 +9,8 @@ use Rattle.plant_file.specs.declared.entries.RemoteEntry.{RemoteEntry}
 use Rattle.plant_file.specs.declared.entries.PoolEntry.{PoolEntry}
 use Rattle.plant_file.specs.declared.entries.DeviceEntry.{DeviceEntry}
 use Rattle.plant_file.specs.declared.entries.BusEntry.{BusEntry}
-use Rattle.plant_file.specs.Rules.{remote_key, pool_key}
-use Rattle.plant_file.specs.Links.{main_level}
+use Rattle.plant_rules.specs.Rules.{remote_key, pool_key}
+use Rattle.plant_rules.specs.Links.{main_level}
 use Rattle.plant_config.specs.declared.records.Level.{Level}
 use Rattle.plant_config.specs.declared.records.Device.{Device}
 use Rattle.plant_config.specs.PlantOfFile.{source_with, remote_at}

@@ -4,8 +4,8 @@ use Rattle.std.specs.List.{IsDistinct}
 use Rattle.std.proofs.lemmas.List.{length-map}
 use Rattle.std.proofs.lemmas.List.Elements.{All-map}
 use Rattle.plant_file.specs.FileData.{FileData}
-use Rattle.plant_file.specs.Rules.{panel_key}
-use Rattle.plant_file.specs.IsFile.{IsFile}
+use Rattle.plant_rules.specs.Rules.{panel_key}
+use Rattle.plant_rules.specs.IsFile.{IsFile}
 use Rattle.plant_config.specs.IsPlant.{IsPanel, IsPlant}
 use Rattle.plant_config.specs.PlantOfFile.{panel_in, plant_of_file}
 use Rattle.plant_config.proofs.Differ.{numbers_differ}

@@ -9,9 +9,9 @@ use Rattle.std.proofs.lemmas.Option.{IfSome_then, none-some}
 use Rattle.plant_file.specs.FileData.{LevelData, FileData}
 use Rattle.plant_file.specs.declared.entries.RemoteEntry.{RemoteEntry}
 use Rattle.plant_file.specs.Ranges.{IsName}
-use Rattle.plant_file.specs.Rules.{remote_key}
-use Rattle.plant_file.specs.Links.{has_source, is_remote}
-use Rattle.plant_file.specs.IsFile.{IsFile}
+use Rattle.plant_rules.specs.Rules.{remote_key}
+use Rattle.plant_rules.specs.Links.{has_source, is_remote}
+use Rattle.plant_rules.specs.IsFile.{IsFile}
 use Rattle.plant_config.specs.declared.records.Source.{Source}
 use Rattle.plant_config.specs.Plant.{source_numbers, sources_of}
 use Rattle.plant_config.specs.IsPlant.{is_local}

@@ -4,7 +4,7 @@ use Rattle.std.specs.Option.{option_map_or}
 use Rattle.std.specs.List.{IsDistinct}
 use Rattle.std.specs.List.Sorted.{IsStrictlyIncreasing}
 use Rattle.plant_file.specs.Ranges.{IsFrom, IsWords, IsName, IsAtLevel, IsServer, AreEntries}
-use Rattle.plant_file.specs.Links.{main_level}
+use Rattle.plant_rules.specs.Links.{main_level}
 use Rattle.plant_config.specs.declared.records.Level.{Level}
 use Rattle.plant_config.specs.declared.records.Source.{Source}
 use Rattle.plant_config.specs.declared.records.Pool.{Pool}

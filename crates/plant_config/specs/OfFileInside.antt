@@ -8,7 +8,7 @@ use Rattle.std.specs.declared.cmp.Ordering.{Ordering}
 use Rattle.std.specs.BTreeMap.{BTreeMap, get}
 use Rattle.plant_file.specs.Limits.{pool_limit, level_source_limit, all_sources_limit, all_destinations_limit}
 use Rattle.plant_file.specs.FileData.{LevelData, FileData}
-use Rattle.plant_file.specs.Links.{main_level}
+use Rattle.plant_rules.specs.Links.{main_level}
 use Rattle.plant_file.specs.declared.entries.RemoteEntry.{RemoteEntry}
 use Rattle.plant_file.specs.declared.entries.PoolEntry.{PoolEntry}
 use Rattle.plant_file.specs.declared.entries.DeviceEntry.{DeviceEntry}
@@ -16,7 +16,7 @@ use Rattle.plant_file.specs.declared.entries.SwitchEntry.{SwitchEntry}
 use Rattle.plant_file.specs.declared.entries.BusEntry.{BusEntry}
 use Rattle.plant_file.specs.declared.entries.RootEntry.{RootEntry}
 use Rattle.plant_file.specs.declared.entries.DisplayEntry.{DisplayEntry}
-use Rattle.plant_file.specs.Rules.{remote_key, pool_key}
+use Rattle.plant_rules.specs.Rules.{remote_key, pool_key}
 use Rattle.plant_config.specs.PlantOfFile.{order, levels_of, source_number, pool_number, remote_at, source_with}
 use Rattle.plant_config.specs.declared.records.Level.{Level}
 use Rattle.plant_config.specs.declared.records.Source.{Source}

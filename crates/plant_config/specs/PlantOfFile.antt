@@ -13,8 +13,8 @@ use Rattle.plant_file.specs.declared.entries.BusEntry.{BusEntry}
 use Rattle.plant_file.specs.declared.entries.RootEntry.{RootEntry}
 use Rattle.plant_file.specs.declared.entries.DisplayEntry.{DisplayEntry}
 use Rattle.plant_file.specs.declared.entries.PanelEntry.{PanelEntry}
-use Rattle.plant_file.specs.Rules.{remote_key, pool_key}
-use Rattle.plant_file.specs.Links.{main_level}
+use Rattle.plant_rules.specs.Rules.{remote_key, pool_key}
+use Rattle.plant_rules.specs.Links.{main_level}
 use Rattle.plant_config.specs.declared.records.Level.{Level}
 use Rattle.plant_config.specs.declared.records.Source.{Source}
 use Rattle.plant_config.specs.declared.records.Pool.{Pool}

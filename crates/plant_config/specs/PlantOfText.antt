@@ -2,7 +2,7 @@
 use Rattle.std.specs.Prelude.{ℕ, List, Result, Ok, Err}
 use Rattle.plant_file.specs.declared.fault.PlantFault.{PlantFault}
 use Rattle.plant_file.specs.FileData.{FileData}
-use Rattle.plant_file.specs.PlantFile.{file_of_text}
+use Rattle.plant_rules.specs.PlantFile.{file_of_text}
 use Rattle.plant_config.specs.Plant.{PlantData}
 use Rattle.plant_config.specs.PlantOfFile.{plant_of_file}
 

@@ -2,7 +2,7 @@
 
 ghost use Rattle.std.specs.Prelude.{◌≡◌, IfOk};
 ghost use Rattle.plant_file.specs.FirstFault.{Answers};
-ghost use Rattle.plant_file.specs.IsFile.{IsFile};
+ghost use Rattle.plant_rules.specs.IsFile.{IsFile};
 ghost use Rattle.plant_config.specs.PlantOfFile.{plant_of_file};
 ghost use Rattle.plant_config.specs.PlantOfText.{plant_of_text};
 
@@ -25,7 +25,7 @@ impl Plant {
     pub fn from_toml(alloc: Global, text: &[u8]) -> Result<Plant, PlantFault>
         ensures { Answers result (plant_of_text text.now) }
     {
-        let file = PlantFile::read(alloc, text)?;
+        let file = plant_rules::read(alloc, text)?;
         Ok(Plant::of_file(alloc, &file)?)
     }
 

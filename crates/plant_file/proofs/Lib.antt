@@ -1,23 +1,12 @@
 pub mod FirstFault
-mod NoFault
-mod KeyRanges
+pub mod NoFault
+pub mod KeyRanges
 mod NameRanges
 mod EntryRanges
-mod SectionRanges
-mod NoRuleBroken
-mod LinkRules
-mod FileRules
-mod RulesHold
-mod FileHolds
-mod FaultPlaces
-mod DocumentPlaces
-pub mod RangesLemmas
-pub mod RulesLemmas
-pub mod PlaceLemmas
-pub mod EarlierLemmas
-pub mod TwiceLemmas
-pub mod KnownLemmas
-pub mod Checks
+pub mod SectionRanges
+pub mod FaultPlaces
+pub mod DocumentPlaces
+mod TextRanges
 pub mod FormAnswer
 pub mod ReadingInside
 pub mod NamesAnswer
@@ -25,8 +14,5 @@ pub mod OnlyAnswer
 pub mod TextAnswer
 pub mod DocumentAnswer
 pub mod SwitchAnswer
-pub mod FileAnswer
 pub mod FaultText
-mod FileSamples
-mod FileExamples
-mod FaultExamples
+mod ReadingExamples

@@ -9,13 +9,7 @@ pub mod FileData
 pub mod NameInside
 pub mod Reading
 pub mod ReadingInside
-pub mod Rules
-pub mod KeysInside
-pub mod RulesInside
-pub mod Links
-pub mod Places
-pub mod LinksInside
-pub mod KnownInside
-pub mod PlantFile
+pub mod DataOfText
 pub mod Ranges
-pub mod IsFile
+pub mod Places
+pub mod FaultText

@@ -1,8 +1,6 @@
 -- What the readers of a value answer, those of a key, and those of an entry.
-use Rattle.std.specs.Prelude.{ℕ, ◌-◌, List, [], ◌∷◌, ◌++◌, drop, option_map, length, flat_map, map, filter_map, Bool, ◌&&◌, nat_le, if◌then◌else◌, Option, Some, is_some, Result, Ok, Err}
-use Rattle.std.specs.Option.{option_or, option_map_or}
-use Rattle.std.specs.Str.{is_utf8}
-use Rattle.toml.specs.Parse.{parse_document}
+use Rattle.std.specs.Prelude.{ℕ, ◌-◌, List, [], ◌∷◌, ◌++◌, drop, option_map, length, flat_map, map, filter_map, Bool, ◌&&◌, nat_le, Option, Some, is_some, Result, Ok, Err}
+use Rattle.std.specs.Option.{option_or}
 use Rattle.std.specs.List.{enumerate_from, list_all}
 use Rattle.toml.specs.Data.{Data, array, as_str, Members, no_members, as_table, get_member}
 use Rattle.toml.specs.View.{view}
@@ -11,16 +9,16 @@ use Rattle.plant_file.specs.declared.fault.Section.{Section}
 use Rattle.plant_file.specs.declared.fault.Field.TheVariants as fields
 use Rattle.plant_file.specs.declared.fault.Place.{Place}
 use Rattle.plant_file.specs.declared.fault.PlantFault.{PlantFault}
-use Rattle.plant_file.specs.declared.fault.PlantFault.TheVariants.{NotToml, WrongType}
+use Rattle.plant_file.specs.declared.fault.PlantFault.TheVariants.{WrongType}
 use Rattle.plant_file.specs.Spelling.{section_name}
 use Rattle.plant_file.specs.Limits.{level_limit}
 use Rattle.plant_file.specs.Rows.{Kind, Number, Required, Entries, Key, key, a_matrix, a_destination, SectionKeys, first_text_byte, last_text_byte, shortest_name, longest_name}
 use Rattle.plant_file.specs.Document.{values, as_texts, found_at, default_value, entries_found, section_entries}
 use Rattle.plant_file.specs.Format.{bus_keys}
-use Rattle.plant_file.specs.FileData.{SwitchEntry, FileData}
-use Rattle.plant_file.specs.Reading.{switch_entry, names_of, only_entry, data_of}
+use Rattle.plant_file.specs.FileData.{SwitchEntry}
+use Rattle.plant_file.specs.Reading.{switch_entry, names_of, only_entry}
 use Rattle.plant_file.specs.FirstFault.{first_fault, unless_fault}
-use Rattle.plant_file.specs.KeyFaults.{place, words_faults, names_faults, value_faults, key_faults, entry_faults, form_faults, section_faults, sections_faults}
+use Rattle.plant_file.specs.KeyFaults.{place, words_faults, names_faults, value_faults, key_faults, entry_faults, form_faults, section_faults}
 
 -- what was read, as something of it
 abbrev pub read_as : {X Y : Type 0} → (X → Y) → Result X PlantFault → Result Y PlantFault
@@ -158,14 +156,3 @@ unfoldable pub sections_answer : {X : Type 0} → X → Members → List Section
     → Result X PlantFault
 sections_answer read document sections =
     unless_fault read (first_fault (flat_map (section_faults document) sections))
-
--- the document of a text
-unfoldable pub document_answer : List ℕ → Result Members PlantFault
-document_answer text =
-    if is_utf8 text then option_map_or (λ document. Ok document) (parse_document text) (Err NotToml)
-    else Err NotToml
-
--- what the sections of a document say, or the first fault of theirs
-abbrev pub sections_in : Result Members PlantFault → Result FileData PlantFault
-sections_in (Ok document) = unless_fault (data_of document) (first_fault (sections_faults document))
-sections_in (Err fault) = Err fault

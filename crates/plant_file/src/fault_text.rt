@@ -2,7 +2,7 @@
 
 ghost use Rattle.std.specs.Prelude.{◌≡◌, IfOk, string_bytes};
 ghost use Rattle.plant_file.specs.declared.fault.PlantFault.TheVariants.{OutOfRange};
-ghost use Rattle.plant_file.specs.PlantFile.{place_text, fault_text};
+ghost use Rattle.plant_file.specs.FaultText.{place_text, fault_text};
 
 use crate::fault::{Place, PlantFault};
 use std::alloc::{AllocError, Global};
@@ -36,7 +36,7 @@ fn range_text(
 
 impl PlantFault {
     /// The fault in one line, with its place.
-    #[tactic(auto, unfolding(crate::specs::PlantFile::fault_text))]
+    #[tactic(auto, unfolding(crate::specs::FaultText::fault_text))]
     pub fn text(&self, alloc: Global) -> Result<String, AllocError>
         ensures { IfOk result (λ text. string_bytes text ≡ fault_text self.now) }
     {

@@ -1,19 +1,12 @@
 //! A plant file that was read.
 
-ghost use Rattle.std.specs.Prelude.{◌≡◌, IfOk};
-ghost use Rattle.plant_file.specs.FirstFault.{Answers};
-ghost use Rattle.plant_file.specs.PlantFile.{file_of_text};
-ghost use Rattle.plant_file.specs.IsFile.{IsFile};
+ghost use Rattle.std.specs.Prelude.{◌≡◌};
 
 use crate::entries::{
     BusEntry, DeviceEntry, DisplayEntry, PanelEntry, PoolEntry, RemoteEntry, RootEntry, Server,
 };
-use crate::fault::PlantFault;
 use crate::level::LevelEntry;
-use crate::read::read_text;
-use crate::rules::data_fault;
 use crate::text::Text;
-use std::alloc::Global;
 use std::marker::Model;
 
 /// What a plant file says, each section in the order of the file.
@@ -53,19 +46,6 @@ impl Model for PlantFile {
 }
 
 impl PlantFile {
-    /// What a text says, or its first fault in the order of the checks. The text is a TOML document, whose sections and
-    /// keys are this project's profile; what it has beside them isn't looked at.
-    pub fn read(alloc: Global, text: &[u8]) -> Result<PlantFile, PlantFault>
-        ensures answer { Answers result (file_of_text text.now) }
-        ensures right { IfOk result IsFile }
-    {
-        let file = read_text(alloc, text)?;
-        match data_fault(alloc, &file)? {
-            Some(fault) => Err(fault),
-            None => Ok(file),
-        }
-    }
-
     /// The plant's title, 1 to 40 printable bytes.
     pub fn title(&self) -> &Text
         ensures { result.now ≡ self.now.title }

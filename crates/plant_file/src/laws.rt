@@ -1,27 +1,18 @@
-//! What is true of the data of every plant file, and of every fault.
+//! What is true of what is read of every text, and of every fault of its sections and keys.
 
-ghost use Rattle.std.specs.Prelude.{◌≡◌, ◌↔◌, ℕ, List, []};
+ghost use Rattle.std.specs.Prelude.{ℕ, List};
 ghost use Rattle.std.specs.Result.{ForOk, ForErr};
-ghost use Rattle.plant_file.specs.FileData.{FileData};
 ghost use Rattle.plant_file.specs.Ranges.{AreInRange};
-ghost use Rattle.plant_file.specs.IsFile.{IsFile};
 ghost use Rattle.plant_file.specs.Places.{IsFaultOf};
-ghost use Rattle.plant_file.specs.PlantFile.{data_faults, file_of_text};
+ghost use Rattle.plant_file.specs.DataOfText.{data_of_text};
 
-/// What a text without a fault says is within its ranges, no two entries of it are the same, and each names only what the
-/// plant has.
-pub fn a_plant_file_is_right()
-    ensures { (text : List ℕ) → ForOk (file_of_text text) IsFile }
+/// What is read of a text is within its ranges.
+pub fn what_is_read_is_in_range()
+    ensures { (text : List ℕ) → ForOk (data_of_text text) AreInRange }
 {}
 
-/// A text is at fault since it is no document, or at a place that its document has: a section as a whole, or a key of a
-/// section in an entry that is there. It is never at fault for want of memory, so where a reading had none, nothing is
-/// known of the text.
-pub fn faults_have_a_place()
-    ensures { (text : List ℕ) → ForErr (file_of_text text) (IsFaultOf text) }
-{}
-
-/// The rules on what entries may not be together refuse what isn't right, and nothing else.
-pub fn the_rules_are_exact()
-    ensures { (file : FileData) → AreInRange file → (data_faults file ≡ []) ↔ IsFile file }
+/// The sections and keys of a text are at fault since it is no document, or at a place that its document has: a section as
+/// a whole, or a key of a section in an entry that is there.
+pub fn faults_of_keys_have_a_place()
+    ensures { (text : List ℕ) → ForErr (data_of_text text) (IsFaultOf text) }
 {}

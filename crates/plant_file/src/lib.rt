@@ -1,6 +1,6 @@
 //! What a plant file says: the keys of its sections as plain data, what is given where they are absent included. A text
-//! that is no plant file is refused by its first fault, in one order of the checks, with the place of the fault in the
-//! file. Nothing is numbered here: sources and destinations are named as in the file, by matrix, level and number.
+//! whose sections or keys are wrong is refused by their first fault, in one order of the checks, with its place in the file;
+//! what entries may not be together is looked at above. Sources and destinations are named by matrix, level and number.
 #![tactic(auto)]
 
 mod entries;
@@ -11,7 +11,6 @@ mod laws;
 mod level;
 mod name;
 mod read;
-mod rules;
 mod text;
 
 pub use entries::{
@@ -20,7 +19,8 @@ pub use entries::{
 };
 pub use fault::{Field, Place, PlantFault, Section};
 pub use file::PlantFile;
-pub use laws::{a_plant_file_is_right, faults_have_a_place, the_rules_are_exact};
+pub use laws::{faults_of_keys_have_a_place, what_is_read_is_in_range};
 pub use level::LevelEntry;
 pub use name::{MAX_NAME, Name};
+pub use read::read_text;
 pub use text::Text;

@@ -11,4 +11,4 @@ mod sections;
 mod server;
 mod values;
 
-pub(crate) use document::read_text;
+pub use document::read_text;

@@ -7,6 +7,7 @@ mod of_plant_config;
 mod of_plant_core;
 mod of_plant_file;
 mod of_plant_names;
+mod of_plant_rules;
 mod of_protects;
 mod of_salvo_groups;
 mod of_tally;

@@ -1,6 +1,7 @@
 //! A plant file, and one edit of it for each fault, with the fault's line.
 
-use plant_file::{PlantFault, PlantFile};
+use plant_file::PlantFault;
+use plant_rules::read;
 use std::alloc::{AllocError, Global};
 use std::test::Fail;
 
@@ -88,7 +89,7 @@ const REFUSALS: [(&str, &str, &str); 8] = [
 
 // The line of a text's fault, or its title where it has none.
 fn line_of(alloc: Global, text: &str) -> Result<String, AllocError> {
-    match PlantFile::read(alloc, text.as_bytes()) {
+    match read(alloc, text.as_bytes()) {
         Ok(file) => String::from_str(alloc, file.title().as_str()),
         Err(PlantFault::NoMemory) => Err(AllocError),
         Err(fault) => fault.text(alloc),

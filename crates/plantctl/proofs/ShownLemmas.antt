@@ -4,8 +4,8 @@ use Rattle.std.specs.Result.{ForOk}
 use Rattle.ctl_io.specs.Held.{Held, Unshown, NoFile, Holds}
 use Rattle.plant_file.specs.declared.fault.PlantFault.{PlantFault}
 use Rattle.plant_file.specs.FileData.{FileData}
-use Rattle.plant_file.specs.PlantFile.{file_of_text}
-use Rattle.plant_file.specs.IsFile.{IsFile}
+use Rattle.plant_rules.specs.PlantFile.{file_of_text}
+use Rattle.plant_rules.specs.IsFile.{IsFile}
 use Rattle.plant_config.specs.Plant.{PlantData}
 use Rattle.plant_config.specs.Bench.{bench}
 use Rattle.plant_config.specs.IsPlant.{IsPlant}

@@ -1,7 +1,7 @@
 -- How a run may end, with its exit status and its text.
 use Rattle.std.specs.Prelude.{ℕ, Bool, true, false, List}
 use Rattle.plant_file.specs.declared.fault.PlantFault.{PlantFault}
-use Rattle.plant_file.specs.PlantFile.{fault_text}
+use Rattle.plant_file.specs.FaultText.{fault_text}
 use Rattle.trace_audit.specs.declared.verdict.Verdict.{Verdict}
 use Rattle.trace_audit.specs.declared.verdict.Verdict.TheVariants.{Confirmed, BadLine, Gap, Repeat, Differs}
 use Rattle.plantctl.specs.Lines.{usage, no_memory, file_missing, file_fault, plant_refused, plant_too_long, line_refused, script_too_long}

@@ -5,7 +5,7 @@ use Rattle.ctl_io.specs.Sink.{appended}
 use Rattle.ctl_io.specs.Held.{Held, IfHeld, IsLonger, MayBeMissing}
 use Rattle.ctl_io.specs.WholeFile.{FileReading, Missing, Failed}
 use Rattle.plant_file.specs.declared.fault.PlantFault.{PlantFault}
-use Rattle.plant_file.specs.PlantFile.{fault_text}
+use Rattle.plant_file.specs.FaultText.{fault_text}
 use Rattle.plant_config.specs.Plant.{PlantData}
 use Rattle.plant_config.specs.PlantOfText.{plant_of_text}
 use Rattle.record_replay.specs.Script.{IsFirstBad}

@@ -8,7 +8,7 @@ use Rattle.ctl_io.specs.declared.whole_file.FileFault.TheVariants as files
 use Rattle.ctl_io.specs.Sink.{appended, AppendsPart}
 use Rattle.plant_file.specs.declared.fault.PlantFault.{PlantFault}
 use Rattle.plant_file.specs.declared.fault.PlantFault.TheVariants as plants
-use Rattle.plant_file.specs.PlantFile.{fault_text}
+use Rattle.plant_file.specs.FaultText.{fault_text}
 use Rattle.plant_config.specs.Plant.{PlantData}
 use Rattle.record_replay.specs.declared.replay.ReplayFault.{ReplayFault}
 use Rattle.record_replay.specs.declared.replay.ReplayFault.TheVariants as replays

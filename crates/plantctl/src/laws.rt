@@ -14,7 +14,7 @@ ghost use Rattle.plantctl.specs.Statuses.{SevenHasCause, OthersWriteAll};
 ghost use Rattle.plantctl.specs.Statuses.{SourcesComeBack, NoSinkIsMade, OtherNamesStay};
 ghost use Rattle.plantctl.specs.Statuses.{FileFaultsStay, FileFaultsRiseOnce};
 
-use plant_file::a_plant_file_is_right;
+use plant_rules::a_plant_file_is_right;
 use record_replay::{lines_answer_items, one_history};
 
 /// No other status is answered.

@@ -1,7 +1,7 @@
 //! The groups of a plant's parts, of its file.
 
 ghost use Rattle.std.specs.Prelude.{◌≡◌, All, IfOk};
-ghost use Rattle.plant_file.specs.IsFile.{IsFile};
+ghost use Rattle.plant_rules.specs.IsFile.{IsFile};
 ghost use Rattle.plant_config.specs.PartsInside.{HasRouting, HasMixing, HasService};
 ghost use Rattle.plant_config.specs.PlantOfFile.{plant_of_file, in_order, levels_of};
 ghost use Rattle.plant_config.specs.OfFileInside.{AreLow, HasFewSources, shown};

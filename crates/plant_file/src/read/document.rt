@@ -1,10 +1,13 @@
 //! A document: its text, and all sections in their order.
 
+ghost use Rattle.std.specs.Prelude.{IfOk};
 ghost use Rattle.toml.specs.View.{table_view};
 ghost use Rattle.plant_file.specs.KeyFaults.{sections_faults};
 ghost use Rattle.plant_file.specs.FirstFault.{first_fault, unless_fault, Answers};
 ghost use Rattle.plant_file.specs.Reading.{data_of};
-ghost use Rattle.plant_file.specs.ReadingInside.{read_as, document_answer, sections_in};
+ghost use Rattle.plant_file.specs.Ranges.{AreInRange};
+ghost use Rattle.plant_file.specs.DataOfText.{document_answer, data_of_text};
+ghost use Rattle.plant_file.specs.ReadingInside.{read_as};
 
 use crate::fault::{PlantFault, Section};
 use crate::file::PlantFile;
@@ -63,9 +66,11 @@ fn parse(alloc: Global, text: &[u8]) -> Result<Table, PlantFault>
     }
 }
 
-// The data of a text, or its first fault of sections and keys.
-pub(crate) fn read_text(alloc: Global, text: &[u8]) -> Result<PlantFile, PlantFault>
-    ensures { Answers result (sections_in (document_answer text.now)) }
+/// What a text says, or the first fault of its sections and keys. The text is a TOML document, whose sections and keys are
+/// this project's profile; what it has beside them isn't looked at, and neither is what entries are together.
+pub fn read_text(alloc: Global, text: &[u8]) -> Result<PlantFile, PlantFault>
+    ensures answer { Answers result (data_of_text text.now) }
+    ensures ranges { IfOk result AreInRange }
 {
     let document = parse(alloc, text)?;
     read_document(alloc, &document)

@@ -1,6 +1,6 @@
 //! A use of `plant_file`: a text is read, and another one is refused.
 
-use plant_file::PlantFile;
+use plant_file::{PlantFile, read_text};
 use std::alloc::Global;
 use std::process::Abort;
 use std::test::Fail;
@@ -20,7 +20,7 @@ port = 9001
 
 // The line of a text's fault.
 fn refusal(alloc: Global, text: &[u8]) -> Result<String, Fail> {
-    match PlantFile::read(alloc, text) {
+    match read_text(alloc, text) {
         Ok(_) => Err(Fail::from("it has no fault")),
         Err(fault) => Ok(fault.text(alloc)?),
     }
@@ -39,7 +39,7 @@ fn is_the_studio(rt: &impl Abort, file: &PlantFile) -> Result<(), Fail> {
 #[test]
 fn a_text_is_read(rt: HostRuntime) -> Result<(), Fail> {
     let alloc = rt.alloc();
-    let Ok(file) = PlantFile::read(alloc, STUDIO.as_bytes()) else {
+    let Ok(file) = read_text(alloc, STUDIO.as_bytes()) else {
         return Err(Fail::from("it has a fault"));
     };
     is_the_studio(&rt, &file)?;

@@ -1,7 +1,7 @@
 use Rattle.std.proofs.Common.{w64}
 use Rattle.std.specs.Fmt.{signed_decimal}
 use Rattle.std.proofs.lemmas.Int.{to_z-of_z}
-use Rattle.plant_file.specs.PlantFile.{place_text, fault_text}
+use Rattle.plant_file.specs.FaultText.{place_text, fault_text}
 use Rattle.plant_file.proofs.FaultText.{range-line}
 use Rattle.plant_file.proofs.fault_text.range_text.Goals as goal
 

@@ -1,5 +1,5 @@
 use Rattle.std.proofs.Common.{[], ◌∷◌, Some, None, bytes_eq, length, ap, ◌∙◌}
-use Rattle.plant_file.specs.Rules.{pool_key}
+use Rattle.plant_rules.specs.Rules.{pool_key}
 use Rattle.plant_file.specs.declared.entries.PoolEntry.{PoolEntry}
 use Rattle.plant_config.proofs.OneMore.{position_or_len-from_position}
 use Rattle.plant_config.proofs.of_file.sources.Origins.pool.Goals as goal

@@ -1,5 +1,0 @@
-use Rattle.plant_file.proofs.FileRules.{IsFile-file_of_text}
-use Rattle.plant_file.proofs.laws.a_plant_file_is_right.Goals as goal
-
-pub returns : goal.returns
-returns c text file is = IsFile-file_of_text text file is

@@ -1,5 +1,0 @@
-use Rattle.plant_file.proofs.DocumentPlaces.{IsFaultOf-file_of_text}
-use Rattle.plant_file.proofs.laws.faults_have_a_place.Goals as goal
-
-pub returns : goal.returns
-returns c text fault is = IsFaultOf-file_of_text text fault is

@@ -1,6 +1,0 @@
-use Rattle.plant_file.proofs.FileRules.{IsFile-from_none}
-use Rattle.plant_file.proofs.FileHolds.{data_hold}
-use Rattle.plant_file.proofs.laws.the_rules_are_exact.Goals as goal
-
-pub returns : goal.returns
-returns c file ranges = (IsFile-from_none file ranges, data_hold file)
