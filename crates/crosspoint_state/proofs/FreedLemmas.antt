@@ -1,15 +1,13 @@
 -- When a release frees a tie.
-use Rattle.std.proofs.Common.{◌≡◌, ◌≢◌, ℕ, nat_eq, true, false, not, List, find, Option, Some, None, refl, sym, ap, ◌∙◌, eq-eqb}
+use Rattle.std.proofs.Common.{◌≡◌, ℕ, nat_eq, true, not, List, find, Option, Some, None, refl, sym, ap, ◌∙◌, eq-eqb}
 use Rattle.std.proofs.lemmas.Bool.{false≢true}
 use Rattle.std.specs.Option.{option_eq}
-use Rattle.std.specs.List.{list_any}
 use Rattle.std.specs.FinMap as finite
 use Rattle.plant_config.specs.declared.records.Change.{Change}
 use Rattle.plant_config.specs.Plant.{PlantData}
-use Rattle.plant_config.specs.Sources.{origin_of}
 use Rattle.crosspoint_state.specs.declared.spot.Spot.{Spot}
 use Rattle.crosspoint_state.specs.Crosspoints.{Crosspoints}
-use Rattle.crosspoint_state.specs.Ties.{occupied, is_free, Carries}
+use Rattle.crosspoint_state.specs.Ties.{Carries}
 use Rattle.crosspoint_state.specs.Applied.{released}
 use Rattle.crosspoint_state.specs.Laws.{TiesAreFreedLast}
 use Rattle.crosspoint_state.proofs.ChangeLists.{names}

@@ -7,3 +7,4 @@ pub mod AppliedLemmas
 pub mod LawLemmas
 pub mod Worked
 pub mod FreedLemmas
+pub mod TapsLemmas

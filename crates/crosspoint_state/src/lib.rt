@@ -5,6 +5,7 @@
 mod crosspoints;
 mod laws;
 mod spot;
+mod tapped;
 
 pub use crosspoints::Crosspoints;
 pub use laws::{
