@@ -1,16 +1,13 @@
 -- Which destinations are live for roots, through any number of devices, and which sources are seen there.
-use Rattle.std.specs.Prelude.{ℕ, zero, suc, ◌==◌, nat_eq, Bool, false, ◌&&◌, List, ◌++◌, map, filter, length, Option, Some}
+use Rattle.std.specs.Prelude.{ℕ, zero, suc, ◌==◌, nat_eq, Bool, false, ◌&&◌, List, ◌++◌, map, filter, length, Some}
 use Rattle.std.specs.List.{list_any}
-use Rattle.std.specs.Option.{option_map_or, option_and_then, option_eq}
+use Rattle.std.specs.Option.{option_map_or, option_eq}
 use Rattle.plant_config.specs.declared.records.Bus.{Bus}
 use Rattle.plant_config.specs.Plant.{PlantData}
 use Rattle.plant_config.specs.Sources.{origin_of}
-use Rattle.crosspoint_state.specs.Crosspoints.{Crosspoints, source_of}
+use Rattle.crosspoint_state.specs.Crosspoints.{Crosspoints}
+use Rattle.crosspoint_state.specs.Taps.{origin_at}
 use Rattle.mixer_effects.specs.Buses.{is_bus_on, output_of}
-
--- the origin of what a destination carries: the local source whose picture it has, none where it is parked
-abbrev pub origin_at : PlantData → Crosspoints → ℕ → Option ℕ
-origin_at plant crosspoints dest = option_and_then (origin_of plant) (source_of crosspoints dest)
 
 -- whether a destination carries the picture of this local source
 abbrev pub carries : PlantData → Crosspoints → ℕ → ℕ → Bool

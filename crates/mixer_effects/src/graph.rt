@@ -1,6 +1,6 @@
 //! What the devices of a plant do with its crosspoints.
 
-ghost use Rattle.std.specs.Prelude.{◌≡◌, slice_get};
+ghost use Rattle.std.specs.Prelude.{◌≡◌, ◌+◌, slice_get};
 ghost use Rattle.plant_config.specs.Plant.{PlantData};
 ghost use Rattle.mixer_effects.specs.Buses.{is_switch_on, is_bus_on, is_on};
 ghost use Rattle.mixer_effects.specs.Buses.{device_at, fed_device, buses_at, switched_at};
@@ -10,10 +10,12 @@ use crate::mixers::Mixers;
 use crosspoint_state::Crosspoints;
 use plant_config::{Bus, DestId, DeviceId, SourceId};
 use std::marker::Model;
+use std::sync::ledger::Ledger;
+use tap_lists::Steps;
 
 /// The tables of a plant's devices, and what its destinations carry. Of devices, buses and switches a graph tells what its
-/// five calls answer, `bus`, `device_of`, `fed_device`, `is_on` and `switched_by`, and nothing else: each looks at a few
-/// places of the tables, whatever the plant has.
+/// five calls answer, `bus`, `device_of`, `fed_device`, `is_on` and `switched_by`, and nothing else. Each looks at a few
+/// places of the tables, whatever the plant has, and counts as one read.
 #[derive(Debug, Drop)]
 pub struct Graph<'a> {
     mixers: &'a Mixers,
@@ -30,6 +32,7 @@ impl<'a> Model for Graph<'a> {
     ghost view = { λ graph. record {
       wiring = graph.mixers.now;
       crosspoints = graph.points.now.entries;
+      taps = graph.points.now.taps;
     } };
 }
 
@@ -38,22 +41,31 @@ impl<'a> Graph<'a> {
     pub fn new(mixers: &'a Mixers, points: &'a Crosspoints) -> Graph<'a>
         ensures wiring { result.wiring ≡ mixers.now }
         ensures crosspoints { result.crosspoints ≡ points.now.entries }
+        ensures taps { result.taps ≡ points.now.taps }
     {
         Graph { mixers, points }
     }
 
     /// What the destinations carry.
     pub fn points(&self) -> &'a Crosspoints
-        ensures { result.now.entries ≡ self.now.crosspoints }
+        ensures crosspoints { result.now.entries ≡ self.now.crosspoints }
+        ensures taps { result.now.taps ≡ self.now.taps }
     {
         self.points
     }
 
     /// The bus of this place among a device's, in the order of the plant. `None` where the device has no more.
-    pub fn bus(&self, device: DeviceId, place: u32) -> Option<DestId>
-        ensures { (plant : PlantData) → IsWiringOf plant self.now.wiring
+    pub fn bus<L: Ledger>(
+        &self,
+        device: DeviceId,
+        place: u32,
+        steps: &mut Steps<L>,
+    ) -> Option<DestId>
+        ensures bus { (plant : PlantData) → IsWiringOf plant self.now.wiring
             → result ≡ slice_get (buses_at plant device) place }
+        ensures counted { steps.new ≡ steps.old + 1 }
     {
+        steps.tick();
         let device = self.mixers.device(device)?;
         if place >= device.buses {
             return None;
@@ -64,27 +76,33 @@ impl<'a> Graph<'a> {
     }
 
     /// The device of the bus that a destination is, `None` where it is no bus.
-    pub fn device_of(&self, dest: DestId) -> Option<DeviceId>
-        ensures { (plant : PlantData) → IsWiringOf plant self.now.wiring
+    pub fn device_of<L: Ledger>(&self, dest: DestId, steps: &mut Steps<L>) -> Option<DeviceId>
+        ensures device { (plant : PlantData) → IsWiringOf plant self.now.wiring
             → result ≡ device_at plant dest }
+        ensures counted { steps.new ≡ steps.old + 1 }
     {
+        steps.tick();
         let bus = self.mixers.bus_at(dest)?;
         Some(bus.device)
     }
 
     /// The device whose output is this source, `None` where there is none.
-    pub fn fed_device(&self, origin: SourceId) -> Option<DeviceId>
-        ensures { (plant : PlantData) → IsWiringOf plant self.now.wiring
+    pub fn fed_device<L: Ledger>(&self, origin: SourceId, steps: &mut Steps<L>) -> Option<DeviceId>
+        ensures device { (plant : PlantData) → IsWiringOf plant self.now.wiring
             → result ≡ fed_device plant origin }
+        ensures counted { steps.new ≡ steps.old + 1 }
     {
+        steps.tick();
         self.mixers.fed_device(origin)
     }
 
     /// Whether a destination is a bus that is on.
-    pub fn is_on(&self, dest: DestId) -> bool
-        ensures { (plant : PlantData) → IsWiringOf plant self.now.wiring
+    pub fn is_on<L: Ledger>(&self, dest: DestId, steps: &mut Steps<L>) -> bool
+        ensures on { (plant : PlantData) → IsWiringOf plant self.now.wiring
             → result ≡ is_on plant self.now.crosspoints dest }
+        ensures counted { steps.new ≡ steps.old + 1 }
     {
+        steps.tick();
         let Some(bus) = self.mixers.bus_at(dest) else {
             return false;
         };
@@ -93,10 +111,17 @@ impl<'a> Graph<'a> {
 
     /// The bus of this place among those that a destination switches, in the order of the plant. `None` where it switches no
     /// more.
-    pub fn switched_by(&self, dest: DestId, place: u32) -> Option<DestId>
-        ensures { (plant : PlantData) → IsWiringOf plant self.now.wiring
+    pub fn switched_by<L: Ledger>(
+        &self,
+        dest: DestId,
+        place: u32,
+        steps: &mut Steps<L>,
+    ) -> Option<DestId>
+        ensures bus { (plant : PlantData) → IsWiringOf plant self.now.wiring
             → result ≡ slice_get (switched_at plant dest) place }
+        ensures counted { steps.new ≡ steps.old + 1 }
     {
+        steps.tick();
         self.mixers.switched(dest, place)
     }
 

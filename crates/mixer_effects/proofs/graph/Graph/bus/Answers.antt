@@ -6,21 +6,21 @@ use Rattle.mixer_effects.specs.GraphData.{GraphData}
 use Rattle.mixer_effects.proofs.PlaceLemmas.{bus_found, bus_past, no_bus}
 use Rattle.mixer_effects.proofs.graph.Graph.bus.Goals as goal
 
-pub returns-in_err-device : goal.returns-in_err-device
-returns-in_err-device c = λ plant wired.
+pub returns-in_err-device-clause-bus : goal.returns-in_err-device-clause-bus
+returns-in_err-device-clause-bus g c = λ plant wired.
     let own : IsWiringOf plant c.self.inside.mixers.now = subst (λ (graph : GraphData). IsWiringOf plant graph.wiring) (sym c.self.view_is) wired in
     let none : slice_get plant.devices c.args.device ≡ None = ap (λ (devices : List Device). slice_get devices c.args.device) (sym own.devices) ∙ sym c.in_err-device.ensures in
     c.from_residual.ensures ∙ sym (no_bus plant own.is_plant c.args.device c.args.place none)
 
-pub returns-then-place-device : goal.returns-then-place-device
-returns-then-place-device c = λ plant wired.
+pub returns-then-place-device-clause-bus : goal.returns-then-place-device-clause-bus
+returns-then-place-device-clause-bus g c = λ plant wired.
     let own : IsWiringOf plant c.self.inside.mixers.now = subst (λ (graph : GraphData). IsWiringOf plant graph.wiring) (sym c.self.view_is) wired in
     let device = c.in_ok-device.device in
     let at : slice_get plant.devices c.args.device ≡ Some device = ap (λ (devices : List Device). slice_get devices c.args.device) (sym own.devices) ∙ sym c.in_ok-device.ensures in
     sym (bus_past plant own.is_plant c.args.device c.args.place device at c.if-place-device.true)
 
-pub returns-in_err-bus : goal.returns-in_err-bus
-returns-in_err-bus c = λ plant wired.
+pub returns-in_err-bus-clause-bus : goal.returns-in_err-bus-clause-bus
+returns-in_err-bus-clause-bus g c = λ plant wired.
     let own : IsWiringOf plant c.self.inside.mixers.now = subst (λ (graph : GraphData). IsWiringOf plant graph.wiring) (sym c.self.view_is) wired in
     let device = c.in_ok-device.device in
     let at : slice_get plant.devices c.args.device ≡ Some device = ap (λ (devices : List Device). slice_get devices c.args.device) (sym own.devices) ∙ sym c.in_ok-device.ensures in
@@ -28,8 +28,8 @@ returns-in_err-bus c = λ plant wired.
     c.from_residual-in_err-bus.ensures
     ∙ bus_found plant own.is_plant c.args.device c.args.place device None at c.if-place-device.false there
 
-pub returns : goal.returns
-returns c = λ plant wired.
+pub returns-clause-bus : goal.returns-clause-bus
+returns-clause-bus g c = λ plant wired.
     let own : IsWiringOf plant c.self.inside.mixers.now = subst (λ (graph : GraphData). IsWiringOf plant graph.wiring) (sym c.self.view_is) wired in
     let device = c.in_ok-device.device in
     let at : slice_get plant.devices c.args.device ≡ Some device = ap (λ (devices : List Device). slice_get devices c.args.device) (sym own.devices) ∙ sym c.in_ok-device.ensures in

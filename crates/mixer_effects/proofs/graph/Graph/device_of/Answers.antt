@@ -5,12 +5,12 @@ use Rattle.mixer_effects.specs.Wiring.{IsWiringOf}
 use Rattle.mixer_effects.specs.GraphData.{GraphData}
 use Rattle.mixer_effects.proofs.graph.Graph.device_of.Goals as goal
 
-pub returns-in_err-bus : goal.returns-in_err-bus
-returns-in_err-bus c = λ plant wired.
+pub returns-in_err-bus-clause-device : goal.returns-in_err-bus-clause-device
+returns-in_err-bus-clause-device g c = λ plant wired.
     let own : IsWiringOf plant c.self.inside.mixers.now = subst (λ (graph : GraphData). IsWiringOf plant graph.wiring) (sym c.self.view_is) wired in
     c.from_residual.ensures ∙ ap (option_map (λ (bus : Bus). bus.device)) (c.in_err-bus.ensures ∙ own.by_dest c.args.dest)
 
-pub returns : goal.returns
-returns c = λ plant wired.
+pub returns-clause-device : goal.returns-clause-device
+returns-clause-device g c = λ plant wired.
     let own : IsWiringOf plant c.self.inside.mixers.now = subst (λ (graph : GraphData). IsWiringOf plant graph.wiring) (sym c.self.view_is) wired in
     ap (option_map (λ (bus : Bus). bus.device)) (c.in_ok-bus.ensures ∙ own.by_dest c.args.dest)

@@ -1,7 +1,6 @@
 use Rattle.std.proofs.Common.{ℕ, ◌==◌, not, Option, false, sym, ap, subst, ◌∙◌}
 use Rattle.std.specs.Option.{option_map_or, option_and_then}
 use Rattle.plant_config.specs.Sites.{source_number_of}
-use Rattle.crosspoint_state.specs.Crosspoints.{source_of}
 use Rattle.mixer_effects.specs.Wiring.{IsWiringOf}
 use Rattle.mixer_effects.specs.GraphData.{GraphData}
 use Rattle.mixer_effects.specs.Buses.{is_switch_on}
