@@ -8,6 +8,7 @@ ghost use Rattle.plant_config.specs.Plant.{destinations_of};
 ghost use Rattle.plant_config.specs.IsPlant.{IsPlant};
 ghost use Rattle.crosspoint_state.specs.declared.spot.Spot.{Spot};
 ghost use Rattle.crosspoint_state.specs.Crosspoints.{NamesOnce};
+ghost use Rattle.crosspoint_state.specs.Taps.{ArePointsOf};
 ghost use Rattle.crosspoint_state.specs.Ties.{size_of, HaveValidTies};
 ghost use Rattle.crosspoint_state.specs.Applied.{given, applied, untied, put_all, are_enough};
 ghost use Rattle.crosspoint_state.specs.Laws.{AreInside};
@@ -39,19 +40,19 @@ impl Ties {
     )
         requires dests { AreInside plant.now changes.now }
         requires once { NamesOnce changes.now }
-        requires room { points.old.room ≡ destinations_of plant.now }
+        requires kept { ArePointsOf plant.now points.old }
         requires counts { AreCountsOf plant.now points.old.entries self.old }
         requires valid { HaveValidTies plant.now points.old.entries }
         requires enough { are_enough plant.now points.old.entries changes.now ≡ true }
         ensures made { points.new.entries ≡ applied plant.now points.old.entries changes.now }
-        ensures room { points.new.room ≡ points.old.room }
+        ensures kept { ArePointsOf plant.now points.new }
         ensures counts { AreCountsOf plant.now points.new.entries self.new }
         ensures valid { HaveValidTies plant.now points.new.entries }
     {
         drop(planned);
         // On a plant without pools no source comes by a tie.
         if plant.pools().is_empty() {
-            put_all(points, changes);
+            put_all(plant, points, changes);
             return;
         }
         self.make_all(plant, points, changes);
@@ -63,12 +64,12 @@ impl Ties {
         requires plant { IsPlant plant.now }
         requires dests { AreInside plant.now changes.now }
         requires once { NamesOnce changes.now }
-        requires room { points.old.room ≡ destinations_of plant.now }
+        requires kept { ArePointsOf plant.now points.old }
         requires counts { AreCountsOf plant.now points.old.entries self.old }
         requires valid { HaveValidTies plant.now points.old.entries }
         requires enough { are_enough plant.now points.old.entries changes.now ≡ true }
         ensures made { points.new.entries ≡ applied plant.now points.old.entries changes.now }
-        ensures room { points.new.room ≡ points.old.room }
+        ensures kept { ArePointsOf plant.now points.new }
         ensures counts { AreCountsOf plant.now points.new.entries self.new }
         ensures valid { HaveValidTies plant.now points.new.entries }
     {
@@ -80,11 +81,11 @@ impl Ties {
     fn release_all(&mut self, plant: &Plant, points: &mut Crosspoints, changes: &[Change])
         requires plant { IsPlant plant.now }
         requires dests { AreInside plant.now changes.now }
-        requires room { points.old.room ≡ destinations_of plant.now }
+        requires kept { ArePointsOf plant.now points.old }
         requires counts { AreCountsOf plant.now points.old.entries self.old }
         requires valid { HaveValidTies plant.now points.old.entries }
         ensures points { points.new.entries ≡ released_each points.old.entries changes.now }
-        ensures room { points.new.room ≡ points.old.room }
+        ensures kept { ArePointsOf plant.now points.new }
         ensures counts { AreCountsOf plant.now points.new.entries self.new }
     {
         for index in 0..changes.len() {
@@ -98,13 +99,13 @@ impl Ties {
         requires dests { AreInside plant.now changes.now }
         requires once { NamesOnce changes.now }
         requires ready { AreReady points.old.entries changes.now }
-        requires room { points.old.room ≡ destinations_of plant.now }
+        requires kept { ArePointsOf plant.now points.old }
         requires counts { AreCountsOf plant.now points.old.entries self.old }
         requires valid { HaveValidTies plant.now
             (given_each plant.now points.old.entries changes.now) }
         ensures points { points.new.entries
             ≡ given_each plant.now points.old.entries changes.now }
-        ensures room { points.new.room ≡ points.old.room }
+        ensures kept { ArePointsOf plant.now points.new }
         ensures counts { AreCountsOf plant.now points.new.entries self.new }
     {
         for index in 0..changes.len() {
@@ -116,11 +117,11 @@ impl Ties {
     fn release(&mut self, plant: &Plant, points: &mut Crosspoints, change: &Change)
         requires plant { IsPlant plant.now }
         requires dest { change.now.dest < destinations_of plant.now }
-        requires room { points.old.room ≡ destinations_of plant.now }
+        requires kept { ArePointsOf plant.now points.old }
         requires counts { AreCountsOf plant.now points.old.entries self.old }
         requires valid { HaveValidTies plant.now points.old.entries }
         ensures points { points.new.entries ≡ released_one points.old.entries change.now }
-        ensures room { points.new.room ≡ points.old.room }
+        ensures kept { ArePointsOf plant.now points.new }
         ensures counts { AreCountsOf plant.now points.new.entries self.new }
         ensures valid { HaveValidTies plant.now points.new.entries }
     {
@@ -134,12 +135,12 @@ impl Ties {
         requires plant { IsPlant plant.now }
         requires dest { change.now.dest < destinations_of plant.now }
         requires ready { IsReady points.old.entries change.now }
-        requires room { points.old.room ≡ destinations_of plant.now }
+        requires kept { ArePointsOf plant.now points.old }
         requires counts { AreCountsOf plant.now points.old.entries self.old }
         requires valid { HaveValidTies plant.now
             (given_one plant.now points.old.entries change.now) }
         ensures points { points.new.entries ≡ given_one plant.now points.old.entries change.now }
-        ensures room { points.new.room ≡ points.old.room }
+        ensures kept { ArePointsOf plant.now points.new }
         ensures counts { AreCountsOf plant.now points.new.entries self.new }
     {
         if points.is_idle(change) {
@@ -155,18 +156,18 @@ impl Ties {
     fn park(&mut self, plant: &Plant, points: &mut Crosspoints, dest: DestId)
         requires plant { IsPlant plant.now }
         requires dest { dest < destinations_of plant.now }
-        requires room { points.old.room ≡ destinations_of plant.now }
+        requires kept { ArePointsOf plant.now points.old }
         requires counts { AreCountsOf plant.now points.old.entries self.old }
         requires valid { HaveValidTies plant.now points.old.entries }
         ensures points { points.new.entries ≡ remove points.old.entries dest }
-        ensures room { points.new.room ≡ points.old.room }
+        ensures kept { ArePointsOf plant.now points.new }
         ensures counts { AreCountsOf plant.now points.new.entries self.new }
         ensures valid { HaveValidTies plant.now points.new.entries }
     {
         let Some(spot) = points.at(dest) else {
             return;
         };
-        points.set(dest, None);
+        points.set(plant, dest, None);
         let Some(route) = route_of(&self.ways, plant, Some(spot.source)) else {
             return;
         };
@@ -181,22 +182,22 @@ impl Ties {
         requires plant { IsPlant plant.now }
         requires dest { dest < destinations_of plant.now }
         requires parked { get points.old.entries dest ≡ None }
-        requires room { points.old.room ≡ destinations_of plant.now }
+        requires kept { ArePointsOf plant.now points.old }
         requires counts { AreCountsOf plant.now points.old.entries self.old }
         requires valid { HaveValidTies plant.now
             (given plant.now points.old.entries dest (Some source)) }
         ensures points { points.new.entries
             ≡ given plant.now points.old.entries dest (Some source) }
-        ensures room { points.new.room ≡ points.old.room }
+        ensures kept { ArePointsOf plant.now points.new }
         ensures counts { AreCountsOf plant.now points.new.entries self.new }
     {
         let Some(route) = route_of(&self.ways, plant, Some(source)) else {
-            points.set(dest, Some(Spot { source, tie: None }));
+            points.set(plant, dest, Some(Spot { source, tie: None }));
             return;
         };
         let size = size_of(plant, route.pool);
         let tie = self.come(route, size);
-        points.set(dest, Some(Spot { source, tie }));
+        points.set(plant, dest, Some(Spot { source, tie }));
     }
 
     // A destination leaves a route, whose tie is this.
@@ -230,13 +231,14 @@ impl Ties {
 }
 
 // Puts the sources of all changes in by no ties.
-fn put_all(points: &mut Crosspoints, changes: &[Change])
-    requires { All (λ change. change.dest < points.old.room) changes.now }
+fn put_all(plant: &Plant, points: &mut Crosspoints, changes: &[Change])
+    requires dests { AreInside plant.now changes.now }
+    requires kept { ArePointsOf plant.now points.old }
     ensures made { points.new.entries ≡ put_all points.old.entries changes.now }
-    ensures room { points.new.room ≡ points.old.room }
+    ensures kept { ArePointsOf plant.now points.new }
 {
     for change in changes {
-        points.set(change.dest, untied(change.source));
+        points.set(plant, change.dest, untied(change.source));
     }
 }
 

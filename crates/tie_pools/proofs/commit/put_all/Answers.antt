@@ -14,5 +14,5 @@ loop-change-preserved c =
       made = ap (λ points. put_all points rest) (c.set.ensures.entries ∙ ap (put points change.dest) c.untied.ensures)
           ∙ sym (ap (put_all points) next)
           ∙ c.loop-change.invariant.made;
-      room = c.set.ensures.room ∙ c.loop-change.invariant.room;
+      kept = c.set.ensures.kept;
     }

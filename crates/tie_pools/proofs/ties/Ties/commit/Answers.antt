@@ -1,11 +1,8 @@
-use Rattle.std.proofs.Common.{◌≡◌, ◌==◌, true, length, List, sym, ap, subst, ◌∙◌, arith, eqb-true}
+use Rattle.std.proofs.Common.{◌≡◌, ◌==◌, true, length, List, sym, ap, subst, ◌∙◌, eqb-true}
 use Rattle.plant_config.specs.declared.records.Pool.{Pool}
 use Rattle.crosspoint_state.specs.Ties.{HaveValidTies}
 use Rattle.tie_pools.proofs.WithoutPools.{counts_of_any, applied_valid, applied_put_all}
 use Rattle.tie_pools.proofs.ties.Ties.commit.Goals as goal
-
-pub put_all-requires : goal.put_all-requires
-put_all-requires c = λ k d within. omega (arith, c.requires.dests k d within, c.requires.room)
 
 -- the plant has no pools
 without : (pools its : List Pool) → pools ≡ its → (length pools == 0) ≡ true → length its ≡ 0

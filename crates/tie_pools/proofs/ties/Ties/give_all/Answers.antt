@@ -40,7 +40,7 @@ loop-index-preserved c =
       points = ap (λ points. given_each plant points rest) c.give.ensures.points
           ∙ sym (ap (given_each plant points) next)
           ∙ c.loop-index.invariant.points;
-      room = c.give.ensures.room ∙ c.loop-index.invariant.room;
+      kept = c.give.ensures.kept;
       counts = c.give.ensures.counts;
       ready = subst (λ points. AreReady points rest) (sym c.give.ensures.points)
           (ready_behind plant points c.index-changes-index.result rest

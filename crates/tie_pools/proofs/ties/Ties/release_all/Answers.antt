@@ -18,7 +18,7 @@ loop-index-preserved c =
       points = ap (λ points. released_each points rest) c.release.ensures.points
           ∙ sym (ap (released_each c.loop-index.points.entries) next)
           ∙ c.loop-index.invariant.points;
-      room = c.release.ensures.room ∙ c.loop-index.invariant.room;
+      kept = c.release.ensures.kept;
       counts = c.release.ensures.counts;
       valid = c.release.ensures.valid;
     }

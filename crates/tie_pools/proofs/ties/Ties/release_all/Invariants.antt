@@ -1,4 +1,5 @@
 use Rattle.std.proofs.Common.{◌≡◌, drop}
+use Rattle.crosspoint_state.specs.Taps.{ArePointsOf}
 use Rattle.crosspoint_state.specs.Ties.{HaveValidTies}
 use Rattle.tie_pools.specs.Counts.{AreCountsOf}
 use Rattle.tie_pools.specs.CommitInside.{released_each}
@@ -7,7 +8,7 @@ use Rattle.tie_pools.proofs.ties.Ties.release_all.Given as goal
 abbrev pub invariant-loop-index : goal.invariant-loop-index
 invariant-loop-index l = record {
   points : released_each l.points.entries (drop l.index l.changes) ≡ released_each l.initial.points.entries l.changes;
-  room : l.points.room ≡ l.initial.points.room;
+  kept : ArePointsOf l.plant l.points;
   counts : AreCountsOf l.plant l.points.entries l.self;
   valid : HaveValidTies l.plant l.points.entries;
 }
