@@ -6,7 +6,8 @@ use Rattle.std.specs.Cmp.{nat_cmp_total, unsigned_tied, nat_eq_equiv}
 use Rattle.std.specs.FinSet.{empty, contains, insert, contains-empty, contains-insert, contains-from_list_nat, same_set, nat_cmp-IsAntisymmetric}
 use Rattle.plant_config.specs.Plant.{PlantData}
 use Rattle.crosspoint_state.specs.Crosspoints.{Crosspoints}
-use Rattle.mixer_effects.specs.Live.{origin_at, carries}
+use Rattle.crosspoint_state.specs.Taps.{origin_at}
+use Rattle.mixer_effects.specs.Live.{carries}
 use Rattle.tally.specs.Tally.{Origins}
 use Rattle.tally.specs.TallyInside.{origins_at, Adds, any_carries}
 use Rattle.tally.proofs.Searches.{any_had}

@@ -6,8 +6,9 @@ use Rattle.std.specs.FinSet.{contains, from_list}
 use Rattle.plant_config.specs.declared.records.Bus.{Bus}
 use Rattle.plant_config.specs.Plant.{PlantData}
 use Rattle.crosspoint_state.specs.Crosspoints.{Crosspoints}
+use Rattle.crosspoint_state.specs.Taps.{origin_at}
 use Rattle.mixer_effects.specs.Buses.{is_bus_on, bus_at, output_of}
-use Rattle.mixer_effects.specs.Live.{origin_at, carries, live}
+use Rattle.mixer_effects.specs.Live.{carries, live}
 use Rattle.tally.specs.declared.roots.Roots.{Roots}
 use Rattle.tally.specs.declared.roots.Roots.TheVariants.{Air, Preview}
 use Rattle.tally.specs.Tally.{Origins, Tallies}

@@ -5,7 +5,8 @@ ghost use Rattle.std.specs.Prelude.{Some, IfSome};
 ghost use Rattle.std.specs.FinSet.{empty};
 ghost use Rattle.plant_config.specs.IsPlant.{IsPlant};
 ghost use Rattle.mixer_effects.specs.Buses.{bus_at};
-ghost use Rattle.mixer_effects.specs.Live.{origin_at, carries};
+ghost use Rattle.crosspoint_state.specs.Taps.{origin_at};
+ghost use Rattle.mixer_effects.specs.Live.{carries};
 ghost use Rattle.mixer_effects.specs.Wiring.{IsWiringOf};
 ghost use Rattle.number_tables.specs.Numbers.{number_limit};
 ghost use Rattle.tally.specs.Tally.{AreSeen, CarrySources};
@@ -15,13 +16,21 @@ ghost use Rattle.tally.specs.TallyInside.{Adds, any_brings, bus_carries, feeds};
 use mixer_effects::Graph;
 use number_tables::NumberSet;
 use plant_config::{Bus, DestId, Plant, SourceId};
+use std::sync::ledger::Ledger;
+use tap_lists::Steps;
 
 // The most devices of a plant.
 const DEVICES: usize = 64;
 
 // Finds the local sources whose pictures are seen at these roots.
 #[inline]
-pub(crate) fn find_seen(plant: &Plant, graph: &Graph<'_>, roots: &[DestId], seen: &mut NumberSet)
+pub(crate) fn find_seen<L: Ledger>(
+    plant: &Plant,
+    graph: &Graph<'_>,
+    roots: &[DestId],
+    seen: &mut NumberSet,
+    steps: &mut Steps<L>,
+)
     requires plant { IsPlant plant.now }
     requires wired { IsWiringOf plant.now graph.now.wiring }
     requires carried { CarrySources plant.now graph.now.crosspoints }
@@ -32,12 +41,18 @@ pub(crate) fn find_seen(plant: &Plant, graph: &Graph<'_>, roots: &[DestId], seen
     if roots.is_empty() {
         return;
     }
-    put_seen(plant, graph, roots, seen);
+    put_seen(plant, graph, roots, seen, steps);
 }
 
 // Puts the local sources whose pictures are seen at these roots into an empty set. A round that puts nothing is the last.
 #[inline(never)]
-fn put_seen(plant: &Plant, graph: &Graph<'_>, roots: &[DestId], seen: &mut NumberSet)
+fn put_seen<L: Ledger>(
+    plant: &Plant,
+    graph: &Graph<'_>,
+    roots: &[DestId],
+    seen: &mut NumberSet,
+    steps: &mut Steps<L>,
+)
     requires plant { IsPlant plant.now }
     requires wired { IsWiringOf plant.now graph.now.wiring }
     requires carried { CarrySources plant.now graph.now.crosspoints }
@@ -46,7 +61,7 @@ fn put_seen(plant: &Plant, graph: &Graph<'_>, roots: &[DestId], seen: &mut Numbe
 {
     put_roots(plant, graph, roots, seen);
     for _round in 0..plant.devices().len() {
-        if !put_round(plant, graph, seen) {
+        if !put_round(plant, graph, seen, steps) {
             return;
         }
     }
@@ -66,7 +81,12 @@ fn put_roots(plant: &Plant, graph: &Graph<'_>, roots: &[DestId], seen: &mut Numb
 
 // Puts the origins of what the buses carry that are on and whose device puts out one of the set. Whether one is new.
 #[inline(never)]
-fn put_round(plant: &Plant, graph: &Graph<'_>, seen: &mut NumberSet) -> bool
+fn put_round<L: Ledger>(
+    plant: &Plant,
+    graph: &Graph<'_>,
+    seen: &mut NumberSet,
+    steps: &mut Steps<L>,
+) -> bool
     requires plant { IsPlant plant.now }
     requires wired { IsWiringOf plant.now graph.now.wiring }
     requires carried { CarrySources plant.now graph.now.crosspoints }
@@ -77,7 +97,7 @@ fn put_round(plant: &Plant, graph: &Graph<'_>, seen: &mut NumberSet) -> bool
     let fed = fed_devices(plant, seen);
     let mut is_new = false;
     for bus in plant.buses() {
-        is_new |= put_bus(plant, graph, &fed, bus, seen);
+        is_new |= put_bus(plant, graph, &fed, bus, seen, steps);
     }
     is_new
 }
@@ -96,12 +116,13 @@ fn fed_devices(plant: &Plant, seen: &NumberSet) -> [bool; DEVICES]
 }
 
 // Puts the origin of what a bus carries, where it is on and its device is one of these. Whether that is new.
-fn put_bus(
+fn put_bus<L: Ledger>(
     plant: &Plant,
     graph: &Graph<'_>,
     fed: &[bool; DEVICES],
     bus: &Bus,
     seen: &mut NumberSet,
+    steps: &mut Steps<L>,
 ) -> bool
     requires plant { IsPlant plant.now }
     requires wired { IsWiringOf plant.now graph.now.wiring }
@@ -112,7 +133,7 @@ fn put_bus(
         && bus_carries plant.now graph.now.crosspoints origin bus.now) seen.old seen.new }
     ensures same { result ≡ false → seen.new ≡ seen.old }
 {
-    if !fed[bus.device.get() as usize] || !graph.is_on(bus.dest) {
+    if !fed[bus.device.get() as usize] || !graph.is_on(bus.dest, steps) {
         return false;
     }
     put_origin(plant, graph, bus.dest, seen)

@@ -16,7 +16,9 @@ use mixer_effects::{Graph, live_is_least};
 use number_tables::NumberSet;
 use plant_config::{DestId, DeviceId, Plant, SourceId};
 use std::alloc::{AllocError, Global};
-use std::marker::Model;
+use std::marker::{Brand, Model};
+use std::sync::ledger::{Blank, Ledger};
+use tap_lists::Steps;
 
 /// Which sources of a plant are on air, and which are on preview.
 #[derive(Debug, Drop)]
@@ -54,8 +56,23 @@ impl Tally {
         requires carried { CarrySources plant.now graph.now.crosspoints }
         ensures { IsTallyOf plant.now graph.now.crosspoints self.new }
     {
-        find_seen(plant, graph, plant.air(), &mut self.air);
-        find_seen(plant, graph, plant.preview(), &mut self.preview);
+        self.find_counted::<Brand>(plant, graph, Blank::new(1));
+    }
+
+    // The same, with a count of its own of what is read.
+    #[inline]
+    fn find_counted<L: Ledger>(&mut self, plant: &Plant, graph: &Graph<'_>, blank: Blank)
+        requires name { blank.name ≡ L.name }
+        requires parts { blank.parts ≡ L.parts }
+        requires some { 0 < blank.parts }
+        requires wired { IsWiringOf plant.now graph.now.wiring }
+        requires carried { CarrySources plant.now graph.now.crosspoints }
+        ensures { IsTallyOf plant.now graph.now.crosspoints self.new }
+    {
+        let (book, share) = blank.open::<L>();
+        let mut steps = Steps::begin(book, share);
+        find_seen(plant, graph, plant.air(), &mut self.air, &mut steps);
+        find_seen(plant, graph, plant.preview(), &mut self.preview, &mut steps);
     }
 
     /// Whether a source is seen at the air roots, or at the preview roots, with the crosspoints from which the tally was found.
@@ -77,19 +94,32 @@ impl Tally {
             (roots_of plant.now roots) dest }
     {
         live_is_least();
-        roots.has(plant, dest) || self.is_fed_bus(plant, graph, roots, dest)
+        roots.has(plant, dest) || self.is_fed_bus::<Brand>(plant, graph, roots, dest, Blank::new(1))
     }
 
-    // Whether a destination is a bus that is on, of a device that puts out a source that is seen.
-    fn is_fed_bus(&self, plant: &Plant, graph: &Graph<'_>, roots: Roots, dest: DestId) -> bool
+    // Whether a destination is a bus that is on, of a device that puts out a source that is seen. It has a count of its own
+    // of what is read.
+    fn is_fed_bus<L: Ledger>(
+        &self,
+        plant: &Plant,
+        graph: &Graph<'_>,
+        roots: Roots,
+        dest: DestId,
+        blank: Blank,
+    ) -> bool
+        requires name { blank.name ≡ L.name }
+        requires parts { blank.parts ≡ L.parts }
+        requires some { 0 < blank.parts }
         requires wired { IsWiringOf plant.now graph.now.wiring }
         ensures { result ≡ is_fed_bus plant.now graph.now.crosspoints
             (seen_at self.now roots) dest }
     {
-        let Some(device) = graph.device_of(dest) else {
+        let (book, share) = blank.open::<L>();
+        let mut steps = Steps::begin(book, share);
+        let Some(device) = graph.device_of(dest, &mut steps) else {
             return false;
         };
-        graph.is_on(dest) && self.feeds(plant, roots, device)
+        graph.is_on(dest, &mut steps) && self.feeds(plant, roots, device)
     }
 
     // Whether a device puts out a source that is seen.

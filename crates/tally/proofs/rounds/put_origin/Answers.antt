@@ -1,6 +1,7 @@
 use Rattle.std.proofs.Common.{◌≡◌, Some, sym, subst, ap, ◌∙◌}
 use Rattle.std.specs.FinSet.{insert}
-use Rattle.mixer_effects.specs.Live.{origin_at, carries}
+use Rattle.crosspoint_state.specs.Taps.{origin_at}
+use Rattle.mixer_effects.specs.Live.{carries}
 use Rattle.tally.specs.TallyInside.{Adds}
 use Rattle.tally.proofs.SetLemmas.{adds_origin}
 use Rattle.tally.proofs.rounds.put_origin.Goals as goal

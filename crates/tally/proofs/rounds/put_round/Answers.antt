@@ -5,7 +5,7 @@ use Rattle.tally.proofs.LiveLemmas.{bus_found}
 use Rattle.tally.proofs.rounds.put_round.Goals as goal
 
 pub put_bus-is_new-requires-clause-bus : goal.put_bus-is_new-requires-clause-bus
-put_bus-is_new-requires-clause-bus c =
+put_bus-is_new-requires-clause-bus g c =
     let bus = c.bus-item.result in
     let here : slice_get c.buses-bus-items.result.now c.loop-bus.bus-index ≡ Some bus = slice_get_read c.buses-bus-items.result.now (length c.buses-bus-items.result.now) c.loop-bus.bus-index bus (omega arith) c.loop-bus-test.true c.bus-item.is in
     bus_found c.args.plant.now c.loop-bus.bus-index bus c.requires.plant
