@@ -5,4 +5,5 @@ pub mod SummaryLemmas
 pub mod Members
 pub mod LowestLemmas
 pub mod FirstMember
+pub mod SmallMembers
 mod Worked

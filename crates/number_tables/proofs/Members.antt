@@ -10,7 +10,7 @@ use Rattle.number_tables.specs.Numbers.{Numbers}
 use Rattle.number_tables.specs.SetInside.{has_bit, members, IsZero, SetsBit, ClearsBit}
 use Rattle.number_tables.proofs.SummaryLemmas.{bit_within, no_bit}
 
-in_range : (from count n : ℕ) → from ≤ n → n < from + count → list_any (λ y. nat_eq y n) (range_with_len from count) ≡ true
+pub in_range : (from count n : ℕ) → from ≤ n → n < from + count → list_any (λ y. nat_eq y n) (range_with_len from count) ≡ true
 in_range from zero n low high = absurd (omega arith)
 in_range from (suc count) n low high =
     elim (cases_eq from n) [

@@ -12,6 +12,10 @@ Numbers = FinSet nat_cmp
 abbrev pub number_limit : ℕ
 number_limit = 65536
 
+-- how many small numbers there are: the members of a small set are below
+abbrev pub small_limit : ℕ
+small_limit = 1024
+
 -- the least of some numbers
 abbrev pub least : List ℕ → Option ℕ
 least [] = None

@@ -59,6 +59,12 @@ pub record IsSummed (words groups top : List ℕ) : Type 0 where
   pub of_words : IsSummary words groups
   pub of_groups : IsSummary groups top
 
+-- A bit for each of 1,024 numbers, and a bit for each of their 16 words.
+pub record IsSmallSummed (words summary : List ℕ) : Type 0 where
+  pub words_length : length words ≡ 16
+  pub summary_length : length summary ≡ 1
+  pub of_words : IsSummary words summary
+
 -- The words of the groups below this one are 0, and the others are as they were.
 pub record ZeroesBelow (old new : List ℕ) (group : ℕ) : Type 0 where
   pub zero : (word : ℕ) → word / 64 < group → slice_index new word ≡ 0

@@ -1,14 +1,16 @@
 -- The counts stay those of the crosspoints where a destination is parked, and where it is brought a source.
-use Rattle.std.proofs.Common.{◌≡◌, ◌≢◌, ◌⊎◌, ℕ, ◌<◌, ◌≤◌, nat_eq, nat_lt, Bool, true, false, not, cond, map, find, get_or, slice_get, Option, Some, None, inl, inr, refl, sym, ap, subst, ◌∙◌, arith}
-use Rattle.std.proofs.lemmas.Bool.{cases_eq}
-use Rattle.std.proofs.lemmas.Option.{none-some, slice_get_within, get_or_from_slice_get}
+use Rattle.std.proofs.Common.{◌≡◌, ◌≢◌, ◌⊎◌, ℕ, ◌<◌, ◌≤◌, nat_eq, nat_lt, Bool, true, false, not, cond, ◌&&◌, map, find, length, get_or, slice_get, Option, Some, None, inl, inr, refl, sym, ap, subst, ◌∙◌, arith, length-set}
+use Rattle.std.proofs.lemmas.Bool.{cases_eq, cases_lt}
+use Rattle.std.proofs.lemmas.Option.{none-some, slice_get_within, slice_get_past, get_or_from_slice_get}
 use Rattle.std.specs.Option.{option_map, option_map_or, option_and_then, option_or, option_eq, IfSome}
 use Rattle.std.specs.List.{list_any, count_by}
 use Rattle.std.specs.Set.{distinct_count}
 use Rattle.std.specs.FinMap as finite
+use Rattle.std.specs.FinSet.{insert, remove}
 use Rattle.number_tables.specs.Table.{put}
 use Rattle.number_tables.proofs.PutLemmas.{get-put_same, get-put_other, put-get}
 use Rattle.plant_config.specs.declared.records.Pool.{Pool}
+use Rattle.plant_config.specs.Limits.{tie_limit}
 use Rattle.plant_config.specs.Plant.{PlantData, destinations_of}
 use Rattle.plant_config.specs.Sources.{origin_of, pool_of}
 use Rattle.plant_config.specs.IsPlant.{IsPlant, IsPool}
@@ -19,7 +21,7 @@ use Rattle.crosspoint_state.proofs.TieLemmas.{its_tie, has_origin, has_tie, feed
 use Rattle.crosspoint_state.proofs.ValidLemmas.{valid_fewer}
 use Rattle.tie_pools.specs.declared.route.Route.{Route}
 use Rattle.tie_pools.specs.Ways.{way_of, source_way}
-use Rattle.tie_pools.specs.Counts.{Counts, AreCountsOf, tie_limit, count_at}
+use Rattle.tie_pools.specs.Counts.{Counts, AreCountsOf, count_at, free_of}
 use Rattle.tie_pools.specs.CountsInside.{fed_less}
 use Rattle.tie_pools.specs.DemandInside.{AreDemandOf, route_of, IsRoute, HasRoom}
 use Rattle.tie_pools.specs.HoldingsInside.{freed, tie_for}
@@ -29,7 +31,7 @@ use Rattle.tie_pools.proofs.Inserted.{before, behind, with_feed, occupied_put}
 use Rattle.tie_pools.proofs.WayLemmas.{ComesByWay, source_way_is, no_way}
 use Rattle.tie_pools.proofs.DemandLemmas.{demand_fed, demand_unfed}
 use Rattle.tie_pools.proofs.RouteLemmas.{route_found, has_room}
-use Rattle.tie_pools.proofs.HoldingLemmas.{ComesTied, ties_stay, held_stay, ties_freed, held_freed, ties_given, held_given, chosen_is}
+use Rattle.tie_pools.proofs.HoldingLemmas.{ComesTied, ties_stay, free_stay, ties_freed, free_freed, ties_given, free_given, chosen_is}
 
 -- a pool has at most as many ties as any
 pub size_few : (plant : PlantData) (pool : ℕ) → IsPlant plant → size_of plant pool ≤ tie_limit
@@ -51,7 +53,7 @@ same_counts plant one other counts same counted = record {
   fed = λ pool origin way is. counted.fed pool origin way is ∙ ap (count_by (has_origin origin)) (same pool);
   used = λ pool. counted.used pool ∙ ap (λ feeds. distinct_count nat_eq (map (λ (feed : Feed). feed.origin) feeds)) (same pool);
   ties = λ pool origin way is. counted.ties pool origin way is ∙ ap (λ feeds. option_and_then (λ (feed : Feed). feed.tie) (find (has_origin origin) feeds)) (same pool);
-  held = λ pool tie below. counted.held pool tie below ∙ ap (λ feeds. not (not (list_any (has_tie tie) feeds))) (same pool);
+  free = λ pool tie. counted.free pool tie ∙ ap (λ feeds. nat_lt tie (size_of plant pool) && not (list_any (has_tie tie) feeds)) (same pool);
 }
 
 -- a destination that carries a local source holds nothing of any pool
@@ -107,7 +109,7 @@ record ComesByRoute (plant : PlantData) (points : Crosspoints) (dest : ℕ) (spo
   origin : ℕ
   tied : ComesTied plant points dest spot route.pool origin route.way tie
 
-comes_by_route : (plant : PlantData) (points : Crosspoints) (dest : ℕ) (spot : Spot) (route : Route) (tie : ℕ) → dest < destinations_of plant → route_of plant (Some spot.source) ≡ Some route → spot.tie ≡ Some tie → tie < tie_limit → HaveValidTies plant (put points dest (Some spot)) → ComesByRoute plant points dest spot route tie
+comes_by_route : (plant : PlantData) (points : Crosspoints) (dest : ℕ) (spot : Spot) (route : Route) (tie : ℕ) → dest < destinations_of plant → route_of plant (Some spot.source) ≡ Some route → spot.tie ≡ Some tie → tie < size_of plant route.pool → HaveValidTies plant (put points dest (Some spot)) → ComesByRoute plant points dest spot route tie
 comes_by_route plant points dest spot route tie inside routed tied below valid =
     let comes = comes_in plant spot.source route routed in
     record {
@@ -126,20 +128,29 @@ comes_by_route plant points dest spot route tie inside routed tied below valid =
 -- the demand is a part of the counts
 demand_counted : (plant : PlantData) (points : Crosspoints) (counts : Counts) → AreCountsOf plant points counts → AreDemandOf plant points (demand_of counts)
 demand_counted plant points counts counted = record {
-  room = record { fed = counted.room.fed; used = counted.room.used };
+  room = record { fed = counted.room.fed; used = counted.room.used; sizes = counted.room.sizes };
   fed = counted.fed;
   used = counted.used;
 }
 
 -- there is room for a route of the plant
-pub route_placed : (plant : PlantData) (points : Crosspoints) (counts : Counts) (route : Route) → IsPlant plant → IsRoute plant route → AreCountsOf plant points counts → HavePlaces counts route
-route_placed plant points counts route is routed counted = record {
-  few = omega (arith, routed.pool, is.linked.pools.0.1);
+pub route_placed : (plant : PlantData) (points : Crosspoints) (counts : Counts) (route : Route) → IsRoute plant route → AreCountsOf plant points counts → HavePlaces counts route
+route_placed plant points counts route routed counted = record {
   used = omega (arith, routed.pool, counted.room.used);
   fed = omega (arith, routed.way, counted.room.fed);
   ties = omega (arith, routed.way, counted.room.ties);
-  held = λ tie below. omega (arith, routed.pool, below, counted.room.held);
+  free = omega (arith, routed.pool, counted.room.free);
 }
+
+-- a pool that has a tie is one of the plant
+pool_within : (plant : PlantData) (pool tie : ℕ) → tie < size_of plant pool → pool < length plant.pools
+pool_within plant pool tie below =
+    elim (cases_lt pool (length plant.pools)) [
+      | inl within ↦ within
+      | inr past ↦
+          let none : size_of plant pool ≡ 0 = ap (λ found. option_map_or (λ (found : Pool). found.ties) found 0) (slice_get_past plant.pools pool past) in
+          absurd (omega (arith, below, none))
+    ]
 
 -- the counts behind a destination that leaves
 counts_left : (plant : PlantData) (points : Crosspoints) (dest : ℕ) (spot : Spot) (route : Route) (tie : ℕ) (counts : Counts) → ComesByRoute plant points dest spot route tie → AreCountsOf plant (put points dest (Some spot)) counts → AreCountsOf plant (put points dest None) (left_from counts route tie)
@@ -156,35 +167,39 @@ counts_left plant points dest spot route tie counts comes counted = by (list_any
     left_as : Bool → Counts
     left_as b = counts_of counts.ways (fed_less (demand_of counts) route.pool route.way) (cond b (holdings_of counts) (freed (holdings_of counts) route.pool route.way tie))
 
+    placed : route.pool < length counts.free
+    placed = omega (arith, pool_within plant route.pool tie comes.tied.below, counted.room.free)
+
     by : (b : Bool) → list_any (has_origin comes.origin) (occupied plant (put points dest None) route.pool) ≡ b → AreCountsOf plant (put points dest None) (left_from counts route tie)
     by true fed = subst (λ b. AreCountsOf plant (put points dest None) (left_as b)) (sym (still ∙ fed)) (record {
       ways = counted.ways;
-      room = record { fed = counted.room.fed; used = counted.room.used; ties = counted.room.ties; held = counted.room.held };
+      room = record { fed = counted.room.fed; used = counted.room.used; sizes = counted.room.sizes; ties = counted.room.ties; free = counted.room.free };
       fed = demand.fed;
       used = demand.used;
       ties = ties_stay plant points dest spot route.pool comes.origin route.way tie comes.tied counts.ties.entries counted.ties fed;
-      held = held_stay plant points dest spot route.pool comes.origin route.way tie comes.tied counts.held.entries counted.held fed;
+      free = free_stay plant points dest spot route.pool comes.origin route.way tie comes.tied counts.free counted.free fed;
     })
     by false unfed = subst (λ b. AreCountsOf plant (put points dest None) (left_as b)) (sym (still ∙ unfed)) (record {
       ways = counted.ways;
-      room = record { fed = counted.room.fed; used = counted.room.used; ties = counted.room.ties; held = counted.room.held };
+      room = record { fed = counted.room.fed; used = counted.room.used; sizes = counted.room.sizes; ties = counted.room.ties; free = length-set counts.free route.pool (insert (free_of counts.free route.pool) tie) ∙ counted.room.free };
       fed = demand.fed;
       used = demand.used;
       ties = ties_freed plant points dest spot route.pool comes.origin route.way tie comes.tied counts.ties.entries counted.ties unfed;
-      held = held_freed plant points dest spot route.pool comes.origin route.way tie comes.tied counts.held.entries counted.held unfed;
+      free = free_freed plant points dest spot route.pool comes.origin route.way tie comes.tied counts.free placed counted.free unfed;
     })
 
 -- the counts with a destination that comes
 counts_come : (plant : PlantData) (points : Crosspoints) (dest : ℕ) (spot : Spot) (route : Route) (tie : ℕ) (counts : Counts) → ComesByRoute plant points dest spot route tie → AreCountsOf plant (put points dest None) counts → AreCountsOf plant (put points dest (Some spot)) (come_to counts route tie)
 counts_come plant points dest spot route tie counts comes counted =
+    let placed : route.pool < length counts.free = omega (arith, pool_within plant route.pool tie comes.tied.below, counted.room.free) in
     let demand = demand_fed plant points dest spot route.pool comes.origin route.way comes.tied.inside comes.tied.pooled comes.tied.stands comes.tied.is (demand_of counts) (demand_counted plant (put points dest None) counts counted) in
     record {
       ways = counted.ways;
-      room = record { fed = counted.room.fed; used = counted.room.used; ties = counted.room.ties; held = counted.room.held };
+      room = record { fed = counted.room.fed; used = counted.room.used; sizes = counted.room.sizes; ties = counted.room.ties; free = length-set counts.free route.pool (remove (free_of counts.free route.pool) tie) ∙ counted.room.free };
       fed = demand.fed;
       used = demand.used;
       ties = ties_given plant points dest spot route.pool comes.origin route.way tie comes.tied counts.ties.entries counted.ties;
-      held = held_given plant points dest spot route.pool comes.origin route.way tie comes.tied counts.held.entries route.way counted.held;
+      free = free_given plant points dest spot route.pool comes.origin route.way tie comes.tied counts.free placed counted.free;
     }
 
 -- a destination of the plant is parked
@@ -208,28 +223,29 @@ module _ (plant : PlantData) (points : Crosspoints) (dest : ℕ) (inside : dest 
       (subst (λ points. AreCountsOf plant points counts) (sym (as_it_stands points dest (Some spot) stands)) counted)
 
   -- a remote source has its tie, and that is one of its pool's
-  own_tie : (spot : Spot) (route : Route) → IsPlant plant → finite.get points dest ≡ Some spot → route_of plant (Some spot.source) ≡ Some route → (tie : ℕ) × (spot.tie ≡ Some tie) × (tie < tie_limit)
-  own_tie spot route is stands routed =
+  own_tie : (spot : Spot) (route : Route) → finite.get points dest ≡ Some spot → route_of plant (Some spot.source) ≡ Some route → (tie : ℕ) × (spot.tie ≡ Some tie) × (tie < size_of plant route.pool)
+  own_tie spot route stands routed =
       let comes = comes_in plant spot.source route routed in
-      let own = its_tie plant route.pool spot (valid.tied dest spot (record { inside = inside; carried = stands })) comes.pooled in
-      let below : own.0 < tie_limit = omega (arith, own.2, size_few plant route.pool is) in
-      (own.0, own.1, below)
+      its_tie plant route.pool spot (valid.tied dest spot (record { inside = inside; carried = stands })) comes.pooled
 
-  pub parked_tied : (spot : Spot) (route : Route) → IsPlant plant → finite.get points dest ≡ Some spot → route_of plant (Some spot.source) ≡ Some route → spot.tie ≡ None → ⊥
-  parked_tied spot route is stands routed none =
-      let own = own_tie spot route is stands routed in
+  pub parked_tied : (spot : Spot) (route : Route) → finite.get points dest ≡ Some spot → route_of plant (Some spot.source) ≡ Some route → spot.tie ≡ None → ⊥
+  parked_tied spot route stands routed none =
+      let own = own_tie spot route stands routed in
       none-some own.0 (sym none ∙ own.1)
 
-  pub parked_fits : (spot : Spot) (route : Route) (tie : ℕ) → IsPlant plant → finite.get points dest ≡ Some spot → route_of plant (Some spot.source) ≡ Some route → spot.tie ≡ Some tie → tie < tie_limit
-  parked_fits spot route tie is stands routed tied =
-      let own = own_tie spot route is stands routed in
-      subst (λ tie. tie < tie_limit) (some_number own.0 tie (sym own.1 ∙ tied)) own.2
+  parked_sized : (spot : Spot) (route : Route) (tie : ℕ) → finite.get points dest ≡ Some spot → route_of plant (Some spot.source) ≡ Some route → spot.tie ≡ Some tie → tie < size_of plant route.pool
+  parked_sized spot route tie stands routed tied =
+      let own = own_tie spot route stands routed in
+      subst (λ tie. tie < size_of plant route.pool) (some_number own.0 tie (sym own.1 ∙ tied)) own.2
 
-  pub parked_remote : (counts : Counts) (spot : Spot) (route : Route) (tie : ℕ) → IsPlant plant → finite.get points dest ≡ Some spot → route_of plant (Some spot.source) ≡ Some route → spot.tie ≡ Some tie → AreCountsOf plant points counts → AreCountsOf plant (put points dest None) (left_from counts route tie)
-  parked_remote counts spot route tie is stands routed tied counted =
+  pub parked_fits : (spot : Spot) (route : Route) (tie : ℕ) → IsPlant plant → finite.get points dest ≡ Some spot → route_of plant (Some spot.source) ≡ Some route → spot.tie ≡ Some tie → tie < tie_limit
+  parked_fits spot route tie is stands routed tied = omega (arith, parked_sized spot route tie stands routed tied, size_few plant route.pool is)
+
+  pub parked_remote : (counts : Counts) (spot : Spot) (route : Route) (tie : ℕ) → finite.get points dest ≡ Some spot → route_of plant (Some spot.source) ≡ Some route → spot.tie ≡ Some tie → AreCountsOf plant points counts → AreCountsOf plant (put points dest None) (left_from counts route tie)
+  parked_remote counts spot route tie stands routed tied counted =
       let same : put points dest (Some spot) ≡ points = as_it_stands points dest (Some spot) stands in
       counts_left plant points dest spot route tie counts
-      (comes_by_route plant points dest spot route tie inside routed tied (parked_fits spot route tie is stands routed tied) (subst (HaveValidTies plant) (sym same) valid))
+      (comes_by_route plant points dest spot route tie inside routed tied (parked_sized spot route tie stands routed tied) (subst (HaveValidTies plant) (sym same) valid))
       (subst (λ points. AreCountsOf plant points counts) (sym same) counted)
 
 local_tie : (plant : PlantData) (points : Crosspoints) (source : ℕ) → pool_of plant source ≡ None → chosen_tie plant points source ≡ None
@@ -240,10 +256,11 @@ abbrev pub with_chosen : PlantData → Crosspoints → ℕ → Spot
 with_chosen plant points source = record { source = source; tie = chosen_tie plant points source }
 
 -- The tie by which a source is brought.
-pub record IsBrought (plant : PlantData) (points : Crosspoints) (source : ℕ) (counts : Counts) (route : Route) (size : ℕ) : Type 0 where
+pub record IsBrought (plant : PlantData) (points : Crosspoints) (source : ℕ) (counts : Counts) (route : Route) : Type 0 where
   pub tie : ℕ
-  pub kept : tie_for (holdings_of counts) route.pool size route.way ≡ Some tie
+  pub kept : tie_for (holdings_of counts) route.pool route.way ≡ Some tie
   pub chosen : chosen_tie plant points source ≡ Some tie
+  pub sized : tie < size_of plant route.pool
   pub below : tie < tie_limit
 
 -- A parked destination of the plant is brought a source.
@@ -260,25 +277,25 @@ module _ (plant : PlantData) (points : Crosspoints) (dest source : ℕ) (counts 
       (λ pool. sym (local_holds plant points dest (with_chosen plant points source) inside (no_route_local plant source routed) pool))
       counted_parked
 
-  -- the tie that is kept, or else the lowest that isn't held, is the one that is chosen, and there is one
-  pub brought : (route : Route) (size : ℕ) → IsPlant plant → HaveValidTies plant (put points dest (Some (with_chosen plant points source))) → route_of plant (Some source) ≡ Some route → size ≡ size_of plant route.pool → IsBrought plant points source counts route size
-  brought route size is valid routed sized =
+  -- the tie that is kept, or else the lowest free one, is the one that is chosen, and there is one
+  pub brought : (route : Route) → IsPlant plant → HaveValidTies plant (put points dest (Some (with_chosen plant points source))) → route_of plant (Some source) ≡ Some route → IsBrought plant points source counts route
+  brought route is valid routed =
       let comes = comes_in plant source route routed in
       let own = its_tie plant route.pool (with_chosen plant points source) (valid.tied dest (with_chosen plant points source) (record { inside = inside; carried = get-put_same points dest (Some (with_chosen plant points source)) })) comes.pooled in
       let below : own.0 < tie_limit = omega (arith, own.2, size_few plant route.pool is) in
       record {
         tie = own.0;
-        kept = ap (λ size. tie_for (holdings_of counts) route.pool size route.way) sized
-            ∙ chosen_is plant points source route.pool comes.origin route.way (holdings_of counts) comes.pooled comes.stands comes.is (size_few plant route.pool is) counted.ties counted.held
+        kept = chosen_is plant points source route.pool comes.origin route.way (holdings_of counts) comes.pooled comes.stands comes.is counted.ties counted.free
             ∙ own.1;
         chosen = own.1;
+        sized = own.2;
         below = below;
       }
 
-  pub brought_remote : (route : Route) (tie : ℕ) → HaveValidTies plant (put points dest (Some (with_chosen plant points source))) → route_of plant (Some source) ≡ Some route → chosen_tie plant points source ≡ Some tie → tie < tie_limit → AreCountsOf plant (put points dest (Some (with_chosen plant points source))) (come_to counts route tie)
-  brought_remote route tie valid routed chosen below =
+  pub brought_remote : (route : Route) (tie : ℕ) → HaveValidTies plant (put points dest (Some (with_chosen plant points source))) → route_of plant (Some source) ≡ Some route → chosen_tie plant points source ≡ Some tie → tie < size_of plant route.pool → AreCountsOf plant (put points dest (Some (with_chosen plant points source))) (come_to counts route tie)
+  brought_remote route tie valid routed chosen sized =
       counts_come plant points dest (with_chosen plant points source) route tie counts
-      (comes_by_route plant points dest (with_chosen plant points source) route tie inside routed chosen below valid)
+      (comes_by_route plant points dest (with_chosen plant points source) route tie inside routed chosen sized valid)
       counted_parked
 
   pub brought_room : (route : Route) → IsPlant plant → route_of plant (Some source) ≡ Some route → HasRoom (demand_of counts) route

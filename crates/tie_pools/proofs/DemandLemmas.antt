@@ -79,7 +79,7 @@ module _ (plant : PlantData) (points : Crosspoints) (dest : ℕ) (spot : Spot) (
 
   pub demand_fed : (demand : Demand) → AreDemandOf plant (put points dest None) demand → AreDemandOf plant (put points dest (Some spot)) (fed_more demand pool way)
   demand_fed demand counted = record {
-    room = record { fed = counted.room.fed; used = counted.room.used };
+    room = record { fed = counted.room.fed; used = counted.room.used; sizes = counted.room.sizes };
     fed = λ p o w e. fed p o w e (cases_eq w way);
     used = λ p. used p (cases_eq p pool);
   }
@@ -113,7 +113,7 @@ module _ (plant : PlantData) (points : Crosspoints) (dest : ℕ) (spot : Spot) (
 
   pub demand_unfed : (demand : Demand) → AreDemandOf plant (put points dest (Some spot)) demand → AreDemandOf plant (put points dest None) (fed_less demand pool way)
   demand_unfed demand counted = record {
-    room = record { fed = counted.room.fed; used = counted.room.used };
+    room = record { fed = counted.room.fed; used = counted.room.used; sizes = counted.room.sizes };
     fed = λ p o w e. fed p o w e (cases_eq w way);
     used = λ p. used p (cases_eq p pool);
   }

@@ -1,10 +1,12 @@
 -- What is held of the ties while one destination carries a source or not, and nothing else differs.
-use Rattle.std.proofs.Common.{◌≡◌, ◌≢◌, ◌⊎◌, ℕ, ◌<◌, ◌≤◌, nat_eq, Bool, true, false, not, cond, ◌||◌, ◌∷◌, ◌++◌, find, Option, Some, None, inl, inr, refl, sym, ap, subst, ◌∙◌, arith, eq-eqb, eqb-true}
-use Rattle.std.proofs.lemmas.Bool.{cases_eq, ne_eqb, false≢true, false_from_ne_true}
-use Rattle.std.specs.Option.{is_some, is_none, option_map, option_and_then, option_or, option_eq}
+use Rattle.std.proofs.Common.{◌≡◌, ◌≢◌, ◌⊎◌, ℕ, ◌<◌, nat_eq, nat_lt, Bool, true, false, not, cond, ◌&&◌, ◌||◌, List, ◌∷◌, ◌++◌, find, length, set, Option, Some, None, inl, inr, refl, sym, ap, subst, ◌∙◌, eq-eqb, eqb-true}
+use Rattle.std.proofs.lemmas.Bool.{cases_eq, ne_eqb, lt-ltb, false≢true, false_from_ne_true}
+use Rattle.std.specs.Option.{option_map, option_and_then, option_or, option_eq}
 use Rattle.std.specs.List.{list_any}
 use Rattle.std.specs.FinMap as finite
+use Rattle.std.specs.FinSet.{contains, insert, remove}
 use Rattle.number_tables.specs.Table.{Entries, put}
+use Rattle.number_tables.specs.Numbers.{Numbers, lowest}
 use Rattle.number_tables.proofs.PutLemmas.{get-put_same, get-put_other}
 use Rattle.plant_config.specs.Plant.{PlantData, destinations_of}
 use Rattle.plant_config.specs.Sources.{origin_of, pool_of}
@@ -14,19 +16,12 @@ use Rattle.crosspoint_state.specs.Ties.{size_of, Feed, feed_of, occupied, tie_be
 use Rattle.crosspoint_state.proofs.FeedLists.{any_finds}
 use Rattle.crosspoint_state.proofs.TieLemmas.{same_option, feed_with, any_occupied, find_occupied, has_origin, has_tie}
 use Rattle.tie_pools.specs.Ways.{way_of}
-use Rattle.tie_pools.specs.Counts.{tie_limit, tie_place, HaveTies, HoldTies}
-use Rattle.tie_pools.specs.HoldingsInside.{Holdings, lowest_unheld, tie_for}
-use Rattle.tie_pools.proofs.Searches.{none_found, find_alike}
+use Rattle.tie_pools.specs.Counts.{free_of, HaveTies, HaveFree}
+use Rattle.tie_pools.specs.HoldingsInside.{Holdings, tie_for}
+use Rattle.tie_pools.proofs.Searches.{none_found, lowest_below}
+use Rattle.tie_pools.proofs.FreeLemmas.{inserted_here, inserted_apart, removed_here, removed_apart}
 use Rattle.tie_pools.proofs.Inserted.{before, behind, with_feed, occupied_put, any_inserted, find_inserted}
 use Rattle.tie_pools.proofs.WayLemmas.{ways_differ}
-
--- the places of two ties are one only where both are one
-pub same_place : (pool tie other other_tie : ℕ) → tie < tie_limit → other_tie < tie_limit → tie_place pool tie ≡ tie_place other other_tie → (pool ≡ other) × (tie ≡ other_tie)
-same_place pool tie other other_tie below other_below e = (omega arith, omega arith)
-
-thrice : (b : Bool) → not (not (not b)) ≡ not b
-thrice true = refl
-thrice false = refl
 
 -- A destination of the plant is to carry a remote source by a valid tie: its pool, origin, way and tie are these.
 pub record ComesTied (plant : PlantData) (points : Crosspoints) (dest : ℕ) (spot : Spot) (pool origin way tie : ℕ) : Type 0 where
@@ -35,7 +30,7 @@ pub record ComesTied (plant : PlantData) (points : Crosspoints) (dest : ℕ) (sp
   pub stands : origin_of plant spot.source ≡ Some origin
   pub is : way_of plant pool origin ≡ Some way
   pub tied : spot.tie ≡ Some tie
-  pub below : tie < tie_limit
+  pub below : tie < size_of plant pool
   pub valid : HaveValidTies plant (put points dest (Some spot))
 
 -- The crosspoints with this destination's spot, and without it.
@@ -149,15 +144,23 @@ module _ (plant : PlantData) (points : Crosspoints) (dest : ℕ) (spot : Spot) (
           differ same)
 
   -- what is so of the tie, and of each other one, is so of all
-  by_place : (IsSo : ℕ → ℕ → Type 0) → IsSo pool tie → ((other other_tie : ℕ) → other_tie < tie_limit → tie_place other other_tie ≢ tie_place pool tie → (pool ≡ other → tie ≡ other_tie → ⊥) → IsSo other other_tie) → (other other_tie : ℕ) → other_tie < tie_limit → IsSo other other_tie
-  by_place IsSo here there other other_tie below = by (cases_eq (tie_place other other_tie) (tie_place pool tie))
+  by_tie : (IsSo : ℕ → ℕ → Type 0) → IsSo pool tie → ((other other_tie : ℕ) → (pool ≡ other → tie ≡ other_tie → ⊥) → IsSo other other_tie) → (other other_tie : ℕ) → IsSo other other_tie
+  by_tie IsSo here there other other_tie = by (cases_eq pool other) (cases_eq tie other_tie)
     where
-      by : (tie_place other other_tie ≡ tie_place pool tie) ⊎ (tie_place other other_tie ≢ tie_place pool tie) → IsSo other other_tie
-      by (inl same) =
-          let both = same_place other other_tie pool tie below comes.below same in
-          subst (λ t. IsSo other t) (sym both.1) (subst (λ p. IsSo p tie) (sym both.0) here)
-      by (inr differ) = there other other_tie below differ (λ p t.
-          differ (sym (ap (λ q. tie_place q tie) p ∙ ap (tie_place other) t)))
+      by : (pool ≡ other) ⊎ (pool ≢ other) → (tie ≡ other_tie) ⊎ (tie ≢ other_tie) → IsSo other other_tie
+      by (inl same_pool) (inl same_tie) = subst (λ p. IsSo p other_tie) same_pool (subst (IsSo pool) same_tie here)
+      by (inl same_pool) (inr apart) = there other other_tie (λ _ e. apart e)
+      by (inr apart) either = there other other_tie (λ e _. apart e)
+
+  -- whether the pool has the tie and it is free
+  abbrev is_kept : Crosspoints → ℕ → ℕ → Bool
+  is_kept some p t = nat_lt t (size_of plant p) && is_free plant some p t
+
+  kept_here : (some : Crosspoints) → is_kept some pool tie ≡ is_free plant some pool tie
+  kept_here some = ap (λ b. b && is_free plant some pool tie) (lt-ltb tie (size_of plant pool) comes.below)
+
+  kept_apart : (p t : ℕ) → (pool ≡ p → tie ≡ t → ⊥) → is_kept (put points dest (Some spot)) p t ≡ is_kept (put points dest None) p t
+  kept_apart p t apart = ap (λ b. nat_lt t (size_of plant p) && not b) (held_apart p t apart)
 
   -- the destination leaves, and another one has its origin still
   pub ties_stay : (ties : Entries ℕ) → HaveTies plant (put points dest (Some spot)) ties → list_any (has_origin origin) (occupied plant (put points dest None) pool) ≡ true → HaveTies plant (put points dest None) ties
@@ -189,11 +192,11 @@ module _ (plant : PlantData) (points : Crosspoints) (dest : ℕ) (spot : Spot) (
   own_tie : has_tie tie (feed_with spot origin) ≡ true
   own_tie = ap (λ o. option_eq nat_eq o (Some tie)) comes.tied ∙ eq-eqb tie tie refl
 
-  pub held_stay : (held : Entries ℕ) → HoldTies plant (put points dest (Some spot)) held → list_any (has_origin origin) (occupied plant (put points dest None) pool) ≡ true → HoldTies plant (put points dest None) held
-  held_stay held have fed =
-      by_place (λ p t. is_some (finite.get held (tie_place p t)) ≡ not (is_free plant (put points dest None) p t))
-      (have pool tie comes.below ∙ ap (λ b. not (not b)) (any_here (has_tie tie) own_tie ∙ sym (still_held fed)))
-      (λ p t below differ apart. have p t below ∙ ap (λ b. not (not b)) (held_apart p t apart))
+  pub free_stay : (free : List Numbers) → HaveFree plant (put points dest (Some spot)) free → list_any (has_origin origin) (occupied plant (put points dest None) pool) ≡ true → HaveFree plant (put points dest None) free
+  free_stay free have fed =
+      by_tie (λ p t. contains (free_of free p) t ≡ is_kept (put points dest None) p t)
+      (have pool tie ∙ ap (λ b. nat_lt tie (size_of plant pool) && not b) (any_here (has_tie tie) own_tie ∙ sym (still_held fed)))
+      (λ p t apart. have p t ∙ kept_apart p t apart)
 
   -- it leaves, and no other one has its origin
   pub ties_freed : (ties : Entries ℕ) → HaveTies plant (put points dest (Some spot)) ties → list_any (has_origin origin) (occupied plant (put points dest None) pool) ≡ false → HaveTies plant (put points dest None) (put ties way None)
@@ -202,13 +205,13 @@ module _ (plant : PlantData) (points : Crosspoints) (dest : ℕ) (spot : Spot) (
       (get-put_same ties way None ∙ sym (ap (option_and_then (λ (feed : Feed). feed.tie)) (none_found (has_origin origin) (occupied plant (put points dest None) pool) unfed)))
       (λ p o w differ is apart. get-put_other ties way None w differ ∙ have p o w is ∙ tie_apart p o apart)
 
-  pub held_freed : (held : Entries ℕ) → HoldTies plant (put points dest (Some spot)) held → list_any (has_origin origin) (occupied plant (put points dest None) pool) ≡ false → HoldTies plant (put points dest None) (put held (tie_place pool tie) None)
-  held_freed held have unfed =
+  pub free_freed : (free : List Numbers) → pool < length free → HaveFree plant (put points dest (Some spot)) free → list_any (has_origin origin) (occupied plant (put points dest None) pool) ≡ false →
+      HaveFree plant (put points dest None) (set free pool (insert (free_of free pool) tie))
+  free_freed free placed have unfed =
       let gone : list_any (has_tie tie) (occupied plant (put points dest None) pool) ≡ false = false_from_ne_true _ (λ any. false≢true (sym unfed ∙ still_fed any)) in
-      by_place (λ p t. is_some (finite.get (put held (tie_place pool tie) None) (tie_place p t)) ≡ not (is_free plant (put points dest None) p t))
-      (ap is_some (get-put_same held (tie_place pool tie) None) ∙ ap (λ b. not (not b)) (sym gone))
-      (λ p t below differ apart.
-      ap is_some (get-put_other held (tie_place pool tie) None (tie_place p t) differ) ∙ have p t below ∙ ap (λ b. not (not b)) (held_apart p t apart))
+      by_tie (λ p t. contains (free_of (set free pool (insert (free_of free pool) tie)) p) t ≡ is_kept (put points dest None) p t)
+      (inserted_here free pool tie placed ∙ sym (kept_here (put points dest None) ∙ ap not gone))
+      (λ p t apart. inserted_apart free pool tie placed p t apart ∙ have p t ∙ kept_apart p t apart)
 
   -- it takes its source
   pub ties_given : (ties : Entries ℕ) → HaveTies plant (put points dest None) ties → HaveTies plant (put points dest (Some spot)) (put ties way (Some tie))
@@ -217,20 +220,19 @@ module _ (plant : PlantData) (points : Crosspoints) (dest : ℕ) (spot : Spot) (
       (get-put_same ties way (Some tie) ∙ sym (beside_is (put points dest (Some spot)) (λ at other those. those) (any_here (has_origin origin) (eq-eqb origin origin refl))))
       (λ p o w differ is apart. get-put_other ties way (Some tie) w differ ∙ have p o w is ∙ sym (tie_apart p o apart))
 
-  pub held_given : (held : Entries ℕ) (holder : ℕ) → HoldTies plant (put points dest None) held → HoldTies plant (put points dest (Some spot)) (put held (tie_place pool tie) (Some holder))
-  held_given held holder have =
-      by_place (λ p t. is_some (finite.get (put held (tie_place pool tie) (Some holder)) (tie_place p t)) ≡ not (is_free plant (put points dest (Some spot)) p t))
-      (ap is_some (get-put_same held (tie_place pool tie) (Some holder)) ∙ ap (λ b. not (not b)) (sym (any_here (has_tie tie) own_tie)))
-      (λ p t below differ apart.
-      ap is_some (get-put_other held (tie_place pool tie) (Some holder) (tie_place p t) differ) ∙ have p t below ∙ ap (λ b. not (not b)) (sym (held_apart p t apart)))
+  pub free_given : (free : List Numbers) → pool < length free → HaveFree plant (put points dest None) free → HaveFree plant (put points dest (Some spot)) (set free pool (remove (free_of free pool) tie))
+  free_given free placed have =
+      by_tie (λ p t. contains (free_of (set free pool (remove (free_of free pool) tie)) p) t ≡ is_kept (put points dest (Some spot)) p t)
+      (removed_here free pool tie placed ∙ sym (kept_here (put points dest (Some spot)) ∙ ap not (any_here (has_tie tie) own_tie)))
+      (λ p t apart. removed_apart free pool tie placed p t apart ∙ have p t ∙ sym (kept_apart p t apart))
 
--- the tie that is kept for a way, or else the lowest that isn't held, is the one that is chosen for its sources
-pub chosen_is : (plant : PlantData) (points : Crosspoints) (source pool origin way : ℕ) (holdings : Holdings) → pool_of plant source ≡ Some pool → origin_of plant source ≡ Some origin → way_of plant pool origin ≡ Some way → size_of plant pool ≤ tie_limit → HaveTies plant points holdings.ties.entries → HoldTies plant points holdings.held.entries → tie_for holdings pool (size_of plant pool) way ≡ chosen_tie plant points source
+-- the tie that is kept for a way, or else the lowest free one, is the one that is chosen for its sources
+pub chosen_is : (plant : PlantData) (points : Crosspoints) (source pool origin way : ℕ) (holdings : Holdings) → pool_of plant source ≡ Some pool → origin_of plant source ≡ Some origin → way_of plant pool origin ≡ Some way → HaveTies plant points holdings.ties.entries → HaveFree plant points holdings.free →
+    tie_for holdings pool way ≡ chosen_tie plant points source
 unfolding chosen_tie
-chosen_is plant points source pool origin way holdings pooled stands is few ties held =
-    ap (λ tie. option_or tie (lowest_unheld holdings pool (size_of plant pool))) (ties pool origin way is)
-    ∙ ap (option_or (tie_beside plant points pool origin)) (find_alike (λ tie. is_none (finite.get holdings.held.entries (tie_place pool tie))) (is_free plant points pool) 0 (size_of plant pool) (λ tie below.
-    ap not (held pool tie (omega (arith, below, few))) ∙ thrice (list_any (has_tie tie) (occupied plant points pool))))
+chosen_is plant points source pool origin way holdings pooled stands is ties free =
+    ap (λ tie. option_or tie (lowest (free_of holdings.free pool))) (ties pool origin way is)
+    ∙ ap (option_or (tie_beside plant points pool origin)) (lowest_below (free_of holdings.free pool) (is_free plant points pool) (size_of plant pool) (free pool))
     ∙ sym picked
   where
     pick : ℕ → Option ℕ → Option ℕ

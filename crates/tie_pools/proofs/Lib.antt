@@ -1,13 +1,15 @@
 pub mod Inserted
 pub mod WayLemmas
 pub mod LowestWays
-pub mod EmptyLemmas
 pub mod FedLemmas
 pub mod DemandLemmas
 pub mod RouteLemmas
 pub mod OverLemmas
 pub mod PlanLemmas
+pub mod KeptOver
 pub mod Searches
+pub mod FreeLemmas
+pub mod EmptyLemmas
 pub mod HoldingLemmas
 pub mod EachLemmas
 pub mod CommitLemmas

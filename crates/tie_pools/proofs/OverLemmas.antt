@@ -1,7 +1,6 @@
 -- The pool that the demand exceeds is the one that a list of changes exhausts.
-use Rattle.std.proofs.Common.{◌≡◌, ℕ, ◌+◌, ◌-◌, ◌<◌, ◌≤◌, nat_le, Bool, true, false, not, cond, List, find, length, get_or, Option, Some, None, suc, refl, sym, ap, ◌∙◌, arith}
-use Rattle.std.proofs.lemmas.Bool.{false_from_ne_true, leb-true, le-leb}
-use Rattle.std.proofs.lemmas.Option.{slice_get-get_or}
+use Rattle.std.proofs.Common.{◌≡◌, ℕ, nat_lt, nat_le, true, not, List, [], ◌∷◌, map, find, length, get_or, slice_get, Option, Some, None, zero, suc, inl, inr, refl, sym, ap, ◌∙◌, arith}
+use Rattle.std.proofs.lemmas.Bool.{cases_lt, false_from_ne_true, leb-true, le-leb, lt-ltb, le-ltb}
 use Rattle.std.specs.Option.{option_map, option_map_or}
 use Rattle.std.specs.List.{range_with_len, list_all}
 use Rattle.plant_config.specs.declared.records.Pool.{Pool}
@@ -11,72 +10,64 @@ use Rattle.crosspoint_state.specs.Crosspoints.{Crosspoints}
 use Rattle.crosspoint_state.specs.Ties.{size_of, wanted}
 use Rattle.crosspoint_state.specs.Applied.{put_all, is_enough, are_enough, exhausted}
 use Rattle.crosspoint_state.proofs.LawLemmas.{ExhaustedWhereNotEnough-all}
-use Rattle.tie_pools.specs.Counts.{count_at}
+use Rattle.tie_pools.specs.Counts.{count_at, sizes_of}
 use Rattle.tie_pools.specs.CountsInside.{Demand}
-use Rattle.tie_pools.specs.DemandInside.{AreDemandOf, is_over, measured, over}
+use Rattle.tie_pools.specs.DemandInside.{AreDemandOf, is_over, measured, over, in_use_of}
 use Rattle.tie_pools.specs.Plans.{IsExhausted}
 use Rattle.tie_pools.proofs.Searches.{find_alike}
 use Rattle.tie_pools.specs.declared.planned.Exhausted.{Exhausted}
 
--- a search of the numbers from one on
-find_from : (test : ℕ → Bool) (a n : ℕ) → a < n → find test (range_with_len a (n - a)) ≡ cond (test a) (Some a) (find test (range_with_len (a + 1) (n - (a + 1))))
-find_from test a n within =
-    let more : n - a ≡ suc (n - (a + 1)) = omega (arith, within) in
-    ap (λ count. find test (range_with_len a count)) more
-
 -- the size of a pool of a list
-pub size_is : (plant : PlantData) (pools : List Pool) (n : ℕ) (d : Pool) → n < length plant.pools → pools ≡ plant.pools → (get_or pools n d).ties ≡ size_of plant n
-size_is plant pools n d within is =
-    ap (λ (pools : List Pool). (get_or pools n d).ties) is
-    ∙ sym (ap (λ (found : Option Pool). option_map_or (λ (found : Pool). found.ties) found 0) (slice_get-get_or plant.pools n d within))
+size_at : (pools : List Pool) (n : ℕ) → get_or (map (λ (pool : Pool). pool.ties) pools) n 0 ≡ option_map_or (λ (found : Pool). found.ties) (slice_get pools n) 0
+size_at [] n = refl
+size_at (pool ∷ pools) zero = refl
+size_at (pool ∷ pools) (suc n) = size_at pools n
 
-abbrev fault_of : ℕ → ℕ → ℕ → Exhausted
-fault_of pool wanted size = record { pool = pool; wanted = wanted; size = size }
+pub size_kept : (plant : PlantData) (pool : ℕ) → get_or (sizes_of plant) pool 0 ≡ size_of plant pool
+size_kept plant pool = size_at plant.pools pool
 
--- a pool that is searched after all lower ones
-module _ (plant : PlantData) (demand : Demand) (n wanted size : ℕ) (within : n < length plant.pools) (counts : wanted ≡ count_at demand.used.entries n) (ties : size ≡ size_of plant n) (lower : find (is_over plant demand) (range_with_len n (length plant.pools - n)) ≡ find (is_over plant demand) (range_with_len 0 (length plant.pools))) where
-  here : (b : Bool) → is_over plant demand n ≡ b → find (is_over plant demand) (range_with_len 0 (length plant.pools)) ≡ cond b (Some n) (find (is_over plant demand) (range_with_len (n + 1) (length plant.pools - (n + 1))))
-  here b e =
-      sym lower
-      ∙ find_from (is_over plant demand) n (length plant.pools) within
-      ∙ ap (λ b. cond b (Some n) (find (is_over plant demand) (range_with_len (n + 1) (length plant.pools - (n + 1))))) e
-
-  pub over_at : (pool : ℕ) → pool ≡ n → size < wanted → Some (fault_of pool wanted size) ≡ over plant demand
-  over_at pool same more =
-      let fails : nat_le (count_at demand.used.entries n) (size_of plant n) ≡ false = false_from_ne_true _ (λ e.
-      let fits = leb-true (count_at demand.used.entries n) (size_of plant n) e in
-      omega (arith, fits, counts, ties, more)) in
-      ap (λ pool. Some (fault_of pool wanted size)) same
-      ∙ ap (λ wanted. Some (fault_of n wanted size)) counts
-      ∙ ap (λ size. Some (fault_of n (count_at demand.used.entries n) size)) ties
-      ∙ ap (option_map (measured plant demand)) (sym (here true (ap not fails)))
-
-  pub not_over_at : wanted ≤ size → find (is_over plant demand) (range_with_len (n + 1) (length plant.pools - (n + 1))) ≡ find (is_over plant demand) (range_with_len 0 (length plant.pools))
-  not_over_at fits = sym (here false (ap not (le-leb (count_at demand.used.entries n) (size_of plant n) (omega (arith, fits, counts, ties)))))
+more_than : (wanted size : ℕ) → not (nat_le wanted size) ≡ nat_lt size wanted
+more_than wanted size =
+    elim (cases_lt size wanted) [
+      | inl less ↦
+          ap not (false_from_ne_true (nat_le wanted size) (λ e. omega (arith, leb-true wanted size e, less)))
+          ∙ sym (lt-ltb size wanted less)
+      | inr more ↦
+          ap not (le-leb wanted size more)
+          ∙ sym (le-ltb size wanted more)
+    ]
 
 module _ (plant : PlantData) (points : Crosspoints) (changes : List Change) (demand : Demand) (counted : AreDemandOf plant (put_all points changes) demand) where
-  exhausted_over : exhausted plant points changes ≡ find (is_over plant demand) (range_with_len 0 (length plant.pools))
-  unfolding exhausted
-  exhausted_over = find_alike (λ pool. not (is_enough plant (put_all points changes) pool)) (is_over plant demand) 0 (length plant.pools) (λ pool below. ap (λ count. not (nat_le count (size_of plant pool))) (sym (counted.used pool)))
+  size_kept_of : (pool : ℕ) → get_or demand.sizes pool 0 ≡ size_of plant pool
+  size_kept_of pool = ap (λ sizes. get_or sizes pool 0) counted.room.sizes ∙ size_kept plant pool
 
-  pub exhausted_where_over : (fault : Exhausted) → over plant demand ≡ Some fault → IsExhausted plant points changes fault
-  exhausted_where_over fault e = by (find (is_over plant demand) (range_with_len 0 (length plant.pools))) refl e
+  exhausted_over : exhausted plant points changes ≡ find (is_over (in_use_of demand)) (range_with_len 0 demand.used.room)
+  unfolding exhausted
+  exhausted_over =
+      find_alike (λ pool. not (is_enough plant (put_all points changes) pool)) (is_over (in_use_of demand)) 0 (length plant.pools) (λ pool below.
+      more_than (wanted plant (put_all points changes) pool) (size_of plant pool)
+      ∙ ap (λ count. nat_lt (size_of plant pool) count) (sym (counted.used pool))
+      ∙ ap (λ size. nat_lt size (count_at demand.used.entries pool)) (sym (size_kept_of pool)))
+      ∙ ap (λ count. find (is_over (in_use_of demand)) (range_with_len 0 count)) (sym counted.room.used)
+
+  pub exhausted_where_over : (fault : Exhausted) → over (in_use_of demand) ≡ Some fault → IsExhausted plant points changes fault
+  exhausted_where_over fault e = by (find (is_over (in_use_of demand)) (range_with_len 0 demand.used.room)) refl e
     where
-      by : (found : Option ℕ) → find (is_over plant demand) (range_with_len 0 (length plant.pools)) ≡ found → option_map (measured plant demand) found ≡ Some fault → IsExhausted plant points changes fault
+      by : (found : Option ℕ) → find (is_over (in_use_of demand)) (range_with_len 0 demand.used.room) ≡ found → option_map (measured (in_use_of demand)) found ≡ Some fault → IsExhausted plant points changes fault
       by None found e = cc
       by (Some pool) found e =
-          let is : measured plant demand pool ≡ fault = cc in
+          let is : measured (in_use_of demand) pool ≡ fault = cc in
           let same : pool ≡ fault.pool = ap (λ (fault : Exhausted). fault.pool) is in
           record {
             lowest = exhausted_over ∙ found ∙ ap Some same;
             wanted = sym (ap (λ (fault : Exhausted). fault.wanted) is) ∙ counted.used pool ∙ ap (wanted plant (put_all points changes)) same;
-            size = sym (ap (λ (fault : Exhausted). fault.size) is) ∙ ap (size_of plant) same;
+            size = sym (ap (λ (fault : Exhausted). fault.size) is) ∙ size_kept_of pool ∙ ap (size_of plant) same;
           }
 
-  pub enough_where_none_over : over plant demand ≡ None → are_enough plant points changes ≡ true
-  enough_where_none_over e = (ExhaustedWhereNotEnough-all plant points changes).0 (by (find (is_over plant demand) (range_with_len 0 (length plant.pools))) refl e)
+  pub enough_where_none_over : over (in_use_of demand) ≡ None → are_enough plant points changes ≡ true
+  enough_where_none_over e = (ExhaustedWhereNotEnough-all plant points changes).0 (by (find (is_over (in_use_of demand)) (range_with_len 0 demand.used.room)) refl e)
     where
-      by : (found : Option ℕ) → find (is_over plant demand) (range_with_len 0 (length plant.pools)) ≡ found → option_map (measured plant demand) found ≡ None → exhausted plant points changes ≡ None
+      by : (found : Option ℕ) → find (is_over (in_use_of demand)) (range_with_len 0 demand.used.room) ≡ found → option_map (measured (in_use_of demand)) found ≡ None → exhausted plant points changes ≡ None
       by None found e = exhausted_over ∙ found
       by (Some pool) found e = cc
 

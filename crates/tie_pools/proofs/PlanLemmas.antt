@@ -1,14 +1,16 @@
 -- The demand of a list of changes that is put in change by change, and taken out again.
-use Rattle.std.proofs.Common.{◌≡◌, ◌≢◌, ◌⊎◌, ℕ, ◌+◌, ◌<◌, ◌==◌, false, cond, List, [], ◌∷◌, length, get_or, take, drop, find, Option, Some, None, zero, suc, inl, inr, refl, sym, ap, subst, ◌∙◌, arith, eq-eqb}
+use Rattle.std.proofs.Common.{◌≡◌, ◌≢◌, ◌⊎◌, ℕ, ◌+◌, ◌<◌, ◌==◌, nat_eq, Bool, true, false, not, ◌&&◌, cond, List, [], ◌∷◌, length, get_or, take, drop, find, Option, Some, None, zero, suc, inl, inr, refl, sym, ap, subst, ◌∙◌, arith, eq-eqb, eqb-true}
 use Rattle.std.proofs.lemmas.Bool.{cases_eq, ne_eqb}
 use Rattle.std.proofs.lemmas.List.{drop_more}
 use Rattle.std.proofs.lemmas.List.Elements.{Contains-get_or}
+use Rattle.std.specs.Option.{option_eq}
 use Rattle.std.specs.FinMap as finite
 use Rattle.number_tables.specs.Table.{put}
 use Rattle.number_tables.proofs.PutLemmas.{get-put_same, get-put_other}
 use Rattle.plant_config.specs.declared.records.Change.{Change}
 use Rattle.plant_config.specs.Plant.{PlantData, destinations_of}
 use Rattle.plant_config.specs.IsPlant.{IsPlant}
+use Rattle.crosspoint_state.specs.declared.spot.Spot.{Spot}
 use Rattle.crosspoint_state.specs.Crosspoints.{Crosspoints, source_of, NamesOnce}
 use Rattle.crosspoint_state.specs.Applied.{untied, put_all}
 use Rattle.crosspoint_state.specs.Laws.{AreInside}
@@ -22,6 +24,29 @@ use Rattle.tie_pools.proofs.RouteLemmas.{demand_released, demand_moved, has_room
 untied_source : (source : Option ℕ) → source_at (untied source) ≡ source
 untied_source None = refl
 untied_source (Some source) = refl
+
+-- what isn't different is the same
+pub not_other : (one other : Option ℕ) → false ≡ not (option_eq (λ x y. nat_eq x y && true) one other) → one ≡ other
+not_other None None e = refl
+not_other None (Some y) e = cc
+not_other (Some x) None e = cc
+not_other (Some x) (Some y) e = ap Some (eqb-true x y (by (nat_eq x y) e))
+  where
+    by : (b : Bool) → false ≡ not (b && true) → b ≡ true
+    by true e = refl
+    by false e = cc
+
+-- what a destination carries is put with another tie
+same_source : (points : Crosspoints) (dest : ℕ) (value : Option Spot) → source_at value ≡ source_of points dest → (at : ℕ) → source_of (put points dest value) at ≡ source_of points at
+same_source points dest value same at = by (cases_eq at dest)
+  where
+    by : (at ≡ dest) ⊎ (at ≢ dest) → source_of (put points dest value) at ≡ source_of points at
+    by (inl here) =
+        ap (source_of (put points dest value)) here
+        ∙ ap source_at (get-put_same points dest value)
+        ∙ same
+        ∙ ap (source_of points) (sym here)
+    by (inr there) = ap source_at (get-put_other points dest value at there)
 
 -- one more change put in
 put_more : (points : Crosspoints) (changes : List Change) (i : ℕ) (d : Change) → i < length changes → put_all points (take (suc i) changes) ≡ put (put_all points (take i changes)) (get_or changes i d).dest (untied (get_or changes i d).source)
@@ -59,6 +84,13 @@ module _ (plant : PlantData) (points : Crosspoints) (changes : List Change) (i :
   is_inside : change.dest < destinations_of plant
   is_inside = subst (λ dest. dest < destinations_of plant) its_dest (inside i change within)
 
+  after_put : put_all points (take (i + 1) changes) ≡ put (put_all points (take i changes)) change.dest (untied change.source)
+  after_put =
+      let next : suc i ≡ i + 1 = omega arith in
+      ap (λ count. put_all points (take count changes)) (sym next)
+      ∙ put_more points changes i change within
+      ∙ ap (λ (change : Change). put (put_all points (take i changes)) change.dest (untied change.source)) (sym is)
+
   pub room_put : IsPlant plant → HasRoomFor (left demand (route_of plant source)) (route_of plant change.source)
   room_put plant_is =
       subst (λ source. HasRoomFor (left demand (route_of plant source)) (route_of plant change.source)) source_put
@@ -70,12 +102,16 @@ module _ (plant : PlantData) (points : Crosspoints) (changes : List Change) (i :
       let moved = demand_moved plant (put_all points (take i changes)) change.dest demand (untied change.source) is_inside counted in
       let left_same = subst (λ source. AreDemandOf plant (put (put_all points (take i changes)) change.dest (untied change.source)) (taken (left demand (route_of plant source)) (route_of plant (source_at (untied change.source))))) source_put moved in
       let taken_same = subst (λ aim. AreDemandOf plant (put (put_all points (take i changes)) change.dest (untied change.source)) (taken (left demand (route_of plant source)) (route_of plant aim))) (untied_source change.source) left_same in
-      let next : suc i ≡ i + 1 = omega arith in
-      let after : put_all points (take (i + 1) changes) ≡ put (put_all points (take i changes)) change.dest (untied change.source) =
-      ap (λ count. put_all points (take count changes)) (sym next)
-      ∙ put_more points changes i change within
-      ∙ ap (λ (change : Change). put (put_all points (take i changes)) change.dest (untied change.source)) (sym is) in
-      subst (λ after. AreDemandOf plant after (taken (left demand (route_of plant source)) (route_of plant change.source))) (sym after) taken_same
+      subst (λ after. AreDemandOf plant after (taken (left demand (route_of plant source)) (route_of plant change.source))) (sym after_put) taken_same
+
+  -- an idle change leaves the demand
+  pub demand_idle : source ≡ change.source → AreDemandOf plant (put_all points (take (i + 1) changes)) demand
+  demand_idle idle =
+      let before : Crosspoints = put_all points (take i changes) in
+      let same : source_at (untied change.source) ≡ source_of before change.dest = untied_source change.source ∙ sym idle ∙ sym source_put in
+      subst (λ after. AreDemandOf plant after demand) (sym after_put)
+      (same_demand plant before (put before change.dest (untied change.source)) demand
+      (λ at. sym (same_source before change.dest (untied change.source) same at)) counted)
 
 -- the first change of a list with its source taken out again
 module _ (points : Crosspoints) (change : Change) (changes : List Change) (once : NamesOnce (change ∷ changes)) where
@@ -109,6 +145,12 @@ module _ (points : Crosspoints) (change : Change) (changes : List Change) (once 
       same_demand plant (put (put_all points (change ∷ changes)) change.dest (finite.get points change.dest)) (put_all points changes) (taken (left demand (route_of plant change.source)) (route_of plant (source_of points change.dest))) source_without
       (subst (λ source. AreDemandOf plant (put (put_all points (change ∷ changes)) change.dest (finite.get points change.dest)) (taken (left demand (route_of plant source)) (route_of plant (source_of points change.dest)))) source_first moved)
 
+  demand_idle_first : (plant : PlantData) (demand : Demand) → source_of points change.dest ≡ change.source → AreDemandOf plant (put_all points (change ∷ changes)) demand → AreDemandOf plant (put_all points changes) demand
+  demand_idle_first plant demand idle counted =
+      let before : Crosspoints = put_all points (change ∷ changes) in
+      same_demand plant before (put_all points changes) demand
+      (λ at. sym (same_source before change.dest (finite.get points change.dest) (idle ∙ sym source_first) at) ∙ source_without at) counted
+
   room_back_first : (plant : PlantData) (demand : Demand) → IsPlant plant → change.dest < destinations_of plant → AreDemandOf plant (put_all points (change ∷ changes)) demand → HasRoomFor (left demand (route_of plant change.source)) (route_of plant (source_of points change.dest))
   room_back_first plant demand plant_is inside counted =
       subst (λ source. HasRoomFor (left demand (route_of plant source)) (route_of plant (source_of points change.dest))) source_first
@@ -138,3 +180,8 @@ module _ (plant : PlantData) (points : Crosspoints) (changes : List Change) (i :
   demand_back =
       subst (λ source. AreDemandOf plant (put_all points (drop (i + 1) changes)) (taken (left demand (route_of plant change.source)) (route_of plant source))) (sym stands)
       (demand_back_first points change (drop (i + 1) changes) once_more plant demand is_back_inside counted_first)
+
+  -- an idle change leaves the demand
+  pub demand_idle_back : source ≡ change.source → AreDemandOf plant (put_all points (drop (i + 1) changes)) demand
+  demand_idle_back idle =
+      demand_idle_first points change (drop (i + 1) changes) once_more plant demand (sym stands ∙ idle) counted_first

@@ -1,5 +1,5 @@
 -- How a list of changes is made: it is gone through twice, to release destinations and then to give them their sources.
-use Rattle.std.specs.Prelude.{◌≡◌, ℕ, ◌<◌, nat_lt, false, if◌then◌else◌, List, [], ◌∷◌, Contains, None}
+use Rattle.std.specs.Prelude.{◌≡◌, ℕ, ◌<◌, nat_lt, false, if◌then◌else◌, List, [], ◌∷◌, length, Contains, None}
 use Rattle.std.specs.FinMap.{get, remove}
 use Rattle.number_tables.specs.Table.{Entries}
 use Rattle.plant_config.specs.declared.records.Change.{Change}
@@ -7,7 +7,7 @@ use Rattle.plant_config.specs.Plant.{PlantData}
 use Rattle.crosspoint_state.specs.Crosspoints.{Crosspoints, is_idle}
 use Rattle.crosspoint_state.specs.Applied.{given}
 use Rattle.tie_pools.specs.declared.route.Route.{Route}
-use Rattle.tie_pools.specs.Counts.{Counts, count_at, tie_limit, tie_place}
+use Rattle.tie_pools.specs.Counts.{Counts, count_at}
 use Rattle.tie_pools.specs.CountsInside.{Demand, fed_more, fed_less}
 use Rattle.tie_pools.specs.HoldingsInside.{Holdings, holding, freed}
 
@@ -40,10 +40,10 @@ AreReady points changes = (change : Change) → Contains changes change → IsRe
 
 -- the two parts of the counts that change
 abbrev pub demand_of : Counts → Demand
-demand_of counts = record { fed = counts.fed; used = counts.used }
+demand_of counts = record { fed = counts.fed; used = counts.used; sizes = counts.sizes }
 
 abbrev pub holdings_of : Counts → Holdings
-holdings_of counts = record { ties = counts.ties; held = counts.held }
+holdings_of counts = record { ties = counts.ties; free = counts.free }
 
 -- the counts with other parts
 abbrev pub counts_of : Entries ℕ → Demand → Holdings → Counts
@@ -51,17 +51,17 @@ counts_of ways demand holdings = record {
   ways = ways;
   fed = demand.fed;
   used = demand.used;
+  sizes = demand.sizes;
   ties = holdings.ties;
-  held = holdings.held;
+  free = holdings.free;
 }
 
--- There is room for a route: for its pool, of which a plant has at most 256, for its way, and for its ties.
+-- There is room for a route: for its pool and for its way.
 pub record HavePlaces (counts : Counts) (route : Route) : Type 0 where
-  pub few : route.pool < 256
   pub used : route.pool < counts.used.room
   pub fed : route.way < counts.fed.room
   pub ties : route.way < counts.ties.room
-  pub held : (tie : ℕ) → tie < tie_limit → tie_place route.pool tie < counts.held.room
+  pub free : route.pool < length counts.free
 
 -- A destination leaves a route whose tie is this. If it was the last, the tie is held no longer.
 abbrev pub left_from : Counts → Route → ℕ → Counts

@@ -1,22 +1,25 @@
 -- How the demand follows the sources of destinations, and which pool it exceeds.
-use Rattle.std.specs.Prelude.{◌≡◌, ℕ, ◌<◌, ◌≤◌, nat_le, not, Bool, find, length, Option, Some, None}
+use Rattle.std.specs.Prelude.{◌≡◌, ℕ, ◌<◌, ◌≤◌, nat_lt, ◌&&◌, Bool, List, find, length, slice_index, Option, Some, None}
 use Rattle.std.specs.List.{range_with_len}
 use Rattle.std.specs.Option.{option_map, option_and_then, IfSome}
-use Rattle.plant_config.specs.Limits.{all_destinations_limit}
+use Rattle.std.specs.FinSet.{contains}
+use Rattle.number_tables.specs.Table.{Table}
+use Rattle.number_tables.specs.Numbers.{Numbers}
+use Rattle.plant_config.specs.Limits.{all_destinations_limit, pool_limit}
 use Rattle.plant_config.specs.Plant.{PlantData, sources_of}
 use Rattle.plant_config.specs.Sources.{pool_of}
-use Rattle.crosspoint_state.specs.Ties.{size_of}
 use Rattle.crosspoint_state.specs.Crosspoints.{Crosspoints}
 use Rattle.tie_pools.specs.Ways.{source_way}
-use Rattle.tie_pools.specs.Counts.{count_at, CountFed, CountUsed}
-use Rattle.tie_pools.specs.CountsInside.{Demand, fed_more, fed_less}
+use Rattle.tie_pools.specs.Counts.{count_at, sizes_of, CountFed, CountUsed}
+use Rattle.tie_pools.specs.CountsInside.{InUse, Demand, fed_more, fed_less}
 use Rattle.tie_pools.specs.declared.planned.Exhausted.{Exhausted}
 use Rattle.tie_pools.specs.declared.route.Route.{Route}
 
--- The tables have room for all ways, which are sources, and for all pools.
+-- The tables have room for all ways, which are sources, and for all pools, whose sizes are kept.
 pub record IsDemandFor (plant : PlantData) (demand : Demand) : Type 0 where
   pub fed : demand.fed.room ≡ sources_of plant
   pub used : demand.used.room ≡ length plant.pools
+  pub sizes : demand.sizes ≡ sizes_of plant
 
 -- The demand is that of the crosspoints, with room for all of the plant.
 pub record AreDemandOf (plant : PlantData) (crosspoints : Crosspoints) (demand : Demand)
@@ -61,15 +64,29 @@ abbrev pub HasRoomFor : Demand → Option Route → Type 0
 HasRoomFor demand route = IfSome route (HasRoom demand)
 
 -- A pool has more ways in use than it has ties.
-abbrev pub is_over : PlantData → Demand → ℕ → Bool
-is_over plant demand pool = not (nat_le (count_at demand.used.entries pool) (size_of plant pool))
+abbrev pub is_over : InUse → ℕ → Bool
+is_over in_use pool = nat_lt (slice_index in_use.sizes pool) (count_at in_use.used.entries pool)
+
+-- The pools that are kept as over are those that are. There are at most so many pools, each with its size.
+pub record KeepsOver (used : Table ℕ) (sizes : List ℕ) (kept : Numbers) : Type 0 where
+  pub sized : length sizes ≡ used.room
+  pub few : used.room ≤ pool_limit
+  pub over : (pool : ℕ) → contains kept pool
+      ≡ (nat_lt pool used.room && is_over (record { used = used; sizes = sizes }) pool)
 
 -- a pool with its number of ways in use and its size
-abbrev pub measured : PlantData → Demand → ℕ → Exhausted
-measured plant demand pool =
-    record { pool = pool; wanted = count_at demand.used.entries pool; size = size_of plant pool }
+abbrev pub measured : InUse → ℕ → Exhausted
+measured in_use pool = record {
+  pool = pool;
+  wanted = count_at in_use.used.entries pool;
+  size = slice_index in_use.sizes pool;
+}
 
 -- the lowest pool that has more ways in use than it has ties
-abbrev pub over : PlantData → Demand → Option Exhausted
-over plant demand = option_map (measured plant demand)
-    (find (is_over plant demand) (range_with_len 0 (length plant.pools)))
+abbrev pub over : InUse → Option Exhausted
+over in_use = option_map (measured in_use)
+    (find (is_over in_use) (range_with_len 0 in_use.used.room))
+
+-- the part of the demand that is about pools
+abbrev pub in_use_of : Demand → InUse
+in_use_of demand = record { used = demand.used; sizes = demand.sizes }

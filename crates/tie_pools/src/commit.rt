@@ -1,18 +1,18 @@
 //! A planned list of changes is made.
 
-ghost use Rattle.std.specs.Prelude.{◌≡◌, ◌<◌, ◌≤◌, true, All, IfSome};
+ghost use Rattle.std.specs.Prelude.{◌≡◌, ◌<◌, true, All, IfSome};
 ghost use Rattle.std.specs.Prelude.{Option, None, Some};
 ghost use Rattle.std.specs.FinMap.{get, remove};
-ghost use Rattle.plant_config.specs.declared.records.Pool.{Pool};
+ghost use Rattle.plant_config.specs.Limits.{tie_limit};
 ghost use Rattle.plant_config.specs.Plant.{destinations_of};
 ghost use Rattle.plant_config.specs.IsPlant.{IsPlant};
 ghost use Rattle.crosspoint_state.specs.declared.spot.Spot.{Spot};
 ghost use Rattle.crosspoint_state.specs.Crosspoints.{NamesOnce};
 ghost use Rattle.crosspoint_state.specs.Taps.{ArePointsOf};
-ghost use Rattle.crosspoint_state.specs.Ties.{size_of, HaveValidTies};
+ghost use Rattle.crosspoint_state.specs.Ties.{HaveValidTies};
 ghost use Rattle.crosspoint_state.specs.Applied.{given, applied, untied, put_all, are_enough};
 ghost use Rattle.crosspoint_state.specs.Laws.{AreInside};
-ghost use Rattle.tie_pools.specs.Counts.{AreCountsOf, tie_limit};
+ghost use Rattle.tie_pools.specs.Counts.{AreCountsOf};
 ghost use Rattle.tie_pools.specs.DemandInside.{HasRoom};
 ghost use Rattle.tie_pools.specs.HoldingsInside.{tie_for};
 ghost use Rattle.tie_pools.specs.CommitInside.{released_one, released_each};
@@ -24,7 +24,7 @@ use crate::planned::Planned;
 use crate::route::{Route, route_of};
 use crate::ties::Ties;
 use crosspoint_state::{Crosspoints, Spot};
-use plant_config::{Change, DestId, Plant, PoolId, SourceId, TieNo};
+use plant_config::{Change, DestId, Plant, SourceId, TieNo};
 
 impl Ties {
     /// Makes a planned list of changes as one. All destinations that get another source are released, and then each is given
@@ -195,8 +195,7 @@ impl Ties {
             points.set(plant, dest, Some(Spot { source, tie: None }));
             return;
         };
-        let size = size_of(plant, route.pool);
-        let tie = self.come(route, size);
+        let tie = self.come(route);
         points.set(plant, dest, Some(Spot { source, tie }));
     }
 
@@ -214,16 +213,15 @@ impl Ties {
     }
 
     // A destination comes to a route, by the tie that is the answer.
-    fn come(&mut self, route: Route, size: u32) -> Option<TieNo>
+    fn come(&mut self, route: Route) -> Option<TieNo>
         requires places { HavePlaces self.old route }
         requires room { HasRoom (demand_of self.old) route }
-        requires size { size ≤ tie_limit }
-        requires tie { IfSome (tie_for (holdings_of self.old) route.pool size route.way)
+        requires tie { IfSome (tie_for (holdings_of self.old) route.pool route.way)
             (λ tie. tie < tie_limit) }
-        ensures tie { result ≡ tie_for (holdings_of self.old) route.pool size route.way }
+        ensures tie { result ≡ tie_for (holdings_of self.old) route.pool route.way }
         ensures counts { IfSome result (λ tie. self.new ≡ come_to self.old route tie) }
     {
-        let tie = self.holdings.tie_for(route.pool, size, route.way)?;
+        let tie = self.holdings.tie_for(route.pool, route.way)?;
         self.demand.feed(route.pool, route.way);
         self.holdings.hold(route.pool, route.way, tie);
         Some(tie)
@@ -248,16 +246,4 @@ fn untied(source: Option<SourceId>) -> Option<Spot>
 {
     let source = source?;
     Some(Spot { source, tie: None })
-}
-
-// How many ties a pool has.
-fn size_of(plant: &Plant, pool: PoolId) -> u32
-    ensures size { result ≡ size_of plant.now pool }
-    ensures few { result ≤ tie_limit }
-    ensures plant { IsPlant plant.now }
-{
-    match plant.pools().get(pool.get() as usize) {
-        Some(pool) => pool.ties,
-        None => 0,
-    }
 }

@@ -3,9 +3,11 @@
 ghost use Rattle.std.specs.Prelude.{◌≡◌, ◌<◌, ◌≤◌, nat_lt, IfOk};
 ghost use Rattle.std.specs.FinMap.{empty};
 ghost use Rattle.tie_pools.specs.Counts.{count_at};
-ghost use Rattle.tie_pools.specs.CountsInside.{more_at, fewer_at, fed_more, fed_less};
-ghost use Rattle.tie_pools.specs.DemandInside.{IsDemandFor, over};
+ghost use Rattle.tie_pools.specs.CountsInside.{fed_more, fed_less};
+ghost use Rattle.tie_pools.specs.DemandInside.{IsDemandFor, in_use_of, over};
 
+use crate::counts::{count_fewer, count_more, count_of};
+use crate::in_use::InUse;
 use crate::planned::Exhausted;
 use number_tables::NumberMap;
 use plant_config::{MAX_DESTINATIONS, Plant, PoolId, SourceId};
@@ -16,7 +18,7 @@ use std::marker::Model;
 #[derive(Debug, Drop)]
 pub(crate) struct Demand {
     fed: NumberMap<u32>,
-    used: NumberMap<u32>,
+    in_use: InUse,
 }
 
 impl Model for Demand {
@@ -26,7 +28,11 @@ impl Model for Demand {
 
     ghost coded = { demand_code };
 
-    ghost view = { λ demand. record { fed = demand.fed; used = demand.used } };
+    ghost view = { λ demand. record {
+      fed = demand.fed;
+      used = demand.in_use.used;
+      sizes = demand.in_use.sizes;
+    } };
 }
 
 impl Demand {
@@ -37,8 +43,8 @@ impl Demand {
         ensures room { IfOk result (IsDemandFor plant.now) }
     {
         let fed = NumberMap::new(alloc, plant.source_count() as usize)?;
-        let used = NumberMap::new(alloc, plant.pools().len())?;
-        Ok(Demand { fed, used })
+        let in_use = InUse::new(alloc, plant)?;
+        Ok(Demand { fed, in_use })
     }
 
     /// One more destination is fed by a way of a pool.
@@ -50,7 +56,7 @@ impl Demand {
         ensures { self.new ≡ fed_more self.old pool way }
     {
         if count_of(&self.fed, way.get()) == 0 {
-            count_more(&mut self.used, pool.get());
+            self.in_use.more(pool);
         }
         count_more(&mut self.fed, way.get());
     }
@@ -62,7 +68,7 @@ impl Demand {
         ensures { self.new ≡ fed_less self.old pool way }
     {
         if count_of(&self.fed, way.get()) == 1 {
-            count_fewer(&mut self.used, pool.get());
+            self.in_use.fewer(pool);
         }
         count_fewer(&mut self.fed, way.get());
     }
@@ -75,48 +81,9 @@ impl Demand {
     }
 
     /// The lowest pool that has more ways in use than it has ties.
-    pub(crate) fn over(&self, plant: &Plant) -> Option<Exhausted>
-        ensures { result ≡ over plant.now self.now }
+    pub(crate) fn over(&self) -> Option<Exhausted>
+        ensures { result ≡ over (in_use_of self.now) }
     {
-        for (number, pool) in plant.pools().iter().enumerate() {
-            let number = number as u32;
-            let wanted = count_of(&self.used, number);
-            if pool.ties < wanted {
-                return Some(Exhausted {
-                    pool: PoolId::of(number),
-                    wanted,
-                    size: pool.ties,
-                });
-            }
-        }
-        None
+        self.in_use.over()
     }
-}
-
-// A count, 0 where none is kept.
-fn count_of(counts: &NumberMap<u32>, number: u32) -> u32
-    ensures { result ≡ count_at counts.now.entries number }
-{
-    counts.get(number).unwrap_or(0)
-}
-
-// Counts one more at a number.
-fn count_more(counts: &mut NumberMap<u32>, number: u32)
-    requires room { number < counts.old.room }
-    requires count { count_at counts.old.entries number ≤ MAX_DESTINATIONS }
-    ensures entries { counts.new.entries ≡ more_at counts.old.entries number }
-    ensures room { counts.new.room ≡ counts.old.room }
-{
-    let count = count_of(counts, number);
-    counts.set(number, Some(count + 1));
-}
-
-// Counts one fewer at a number.
-fn count_fewer(counts: &mut NumberMap<u32>, number: u32)
-    requires room { number < counts.old.room }
-    ensures entries { counts.new.entries ≡ fewer_at counts.old.entries number }
-    ensures room { counts.new.room ≡ counts.old.room }
-{
-    let count = count_of(counts, number);
-    counts.set(number, Some(count.saturating_sub(1)));
 }

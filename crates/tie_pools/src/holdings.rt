@@ -1,28 +1,23 @@
 //! Which ties the ways hold.
 
-ghost use Rattle.std.specs.Prelude.{◌≡◌, ◌*◌, ◌<◌, ◌≤◌, length, IfOk, is_none};
+ghost use Rattle.std.specs.Prelude.{◌≡◌, ◌<◌, ◌≤◌, length, IfOk};
 ghost use Rattle.std.specs.FinMap.{empty, get};
+ghost use Rattle.number_tables.specs.Numbers.{lowest};
+ghost use Rattle.plant_config.specs.Limits.{tie_limit};
 ghost use Rattle.plant_config.specs.Plant.{sources_of};
-ghost use Rattle.tie_pools.specs.Counts.{tie_place, tie_limit};
-ghost use Rattle.tie_pools.specs.HoldingsInside.{holding, freed};
-ghost use Rattle.tie_pools.specs.HoldingsInside.{lowest_unheld, tie_for};
+ghost use Rattle.tie_pools.specs.Counts.{free_of};
+ghost use Rattle.tie_pools.specs.HoldingsInside.{all_free, ties_below, holding, freed, tie_for};
 
-use number_tables::NumberMap;
+use number_tables::{NumberMap, SmallSet};
 use plant_config::{Plant, PoolId, SourceId, TieNo};
 use std::alloc::{AllocError, Global};
 use std::marker::Model;
 
-// The most pools of a plant.
-const MAX_POOLS: u32 = 256;
-
-// The most ties of a pool.
-const MAX_TIES: u32 = 1024;
-
-/// The tie of each way that feeds some destination, and the ties that are held. A contract sees both as tables.
+/// The tie of each way that feeds some destination, and the free ties of each pool, of which the lowest is found at once.
 #[derive(Debug, Drop)]
 pub(crate) struct Holdings {
     ties: NumberMap<TieNo>,
-    held: NumberMap<SourceId>,
+    free: Vec<SmallSet>,
 }
 
 impl Model for Holdings {
@@ -32,22 +27,19 @@ impl Model for Holdings {
 
     ghost coded = { holdings_code };
 
-    ghost view = { λ holdings. record { ties = holdings.ties; held = holdings.held } };
+    ghost view = { λ holdings. record { ties = holdings.ties; free = holdings.free.items } };
 }
 
 impl Holdings {
-    // No way has a tie, and there is room for all ways of a plant and for all ties of its pools.
+    // No way has a tie: all ties of the plant's pools are free, and there is room for all ways.
     pub(crate) fn new(alloc: Global, plant: &Plant) -> Result<Holdings, AllocError>
         ensures ties { IfOk result (λ holdings. holdings.ties.entries ≡ empty) }
-        ensures held { IfOk result (λ holdings. holdings.held.entries ≡ empty) }
-        ensures way_room { IfOk result (λ holdings.
-            holdings.ties.room ≡ sources_of plant.now) }
-        ensures tie_room { IfOk result (λ holdings.
-            holdings.held.room ≡ length plant.now.pools * tie_limit) }
+        ensures room { IfOk result (λ holdings. holdings.ties.room ≡ sources_of plant.now) }
+        ensures free { IfOk result (λ holdings. holdings.free ≡ all_free plant.now) }
     {
         let ties = NumberMap::new(alloc, plant.source_count() as usize)?;
-        let held = NumberMap::new(alloc, plant.pools().len() * MAX_TIES as usize)?;
-        Ok(Holdings { ties, held })
+        let free = all_free(alloc, plant)?;
+        Ok(Holdings { ties, free })
     }
 
     // The tie of a way, `None` where it has none.
@@ -57,72 +49,72 @@ impl Holdings {
         self.ties.get(way.get())
     }
 
-    // Whether no way holds a tie of a pool.
-    fn is_free(&self, pool: PoolId, tie: TieNo) -> bool
-        requires pool { pool < MAX_POOLS }
-        requires tie { tie < MAX_TIES }
-        ensures { result ≡ is_none (get self.now.held.entries (tie_place pool tie)) }
+    // The lowest free tie of a pool, `None` where each is held.
+    fn lowest_free(&self, pool: PoolId) -> Option<TieNo>
+        requires { pool < length self.now.free }
+        ensures { result ≡ lowest (free_of self.now.free pool) }
     {
-        self.held.get(place_of(pool, tie)).is_none()
+        let free = &self.free[pool.get() as usize];
+        let number = free.lowest()?;
+        Some(TieNo::of(number))
     }
 
-    // The lowest tie of a pool that no way holds, `None` where each is held.
-    fn lowest_free(&self, pool: PoolId, size: u32) -> Option<TieNo>
-        requires pool { pool < MAX_POOLS }
-        requires size { size ≤ MAX_TIES }
-        ensures { result ≡ lowest_unheld self.now pool size }
-    {
-        for number in 0..size {
-            let tie = TieNo::of(number);
-            if self.is_free(pool, tie) {
-                return Some(tie);
-            }
-        }
-        None
-    }
-
-    // The tie by which a way is to come: the one that it has, or else the lowest that no way holds.
-    pub(crate) fn tie_for(&self, pool: PoolId, size: u32, way: SourceId) -> Option<TieNo>
-        requires pool { pool < MAX_POOLS }
-        requires size { size ≤ MAX_TIES }
-        ensures { result ≡ tie_for self.now pool size way }
+    // The tie by which a way is to come: the one that it has, or else the lowest free one.
+    pub(crate) fn tie_for(&self, pool: PoolId, way: SourceId) -> Option<TieNo>
+        requires { pool < length self.now.free }
+        ensures { result ≡ tie_for self.now pool way }
     {
         match self.tie_of(way) {
             Some(tie) => Some(tie),
-            None => self.lowest_free(pool, size),
+            None => self.lowest_free(pool),
         }
     }
 
     // A way holds a tie of its pool.
     pub(crate) fn hold(&mut self, pool: PoolId, way: SourceId, tie: TieNo)
-        requires pool { pool < MAX_POOLS }
-        requires tie { tie < MAX_TIES }
-        requires way_room { way < self.old.ties.room }
-        requires tie_room { tie_place pool tie < self.old.held.room }
+        requires pool { pool < length self.old.free }
+        requires way { way < self.old.ties.room }
+        requires tie { tie < tie_limit }
         ensures { self.new ≡ holding self.old pool way tie }
     {
         self.ties.set(way.get(), Some(tie));
-        self.held.set(place_of(pool, tie), Some(way));
+        let free = &mut self.free[pool.get() as usize];
+        free.remove(tie.get());
     }
 
     // A way holds its tie no longer.
     pub(crate) fn free(&mut self, pool: PoolId, way: SourceId, tie: TieNo)
-        requires pool { pool < MAX_POOLS }
-        requires tie { tie < MAX_TIES }
-        requires way_room { way < self.old.ties.room }
-        requires tie_room { tie_place pool tie < self.old.held.room }
+        requires pool { pool < length self.old.free }
+        requires way { way < self.old.ties.room }
+        requires tie { tie < tie_limit }
         ensures { self.new ≡ freed self.old pool way tie }
     {
         self.ties.set(way.get(), None);
-        self.held.set(place_of(pool, tie), None);
+        let free = &mut self.free[pool.get() as usize];
+        free.insert(tie.get());
     }
 }
 
-// The number of a tie among those of all pools.
-fn place_of(pool: PoolId, tie: TieNo) -> u32
-    requires pool { pool < MAX_POOLS }
-    requires tie { tie < MAX_TIES }
-    ensures { result ≡ tie_place pool tie }
+// All ties of each pool of a plant.
+fn all_free(alloc: Global, plant: &Plant) -> Result<Vec<SmallSet>, AllocError>
+    ensures { IfOk result (λ free. free.items ≡ all_free plant.now) }
 {
-    pool.get() * MAX_TIES + tie.get()
+    let pools = plant.pools();
+    let mut free = Vec::with_capacity(alloc, pools.len())?;
+    for pool in pools {
+        free.push(ties_below(pool.ties))?;
+    }
+    Ok(free)
+}
+
+// The ties of a pool of this size.
+fn ties_below(size: u32) -> SmallSet
+    requires { size ≤ tie_limit }
+    ensures { result ≡ ties_below size }
+{
+    let mut ties = SmallSet::new();
+    for tie in 0..size {
+        ties.insert(tie);
+    }
+    ties
 }

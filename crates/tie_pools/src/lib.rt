@@ -4,8 +4,10 @@
 #![tactic(auto)]
 
 mod commit;
+mod counts;
 mod demand;
 mod holdings;
+mod in_use;
 mod plan;
 mod planned;
 mod route;

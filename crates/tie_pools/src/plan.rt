@@ -41,7 +41,7 @@ impl Ties {
             return Ok(Planned::new());
         }
         put_in(&mut self.demand, &self.ways, plant, points, changes);
-        let over = self.demand.over(plant);
+        let over = self.demand.over();
         take_out(&mut self.demand, &self.ways, plant, points, changes);
         match over {
             Some(fault) => Err(fault),
@@ -50,7 +50,7 @@ impl Ties {
     }
 }
 
-// Puts the new sources of all changes into the demand.
+// Puts the new sources of all changes that aren't idle into the demand.
 #[inline(never)]
 fn put_in(demand: &mut Demand, ways: &Ways, plant: &Plant, points: &Crosspoints, changes: &[Change])
     requires plant { IsPlant plant.now }
@@ -62,11 +62,13 @@ fn put_in(demand: &mut Demand, ways: &Ways, plant: &Plant, points: &Crosspoints,
 {
     for change in changes {
         let source = points.source_at(change.dest);
-        shift(demand, ways, plant, source, change.source);
+        if source != change.source {
+            shift(demand, ways, plant, source, change.source);
+        }
     }
 }
 
-// Takes the new sources of all changes out of the demand again.
+// Takes the new sources of all changes that aren't idle out of the demand again.
 #[inline(never)]
 fn take_out(
     demand: &mut Demand,
@@ -84,7 +86,9 @@ fn take_out(
 {
     for change in changes {
         let source = points.source_at(change.dest);
-        shift(demand, ways, plant, change.source, source);
+        if source != change.source {
+            shift(demand, ways, plant, change.source, source);
+        }
     }
 }
 

@@ -31,8 +31,9 @@ impl Model for Ties {
       ways = ties.ways;
       fed = ties.demand.fed;
       used = ties.demand.used;
+      sizes = ties.demand.sizes;
       ties = ties.holdings.ties;
-      held = ties.holdings.held;
+      free = ties.holdings.free;
     } };
 }
 

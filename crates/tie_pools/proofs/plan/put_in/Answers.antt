@@ -1,5 +1,6 @@
-use Rattle.tie_pools.proofs.PlanLemmas.{room_put, demand_put}
+use Rattle.tie_pools.proofs.PlanLemmas.{not_other, room_put, demand_put, demand_idle}
 use Rattle.tie_pools.proofs.plan.put_in.Goals as goal
+use Rattle.tie_pools.proofs.plan.put_in.Goals.{then-ne, else-ne}
 
 pub shift-requires-clause-room : goal.shift-requires-clause-room
 shift-requires-clause-room c =
@@ -8,6 +9,13 @@ shift-requires-clause-room c =
 
 pub loop-change-preserved : goal.loop-change-preserved
 loop-change-preserved c =
-    rw c.shift.ensures
-    (demand_put c.args.plant.now c.args.points.now.entries c.args.changes.now c.loop-change.change-index c.change-item.result c.source_at-source.result c.loop-change.demand
-    c.requires.once c.requires.dests c.loop-change-test.true c.change-item.is c.source_at-source.ensures c.loop-change.invariant)
+    elim c.if-ne.branch [
+      | then-ne w ↦
+          rw (w.demand-is, w.shift.ensures)
+          (demand_put c.args.plant.now c.args.points.now.entries c.args.changes.now c.loop-change.change-index c.change-item.result c.source_at-source.result c.loop-change.demand
+          c.requires.once c.requires.dests c.loop-change-test.true c.change-item.is c.source_at-source.ensures c.loop-change.invariant)
+      | else-ne w ↦
+          rw w.demand-is
+          (demand_idle c.args.plant.now c.args.points.now.entries c.args.changes.now c.loop-change.change-index c.change-item.result c.source_at-source.result c.loop-change.demand
+          c.requires.once c.requires.dests c.loop-change-test.true c.change-item.is c.source_at-source.ensures c.loop-change.invariant (not_other c.source_at-source.result c.change-item.result.source w.if-ne.ensures))
+    ]

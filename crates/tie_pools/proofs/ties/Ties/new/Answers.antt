@@ -1,3 +1,8 @@
+use Rattle.std.proofs.Common.{length, List, ap, ◌∙◌}
+use Rattle.std.proofs.lemmas.List.{length-map}
+use Rattle.number_tables.specs.Numbers.{Numbers}
+use Rattle.plant_config.specs.declared.records.Pool.{Pool}
+use Rattle.tie_pools.specs.HoldingsInside.{ties_below}
 use Rattle.tie_pools.proofs.EmptyLemmas.{counts_empty}
 use Rattle.tie_pools.proofs.ties.Ties.new.Goals as goal
 
@@ -7,7 +12,8 @@ returns c =
     (record {
       fed = c.in_ok-demand.ensures.room.fed;
       used = c.in_ok-demand.ensures.room.used;
-      ties = c.in_ok-holdings.ensures.way_room;
-      held = c.in_ok-holdings.ensures.tie_room;
+      sizes = c.in_ok-demand.ensures.room.sizes;
+      ties = c.in_ok-holdings.ensures.room;
+      free = ap (λ (free : List Numbers). length free) c.in_ok-holdings.ensures.free ∙ length-map c.args.plant.now.pools (λ (pool : Pool). ties_below pool.ties);
     })
-    c.in_ok-demand.ensures.fed c.in_ok-demand.ensures.used c.in_ok-holdings.ensures.ties c.in_ok-holdings.ensures.held
+    c.in_ok-demand.ensures.fed c.in_ok-demand.ensures.used c.in_ok-holdings.ensures.ties c.in_ok-holdings.ensures.free

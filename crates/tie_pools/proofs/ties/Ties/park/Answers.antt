@@ -20,7 +20,7 @@ returns-in_default-route_of-clause-valid c =
 pub returns-in_default-tie-clause-counts : goal.returns-in_default-tie-clause-counts
 returns-in_default-tie-clause-counts c =
     let none : c.in-Some.spot.tie ≡ None = cc in
-    absurd (parked_tied c.args.plant.now c.args.points.now.entries c.args.dest c.requires.dest c.requires.valid c.in-Some.spot c.in-Some-route_of.route c.requires.plant (sym c.in-Some.ensures) (sym c.in-Some-route_of.ensures.route) none)
+    absurd (parked_tied c.args.plant.now c.args.points.now.entries c.args.dest c.requires.dest c.requires.valid c.in-Some.spot c.in-Some-route_of.route (sym c.in-Some.ensures) (sym c.in-Some-route_of.ensures.route) none)
 
 pub leave-requires-clause-tie : goal.leave-requires-clause-tie
 leave-requires-clause-tie c =
@@ -31,7 +31,7 @@ pub returns-clause-counts : goal.returns-clause-counts
 returns-clause-counts c =
     let tied : c.in-Some.spot.tie ≡ Some c.in-Some-tie.tie = cc in
     rw (c.set.ensures.entries, c.leave.ensures)
-    (parked_remote c.args.plant.now c.args.points.now.entries c.args.dest c.requires.dest c.requires.valid c.args.self.now c.in-Some.spot c.in-Some-route_of.route c.in-Some-tie.tie c.requires.plant (sym c.in-Some.ensures) (sym c.in-Some-route_of.ensures.route) tied c.requires.counts)
+    (parked_remote c.args.plant.now c.args.points.now.entries c.args.dest c.requires.dest c.requires.valid c.args.self.now c.in-Some.spot c.in-Some-route_of.route c.in-Some-tie.tie (sym c.in-Some.ensures) (sym c.in-Some-route_of.ensures.route) tied c.requires.counts)
 
 pub returns-clause-valid : goal.returns-clause-valid
 returns-clause-valid c =
@@ -39,4 +39,4 @@ returns-clause-valid c =
     (parked_valid c.args.plant.now c.args.points.now.entries c.args.dest c.requires.dest c.requires.valid)
 
 pub leave-requires-clause-places : goal.leave-requires-clause-places
-leave-requires-clause-places c = route_placed c.args.plant.now c.args.points.now.entries c.args.self.now c.in-Some-route_of.route c.requires.plant c.in-Some-route_of.ensures.within c.requires.counts
+leave-requires-clause-places c = route_placed c.args.plant.now c.args.points.now.entries c.args.self.now c.in-Some-route_of.route c.in-Some-route_of.ensures.within c.requires.counts

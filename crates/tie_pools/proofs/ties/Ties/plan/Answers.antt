@@ -1,6 +1,6 @@
 use Rattle.std.proofs.Common.{◌≡◌, ◌==◌, true, length, List, Some, None, sym, ap, ◌∙◌, eqb-true}
 use Rattle.plant_config.specs.declared.records.Pool.{Pool}
-use Rattle.tie_pools.specs.DemandInside.{over}
+use Rattle.tie_pools.specs.DemandInside.{in_use_of, over}
 use Rattle.tie_pools.proofs.OverLemmas.{exhausted_where_over, enough_where_none_over, enough_without_pools}
 use Rattle.tie_pools.proofs.ties.Ties.plan.Goals as goal
 use Rattle.tie_pools.proofs.ties.Ties.plan.Goals.{in-Some, in-None}
@@ -16,7 +16,7 @@ returns-clause-enough c =
     elim c.match-over.branch [
       | in-Some w ↦ rw w.result-is tt
       | in-None w ↦
-          let none : over c.args.plant.now c.put_in.new.demand ≡ None = cc in
+          let none : over (in_use_of c.put_in.new.demand) ≡ None = cc in
           rw w.result-is (enough_where_none_over c.args.plant.now c.args.points.now.entries c.args.changes.now c.put_in.new.demand c.put_in.ensures none)
     ]
 
@@ -24,7 +24,7 @@ pub returns-clause-exhausted : goal.returns-clause-exhausted
 returns-clause-exhausted c =
     elim c.match-over.branch [
       | in-Some w ↦
-          let found : over c.args.plant.now c.put_in.new.demand ≡ Some w.in-Some.fault = cc in
+          let found : over (in_use_of c.put_in.new.demand) ≡ Some w.in-Some.fault = cc in
           rw w.result-is (exhausted_where_over c.args.plant.now c.args.points.now.entries c.args.changes.now c.put_in.new.demand c.put_in.ensures w.in-Some.fault found)
       | in-None w ↦ rw w.result-is tt
     ]
