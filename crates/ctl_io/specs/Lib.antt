@@ -1,6 +1,7 @@
 pub mod Faults
 pub mod Source
 pub mod SourceInside
+pub mod ReadHalf
 pub mod Sink
 pub mod SinkInside
 pub mod Held

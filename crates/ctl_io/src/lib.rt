@@ -16,9 +16,11 @@ mod whole_file;
 pub use bytes::Bytes;
 pub use faults::FaultCount;
 pub use files::{Files, Found, Made};
-pub use memory::{Dropped, MemFiles, MemSink, MemSource, NamedSink, NamedSource};
+pub use memory::{CallCount, Dropped, MemFiles, MemSink, MemSource, NamedSink, NamedSource};
 pub use sink::{Sink, Write};
 pub use source::{Read, Source};
-pub use system::{FileSink, FileSource, StdFiles, StdOut};
+pub use system::{
+    FileSink, FileSource, StdFiles, StdOut, call_again, read_again, write_again, write_answer,
+};
 pub use transfer::{WholeFault, read_whole, write_all};
 pub use whole_file::{FileFault, read_file};

@@ -8,6 +8,7 @@ mod mem_source;
 mod named;
 mod named_objects;
 
+pub use calls::CallCount;
 pub use dropped::Dropped;
 pub use mem_files::MemFiles;
 pub use mem_sink::MemSink;

@@ -8,6 +8,8 @@ mod file_source;
 mod std_files;
 mod std_out;
 
+pub use answers::write_answer;
+pub use attempts::{call_again, read_again, write_again};
 pub use file_sink::FileSink;
 pub use file_source::FileSource;
 pub use std_files::StdFiles;

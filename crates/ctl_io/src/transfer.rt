@@ -21,6 +21,7 @@ pub fn write_all<K: Sink>(sink: &mut K, bytes: &[u8]) -> bool
     ensures part { OnFalse result
         (AppendsPart bytes.now (K.written sink.old) (K.written sink.new)) }
     ensures name { K.name sink.new ≡ K.name sink.old }
+    ensures read_half { K.read_half sink.new ≡ K.read_half sink.old }
     ensures count { K.faults sink.new ≡ count_after (not result) (K.faults sink.old) }
 {
     let mut rest = bytes;

@@ -9,7 +9,7 @@ use std::marker::Model;
 /// Counts the calls that are made of an object in memory, and says which of them fail.
 /// The number of calls stands still at its type's end.
 #[derive(Debug, Drop)]
-pub(crate) struct CallCount {
+pub struct CallCount {
     failing: Vec<u64>,
     made: u64,
     faults: FaultCount,
@@ -25,7 +25,7 @@ impl Model for CallCount {
 
 impl CallCount {
     /// No call was made. `failing` holds the numbers, from 0, of the calls that will fail.
-    pub(crate) fn new(failing: Vec<u64>) -> CallCount
+    pub fn new(failing: Vec<u64>) -> CallCount
         ensures { result ≡ uncalled failing.items }
     {
         CallCount {
@@ -36,14 +36,14 @@ impl CallCount {
     }
 
     /// Whether the number of the next call is listed.
-    pub(crate) fn next_fails(&self) -> bool
+    pub fn next_fails(&self) -> bool
         ensures { result ≡ next_fails self.now }
     {
         self.failing.as_slice().contains(&self.made)
     }
 
     /// Counts a call, and its fault where it failed.
-    pub(crate) fn count(&mut self, failed: bool)
+    pub fn count(&mut self, failed: bool)
         ensures { self.new ≡ called failed self.old }
     {
         self.made = self.made.saturating_add(1);
@@ -53,7 +53,7 @@ impl CallCount {
     }
 
     /// Counts a fault where an object with `faults` of its own is given back.
-    pub(crate) fn take_back(&mut self, faults: u64)
+    pub fn take_back(&mut self, faults: u64)
         ensures { self.new ≡ took_back faults self.old }
     {
         if faults > 0 {
@@ -61,7 +61,8 @@ impl CallCount {
         }
     }
 
-    pub(crate) fn faults(&self) -> u64
+    /// How often a call failed, or an object with faults was given back. The count stands still at its type's end.
+    pub fn faults(&self) -> u64
         ensures { result ≡ self.now.faults }
     {
         self.faults.count()

@@ -28,7 +28,7 @@ pub(crate) fn read_answer(read: io::Result<usize>, faults: &mut FaultCount) -> R
 }
 
 /// A write that takes no bytes, and an error, is a fault.
-pub(crate) fn write_answer(written: io::Result<usize>, faults: &mut FaultCount) -> Write
+pub fn write_answer(written: io::Result<usize>, faults: &mut FaultCount) -> Write
     ensures took { IfOk written (λ n. 0 < n → result ≡ Write.Took n) }
     ensures none { IfOk written (λ n. n ≡ 0 → result ≡ Write.Failed) }
     ensures failed { OnErr written (result ≡ Write.Failed) }

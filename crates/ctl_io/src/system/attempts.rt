@@ -7,7 +7,7 @@ ghost use Rattle.std.specs.Io.KnownBytes.{ReadConsumes, WriteAppends};
 use std::io::{self, ErrorKind};
 
 /// Reads, and reads again while the read is interrupted.
-pub(crate) fn read_again<F: io::Read>(file: &mut F, into: &mut [u8]) -> io::Result<usize>
+pub fn read_again<F: io::Read>(file: &mut F, into: &mut [u8]) -> io::Result<usize>
     ensures bound { IfOk result (λ n. n ≤ length into.old) }
     ensures bytes { ReadConsumes (F.remaining file.old) (F.remaining file.new) result into.new }
     ensures again { IfErr result (λ error. error_kind error ≢ ErrorKind.Interrupted) }
@@ -22,7 +22,7 @@ pub(crate) fn read_again<F: io::Read>(file: &mut F, into: &mut [u8]) -> io::Resu
 }
 
 /// Writes, and writes again while the write is interrupted.
-pub(crate) fn write_again<F: io::Write>(file: &mut F, bytes: &[u8]) -> io::Result<usize>
+pub fn write_again<F: io::Write>(file: &mut F, bytes: &[u8]) -> io::Result<usize>
     ensures bound { IfOk result (λ n. n ≤ length bytes.now) }
     ensures bytes { WriteAppends (F.contents file.old) (F.contents file.new) result bytes.now }
     ensures again { IfErr result (λ error. error_kind error ≢ ErrorKind.Interrupted) }
@@ -37,7 +37,7 @@ pub(crate) fn write_again<F: io::Write>(file: &mut F, bytes: &[u8]) -> io::Resul
 }
 
 /// Makes a call that changes nothing here, and makes it again while it is interrupted.
-pub(crate) fn call_again<T, F: Fn() -> io::Result<T>>(call: F) -> io::Result<T>
+pub fn call_again<T, F: Fn() -> io::Result<T>>(call: F) -> io::Result<T>
     requires { F.IsAlwaysCallable call }
     ensures answer { IfOk result (λ answer. F.post call result) }
     ensures again { IfErr result (λ error. error_kind error ≢ ErrorKind.Interrupted) }

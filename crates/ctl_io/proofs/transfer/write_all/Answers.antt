@@ -7,6 +7,7 @@ pub loop-rest-preserved : goal.loop-rest-preserved
 loop-rest-preserved g c = record {
   given = given_more _ _ _ c.in-Took.n _ _ _ c.loop-rest.invariant.given (grind (arith, common_steps)) c.in-Took.ensures.written;
   name = search rules;
+  read_half = search rules;
   count = search rules;
 }
 

@@ -1,0 +1,37 @@
+//! Ports that display packets are sent to.
+
+ghost use Rattle.std.specs.Prelude.{◌≡◌, ℕ, List, Option};
+ghost use Rattle.ctl_io.specs.Faults.{count_after};
+ghost use Rattle.ctl_net.specs.Port.{sent_after, send_failed};
+
+/// What a send answers.
+#[derive(Clone, Copy, Debug, PartialEq, Eq)]
+pub enum Sent {
+    /// The packet was sent. Whether it came isn't known.
+    Done,
+    /// The send failed, and the packet isn't among those that were sent.
+    Failed,
+}
+
+/// A place outside that display packets are sent to, one by one. It can be moved to another thread.
+pub trait DisplayPort: Send {
+    /// Which packets a port of this type takes, whatever was called before.
+    ghost takes: { List ℕ → Type 0 };
+
+    /// The packets that were sent, in order, where the port shows them.
+    ghost packets: { Self → Option (List (List ℕ)) };
+
+    /// How often a send failed. Only the port's own sends raise it.
+    ghost faults: { Self → ℕ };
+
+    /// Sends a packet that the port takes.
+    fn send(&mut self, packet: &[u8]) -> Sent
+        requires { takes packet.now }
+        ensures packets { packets self.new ≡ sent_after result packet.now (packets self.old) }
+        ensures count { faults self.new ≡ count_after (send_failed result) (faults self.old) };
+
+    /// Waits a little, and sends nothing.
+    fn pause(&mut self)
+        ensures packets { packets self.new ≡ packets self.old }
+        ensures count { faults self.new ≡ faults self.old };
+}
