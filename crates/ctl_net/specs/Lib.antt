@@ -1,5 +1,10 @@
 pub use Rattle.ctl_io.specs.Faults
+pub use Rattle.ctl_io.specs.ReadHalf
 pub mod Port
 pub mod Cut
 pub mod MemPort
 pub mod MemPortInside
+pub mod Link
+pub mod LinkEvents
+pub mod MemLink
+pub mod InputInside

@@ -1,6 +1,9 @@
 //! The adapters over sockets: they show nothing, and count each error but that of an interrupted call, which is made
 //! again.
 
+mod link_answer;
+mod tcp_link;
 mod udp_port;
 
+pub use tcp_link::TcpLink;
 pub use udp_port::UdpPort;

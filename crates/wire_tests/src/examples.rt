@@ -1,6 +1,7 @@
 //! One short use of each crate, which its PROMISES.md shows word for word.
 
 mod of_ctl_io;
+mod of_ctl_net;
 mod of_dle_framing;
 mod of_history_lock;
 mod of_line_text;

@@ -8,6 +8,8 @@ mod examples;
 #[cfg(test)]
 mod of_ctl_io;
 #[cfg(test)]
+mod of_ctl_net;
+#[cfg(test)]
 mod of_dle_framing;
 #[cfg(test)]
 mod of_history_lock;

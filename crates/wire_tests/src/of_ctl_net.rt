@@ -1,0 +1,6 @@
+//! What no clause says: ports that find memory, sockets, and what becomes of the system's answers.
+
+mod answers;
+mod gates;
+mod ports;
+mod sockets;

@@ -1,0 +1,71 @@
+//! What a link answers to each answer of the system.
+
+use ctl_io::{Sink, Write};
+use ctl_net::{Link, LinkRead, TcpLink};
+use std::io::{self, ErrorKind};
+use std::test::Fail;
+
+// A connection with these answers to its reads and writes, each a count of bytes or an error, and an end after them.
+#[derive(Drop)]
+struct Answering<'a> {
+    answers: &'a [Result<usize, ErrorKind>],
+}
+
+impl Answering<'_> {
+    fn next(&mut self, room: usize) -> io::Result<usize> {
+        let [first, rest @ ..] = self.answers else {
+            return Ok(0);
+        };
+        self.answers = rest;
+        match *first {
+            Ok(n) => Ok(n.min(room)),
+            Err(kind) => Err(io::Error::from(kind)),
+        }
+    }
+}
+
+impl io::Read for Answering<'_> {
+    fn read(&mut self, into: &mut [u8]) -> io::Result<usize> {
+        self.next(into.len())
+    }
+}
+
+impl io::Write for Answering<'_> {
+    fn write(&mut self, bytes: &[u8]) -> io::Result<usize> {
+        self.next(bytes.len())
+    }
+
+    fn flush(&mut self) -> io::Result<()> {
+        Ok(())
+    }
+}
+
+#[test]
+fn a_read_is_answered_by_its_kind(rt: HostRuntime) -> Result<(), Fail> {
+    for (answer, read) in [
+        (Ok(2), LinkRead::Got(2)),
+        (Ok(0), LinkRead::End),
+        (Err(ErrorKind::WouldBlock), LinkRead::Idle),
+        (Err(ErrorKind::TimedOut), LinkRead::Idle),
+        (Err(ErrorKind::ConnectionReset), LinkRead::Failed),
+    ] {
+        let answers = [Err(ErrorKind::Interrupted), answer];
+        let mut link = TcpLink::over(Answering { answers: &answers });
+        assert_eq!(rt; link.read(&mut [0; 4]), read);
+    }
+    Ok(())
+}
+
+#[test]
+fn a_write_is_answered_by_its_kind(rt: HostRuntime) -> Result<(), Fail> {
+    for (answer, written) in [
+        (Ok(2), Write::Took(2)),
+        (Ok(0), Write::Failed),
+        (Err(ErrorKind::BrokenPipe), Write::Failed),
+    ] {
+        let answers = [Err(ErrorKind::Interrupted), answer];
+        let mut link = TcpLink::over(Answering { answers: &answers });
+        assert_eq!(rt; link.write(b"abc"), written);
+    }
+    Ok(())
+}
