@@ -1,0 +1,9 @@
+pub mod Numbers
+pub mod Stream
+pub mod Items
+pub mod Laws
+pub mod Kept
+pub mod Reader
+pub mod Feeding
+pub mod StepsInside
+pub mod ReaderInside

@@ -1,0 +1,10 @@
+-- The control bytes of packets on a stream, each named here and nowhere else.
+use Rattle.std.specs.Prelude.{ℕ}
+
+-- DLE stands before STX, and a byte of its value in a packet is sent twice. It isn't the DLE of SW-P-08.
+abbrev pub dle : ℕ
+dle = 0xFE
+
+-- behind a DLE: a packet starts
+abbrev pub stx : ℕ
+stx = 0x02

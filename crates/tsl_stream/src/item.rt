@@ -1,0 +1,12 @@
+//! The items of a stream of bytes.
+use tsl_umd5::TslFault;
+
+/// What a stream of bytes says. That noise and packets that are broken off are no items is this project's profile.
+#[derive(Clone, Copy, Debug, PartialEq, Eq)]
+pub enum StreamItem<'a> {
+    /// A packet that `read_packet` accepts, with no byte of it doubled.
+    Packet(&'a [u8]),
+    /// Why the bytes behind a start are no packet. A packet is as long as its own count says, so the fault is never
+    /// `WrongCount`.
+    Bad(TslFault),
+}

@@ -1,0 +1,38 @@
+//! A packet on a stream.
+ghost use Rattle.std.specs.Prelude.{◌≡◌, ◌+◌, ◌*◌, ◌≤◌, [], ◌∷◌, ◌++◌, length, vec_len, vec_capacity};
+ghost use Rattle.tsl_umd5.specs.Packet.{IsPacketText};
+ghost use Rattle.tsl_stream.specs.Stream.{doubled, stream_text};
+ghost use Rattle.tsl_stream.specs.Laws.{ReadsBack};
+
+use crate::control::{DLE, STX};
+
+/// Appends the one text of a packet on a stream, as the TSL UMD Protocol V5.0 spells it for TCP/IP: DLE STX, and the
+/// packet with each DLE of it twice. Its count of bytes, PBC, doesn't count a DLE twice. It takes no memory.
+pub fn write_stream(packet: &[u8], out: &mut Vec<u8>)
+    requires packet { IsPacketText packet.now }
+    requires room { vec_len out.old + 2 * length packet.now + 2 ≤ vec_capacity out.old }
+    ensures text { out.new.items ≡ out.old.items ++ stream_text packet.now }
+
+    // Behind it any text can follow: this is read as the packet, and then as that text.
+    ensures reads_back { ReadsBack packet.now }
+    ensures room { vec_capacity out.new ≡ vec_capacity out.old }
+{
+    out.push_reserved(DLE);
+    out.push_reserved(STX);
+    for byte in packet {
+        push_byte(*byte, out);
+    }
+}
+
+// Appends a byte of a packet.
+#[inline(always)]
+fn push_byte(byte: u8, out: &mut Vec<u8>)
+    requires { vec_len out.old + 2 ≤ vec_capacity out.old }
+    ensures doubled { out.new.items ≡ out.old.items ++ doubled (byte ∷ []) }
+    ensures room { vec_capacity out.new ≡ vec_capacity out.old }
+{
+    out.push_reserved(byte);
+    if byte == DLE {
+        out.push_reserved(DLE);
+    }
+}
