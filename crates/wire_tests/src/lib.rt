@@ -18,4 +18,6 @@ mod of_line_text;
 #[cfg(test)]
 mod of_swp08_messages;
 #[cfg(test)]
+mod of_tsl_stream;
+#[cfg(test)]
 mod of_tsl_umd5;
