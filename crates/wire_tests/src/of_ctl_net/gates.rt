@@ -1,10 +1,11 @@
 //! A gate that holds nobody up.
 
 use ctl_net::{Gate, GatePoint, OpenGate};
+use std::sync::Wait;
 use std::test::Fail;
 
 // Passes both points of a panel's session, over any gate.
-fn pass_both<G: Gate>(rt: &HostRuntime, gate: &G) {
+fn pass_both<R: Wait, G: Gate>(rt: &R, gate: &G) {
     gate.pass(rt, GatePoint::Start(3));
     gate.pass(rt, GatePoint::Done(3));
 }
