@@ -8,7 +8,7 @@ use Rattle.std.proofs.Math.Seq.{take-length}
 use Rattle.ctl_io.specs.Calls.{Calls}
 use Rattle.ctl_io.specs.Faults.{one_more}
 use Rattle.ctl_io.specs.ReadHalf.{Reading}
-use Rattle.ctl_net.specs.LinkEvents.{bytes_of, ahead, first_answer, behind_first, most_reads}
+use Rattle.ctl_net.specs.LinkEvents.{bytes_of, ahead, most_reads}
 use Rattle.ctl_net.specs.MemLink.{InputState, after_first}
 use Rattle.ctl_net.specs.InputInside.{cut_first, FitsFirst, counted, readings, left_events, input_state, IsAt}
 use Rattle.ctl_net.specs.declared.memory.mem_input.MemInput.TheInside.{Inside}

@@ -3,7 +3,7 @@ use Rattle.std.proofs.Common.{◌≡◌, ℕ, ◌<◌, Bool, true, false, if◌t
 use Rattle.ctl_io.specs.Calls.{called}
 use Rattle.ctl_io.specs.Faults.{count_after}
 use Rattle.ctl_io.specs.ReadHalf.{ReadHalf, Reading}
-use Rattle.ctl_net.specs.Link.{given, GivesWithin, told_after, link_read_failed, was_idle, after_link_read}
+use Rattle.ctl_net.specs.Link.{given, GivesWithin, link_read_failed, after_link_read}
 use Rattle.ctl_net.specs.LinkEvents.{bytes_of, ahead, first_answer, behind_first}
 use Rattle.ctl_net.specs.MemLink.{InputState, after_first, read_half_of}
 use Rattle.ctl_net.specs.declared.link_event.LinkEvent.{LinkEvent}

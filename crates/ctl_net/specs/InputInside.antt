@@ -44,9 +44,19 @@ input_state input = record {
   calls = input.calls;
 }
 
--- The place lies within the events, what was told is all that was given, and there is room for each read that may be told.
+-- What was told is all that was given: behind it lies what is left.
+abbrev pub IsAllTold : Inside → Type 0
+IsAllTold input =
+    drop (counted input.told.items) (bytes_of input.events.items) ≡ bytes_of (left_events input)
+
+-- There is room for each read that may still be told.
+abbrev pub HasRoom : Inside → Type 0
+HasRoom input =
+    length input.told.items + most_reads (left_events input) ≤ vec_capacity input.told
+
+-- The place lies within the events.
 pub record IsAt (input : Inside) : Type 0 where
   pub within : input.at ≤ length input.events.items
   pub first : FitsFirst input.given (drop input.at input.events.items)
-  pub told : drop (counted input.told.items) (bytes_of input.events.items) ≡ bytes_of (left_events input)
-  pub room : length input.told.items + most_reads (left_events input) ≤ vec_capacity input.told
+  pub told : IsAllTold input
+  pub room : HasRoom input

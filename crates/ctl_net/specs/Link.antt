@@ -1,9 +1,8 @@
 -- What a link gives where it is read.
-use Rattle.std.specs.Prelude.{◌≡◌, IfSome, ℕ, ◌<◌, ◌≤◌, Bool, true, false, List, [], ◌∷◌, ◌++◌, take, Option}
+use Rattle.std.specs.Prelude.{◌≡◌, IfSome, ℕ, ◌<◌, ◌≤◌, Bool, true, false, List, [], ◌∷◌, ◌++◌, take}
 use Rattle.std.specs.Option.{option_map}
 use Rattle.ctl_io.specs.Faults.{count_after}
 use Rattle.ctl_io.specs.ReadHalf.{ReadHalf, Reading}
-use Rattle.ctl_io.specs.Sink.{IsUnwritten}
 use Rattle.ctl_io.specs.Source.{behind}
 use Rattle.ctl_net.specs.declared.link.LinkRead.{LinkRead}
 use Rattle.ctl_net.specs.declared.link.LinkRead.TheVariants.{Got, Idle, End, Failed}

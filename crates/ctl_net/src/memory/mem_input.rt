@@ -1,6 +1,7 @@
 //! The read half of a link in memory.
 
-ghost use Rattle.std.specs.Prelude.{◌≡◌, ◌<◌, ◌≤◌, [], ◌∷◌, Some, IfOk, IfSome, length, drop, take, min};
+ghost use Rattle.std.specs.Prelude.{◌≡◌, ◌<◌, ◌≤◌, [], ◌∷◌, Some, IfOk, IfSome};
+ghost use Rattle.std.specs.Prelude.{length, drop, take, min};
 ghost use Rattle.ctl_io.specs.Source.{AreNext};
 ghost use Rattle.ctl_net.specs.Link.{given};
 ghost use Rattle.ctl_net.specs.LinkEvents.{bytes_of, ahead, first_answer, most_reads};

@@ -1,4 +1,4 @@
-use Rattle.std.proofs.Common.{◌≡◌, sym, ap, ◌∙◌, subst, length}
+use Rattle.std.proofs.Common.{sym, ap, ◌∙◌, subst, length}
 use Rattle.ctl_io.specs.Calls.{next_fails}
 use Rattle.ctl_net.specs.Link.{GivesWithin, after_link_read}
 use Rattle.ctl_net.specs.MemLink.{read_half_of}
