@@ -1,5 +1,6 @@
 //! A packet on a stream.
-ghost use Rattle.std.specs.Prelude.{◌≡◌, ◌+◌, ◌*◌, ◌≤◌, [], ◌∷◌, ◌++◌, length, vec_len, vec_capacity};
+ghost use Rattle.std.specs.Prelude.{◌≡◌, ◌+◌, ◌*◌, ◌≤◌, [], ◌∷◌, ◌++◌, length};
+ghost use Rattle.std.specs.Prelude.{vec_len, vec_capacity};
 ghost use Rattle.tsl_umd5.specs.Packet.{IsPacketText};
 ghost use Rattle.tsl_stream.specs.Stream.{doubled, stream_text};
 ghost use Rattle.tsl_stream.specs.Laws.{ReadsBack};
