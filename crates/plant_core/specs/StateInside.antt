@@ -2,8 +2,8 @@
 use Rattle.std.specs.Prelude.{◌≡◌, ℕ, List}
 use Rattle.crosspoint_state.specs.Table.{Table}
 use Rattle.plant_config.specs.Plant.{PlantData, destinations_of}
-use Rattle.crosspoint_state.specs.declared.spot.Spot.{Spot}
 use Rattle.crosspoint_state.specs.Crosspoints.{Crosspoints}
+use Rattle.crosspoint_state.specs.Taps.{Points, ArePointsOf}
 use Rattle.tie_pools.specs.Counts.{AreCountsOf}
 use Rattle.salvo_groups.specs.Groups.{Group}
 use Rattle.change_boards.specs.Board.{Board}
@@ -15,7 +15,7 @@ use Rattle.plant_core.specs.declared.tables.Tables.{Tables}
 use Rattle.plant_core.specs.State.{State, IsValid}
 
 -- the state that its parts stand for
-abbrev pub state_of : PlantData → Table Spot → Table ℕ → List Group → List Board → Shown → State
+abbrev pub state_of : PlantData → Points → Table ℕ → List Group → List Board → Shown → State
 state_of plant points owners groups boards shown = record {
   plant = plant;
   crosspoints = points.entries;
@@ -34,13 +34,13 @@ pub record AreTablesOf (plant : PlantData) (crosspoints : Crosspoints) (tables :
   pub tallied : IsTallyOf plant crosspoints tables.tally
   pub screened : AreScreensOf plant tables.screens
 
--- There is room for what each destination of a plant carries, and for who protects it.
-pub record HaveRoom (plant : PlantData) (points : Table Spot) (owners : Table ℕ) : Type 0 where
-  pub crosspoints : points.room ≡ destinations_of plant
+-- There is room for what each destination of a plant carries, with its tap lists, and for who protects it.
+pub record HaveRoom (plant : PlantData) (points : Points) (owners : Table ℕ) : Type 0 where
+  pub crosspoints : ArePointsOf plant points
   pub protects : owners.room ≡ destinations_of plant
 
 -- A state is kept where it is valid, there is room for all destinations, and the tables beside it go with it.
-pub record IsKept (state : State) (points : Table Spot) (owners : Table ℕ) (tables : Tables)
+pub record IsKept (state : State) (points : Points) (owners : Table ℕ) (tables : Tables)
     : Type 0 where
   pub valid : IsValid state
   pub room : HaveRoom state.plant points owners

@@ -80,7 +80,7 @@ impl PlantState {
         ensures { IfOk result (λ state. state ≡ start plant.now) }
     {
         let destinations = plant.destination_count();
-        let crosspoints = Crosspoints::new(alloc, destinations)?;
+        let crosspoints = Crosspoints::new(alloc, plant)?;
         let protects = Protects::new(alloc, destinations)?;
         let groups = Groups::new(alloc)?;
         let notices = Notices::new(alloc, plant)?;

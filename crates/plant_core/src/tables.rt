@@ -2,9 +2,9 @@
 
 ghost use Rattle.std.specs.Prelude.{◌≡◌, true, All, IfOk};
 ghost use Rattle.std.specs.FinMap.{empty};
-ghost use Rattle.plant_config.specs.Plant.{destinations_of};
 ghost use Rattle.plant_config.specs.IsPlant.{IsPlant};
 ghost use Rattle.crosspoint_state.specs.Crosspoints.{NamesOnce};
+ghost use Rattle.crosspoint_state.specs.Taps.{ArePointsOf};
 ghost use Rattle.crosspoint_state.specs.Ties.{HaveValidTies};
 ghost use Rattle.crosspoint_state.specs.Applied.{applied, are_enough};
 ghost use Rattle.plant_core.specs.State.{AreCrosspoints, IsChangeOf};
@@ -54,7 +54,7 @@ impl Tables {
         changes: &[Change],
     )
         requires plant { IsPlant plant.now }
-        requires room { points.old.room ≡ destinations_of plant.now }
+        requires kept { ArePointsOf plant.now points.old }
         requires points { AreCrosspoints plant.now points.old.entries }
         requires ties { HaveValidTies plant.now points.old.entries }
         requires tables { AreTablesOf plant.now points.old.entries self.old }
@@ -62,7 +62,7 @@ impl Tables {
         requires once { NamesOnce changes.now }
         requires enough { are_enough plant.now points.old.entries changes.now ≡ true }
         ensures made { points.new.entries ≡ applied plant.now points.old.entries changes.now }
-        ensures room { points.new.room ≡ points.old.room }
+        ensures kept { ArePointsOf plant.now points.new }
         ensures tables { AreTablesOf plant.now points.new.entries self.new }
     {
         self.ties.commit(plant, points, planned, changes);

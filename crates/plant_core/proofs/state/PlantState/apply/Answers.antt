@@ -1,4 +1,4 @@
-use Rattle.std.proofs.Common.{[], ◌∙◌}
+use Rattle.std.proofs.Common.{[]}
 use Rattle.std.proofs.lemmas.List.Elements.{All-nil, All-push}
 use Rattle.plant_core.specs.State.{IsChangeOf}
 use Rattle.plant_core.specs.StateInside.{state_of}
@@ -12,7 +12,7 @@ invariant_of-self c =
     let enough = rw (← c.self.view_is) at c.requires.enough in
     record {
       valid = rw (c.make.ensures.made, c.from_ref-changes.ensures.value) (IsValid-one (state_of c.self.inside.plant c.self.inside.crosspoints c.self.inside.protects c.self.inside.groups c.self.inside.notices c.self.inside.shown) c.args.change.now c.self.invariant.valid is enough);
-      room = record { crosspoints = c.make.ensures.room ∙ c.self.invariant.room.crosspoints; protects = c.self.invariant.room.protects };
+      room = record { crosspoints = c.make.ensures.kept; protects = c.self.invariant.room.protects };
       beside = c.make.ensures.tables;
     }
 
@@ -22,7 +22,7 @@ make-requires c =
     let enough = rw (← c.self.view_is) at c.requires.enough in
     record {
       plant = c.self.invariant.valid.is_plant;
-      room = c.self.invariant.room.crosspoints;
+      kept = c.self.invariant.room.crosspoints;
       points = c.self.invariant.valid.is_crosspoint;
       ties = c.self.invariant.valid.ties;
       tables = rw c.deref_mut.ensures.value c.self.invariant.beside;

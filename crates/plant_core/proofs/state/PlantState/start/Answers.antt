@@ -7,7 +7,7 @@ pub invariant_of-result : goal.invariant_of-result
 invariant_of-result c = record {
   valid = rw (c.in_ok-crosspoints.ensures.parked, c.in_ok-protects.ensures.free, c.in_ok-groups.ensures, c.in_ok-notices.ensures, c.in_ok-shown.ensures, c.in_ok-plant.ensures.equal) (IsValid-start _ c.copy.ensures.plant);
   room = record {
-    crosspoints = c.in_ok-crosspoints.ensures.room ∙ c.destination_count-destinations.ensures.count ∙ ap destinations_of (sym c.in_ok-plant.ensures.equal);
+    crosspoints = rw c.in_ok-plant.ensures.equal c.in_ok-crosspoints.ensures.kept;
     protects = c.in_ok-protects.ensures.room ∙ c.destination_count-destinations.ensures.count ∙ ap destinations_of (sym c.in_ok-plant.ensures.equal);
   };
   beside = rw (c.in_ok-crosspoints.ensures.parked, c.in_ok-plant.ensures.equal, c.in_ok-tables.ensures.ok) c.in_ok-new.ensures;

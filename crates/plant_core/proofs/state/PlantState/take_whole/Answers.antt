@@ -1,4 +1,3 @@
-use Rattle.std.proofs.Common.{◌∙◌}
 use Rattle.plant_core.specs.StateInside.{state_of}
 use Rattle.plant_core.proofs.StepValidity.{IsValid-taken_whole}
 use Rattle.plant_core.proofs.state.PlantState.take_whole.Goals as goal
@@ -10,7 +9,7 @@ invariant_of-self c =
       valid =
           rw (c.clear.ensures, c.make.ensures.made, c.notify_moved.ensures, c.entries-entries.ensures.entries)
           (IsValid-taken_whole (state_of c.self.inside.plant c.self.inside.crosspoints c.self.inside.protects c.self.inside.groups c.self.inside.notices c.self.inside.shown) c.args.salvo c.self.invariant.valid enough);
-      room = record { crosspoints = c.make.ensures.room ∙ c.self.invariant.room.crosspoints; protects = c.self.invariant.room.protects };
+      room = record { crosspoints = c.make.ensures.kept; protects = c.self.invariant.room.protects };
       beside = c.make.ensures.tables;
     }
 
@@ -19,7 +18,7 @@ make-requires c =
     let enough = rw (← c.self.view_is) at c.requires.enough in
     record {
       plant = c.self.invariant.valid.is_plant;
-      room = c.self.invariant.room.crosspoints;
+      kept = c.self.invariant.room.crosspoints;
       points = c.self.invariant.valid.is_crosspoint;
       ties = c.self.invariant.valid.ties;
       tables = rw c.deref_mut.ensures.value c.self.invariant.beside;

@@ -9,7 +9,7 @@ use Rattle.plant_core.proofs.tables.Tables.make.Goals as goal
 pub commit-requires : goal.commit-requires
 commit-requires c = record {
   dests = λ k d below. (c.requires.changes k d below).dest;
-  room = c.requires.room;
+  kept = c.requires.kept;
   once = c.requires.once;
   counts = c.requires.tables.counted;
   valid = c.requires.ties;
