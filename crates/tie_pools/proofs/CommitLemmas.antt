@@ -147,9 +147,7 @@ pool_within : (plant : PlantData) (pool tie : ℕ) → tie < size_of plant pool 
 pool_within plant pool tie below =
     elim (cases_lt pool (length plant.pools)) [
       | inl within ↦ within
-      | inr past ↦
-          let none : size_of plant pool ≡ 0 = ap (λ found. option_map_or (λ (found : Pool). found.ties) found 0) (slice_get_past plant.pools pool past) in
-          absurd (omega (arith, below, none))
+      | inr past ↦ absurd (omega (arith, below, ap (λ found. option_map_or (λ (found : Pool). found.ties) found 0) (slice_get_past plant.pools pool past)))
     ]
 
 -- the counts behind a destination that leaves
@@ -212,9 +210,6 @@ module _ (plant : PlantData) (points : Crosspoints) (dest : ℕ) (inside : dest 
           let both : None ≡ Some spot = sym (get-put_same points dest None) ∙ ap (finite.get (put points dest None)) (sym here) ∙ stands in
           cc
       by at spot stands (inr there) = sym (get-put_other points dest None at there) ∙ stands
-
-  pub parked_already : (counts : Counts) → finite.get points dest ≡ None → AreCountsOf plant points counts → AreCountsOf plant (put points dest None) counts
-  parked_already counts none counted = subst (λ points. AreCountsOf plant points counts) (sym (as_it_stands points dest None none)) counted
 
   pub parked_local : (counts : Counts) (spot : Spot) → finite.get points dest ≡ Some spot → route_of plant (Some spot.source) ≡ None → AreCountsOf plant points counts → AreCountsOf plant (put points dest None) counts
   parked_local counts spot stands routed counted =
