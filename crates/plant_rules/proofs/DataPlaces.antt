@@ -20,7 +20,8 @@ use Rattle.plant_file.specs.FirstFault.{first_fault}
 use Rattle.plant_file.specs.KeyFaults.{place, sections_faults}
 use Rattle.plant_file.specs.Limits.{all_sources_limit, all_destinations_limit}
 use Rattle.plant_file.specs.Reading.{level_entry, data_of}
-use Rattle.plant_file.specs.FileData.{LevelData, SwitchEntry, FileData}
+use Rattle.plant_file.specs.FileData.{LevelData, FileData}
+use Rattle.plant_file.specs.declared.entries.SwitchEntry.{SwitchEntry}
 use Rattle.plant_file.specs.Places.{place_of, keys_of, is_key, IsInEntry, IsIn, IsFaultOf}
 use Rattle.plant_file.proofs.SectionRanges.{AreInRange-data_of}
 use Rattle.plant_file.proofs.FaultPlaces.{AreAt, none_at, one_at, append_at, numbered_at, range_at}

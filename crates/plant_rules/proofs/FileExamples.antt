@@ -4,7 +4,8 @@ use Rattle.std.specs.Str.{chars, is_utf8}
 use Rattle.toml.specs.Data.{boolean, array, table, no_items, Members, no_members}
 use Rattle.toml.proofs.OnLiterals.{toml_on_literals}
 use Rattle.plant_file.specs.declared.fault.PlantFault.TheVariants.{NotToml}
-use Rattle.plant_file.specs.FileData.{Server, FileData}
+use Rattle.plant_file.specs.FileData.{FileData}
+use Rattle.plant_file.specs.declared.entries.Server.{Server}
 use Rattle.plant_file.specs.Reading.{names_of, source_letter, destination_letter}
 use Rattle.plant_rules.specs.PlantFile.{file_of, file_of_text}
 use Rattle.plant_rules.proofs.FileSamples.{file_on_literals, tables, n, remote, pool, bench, house, bus_with}

@@ -10,7 +10,12 @@ use Rattle.plant_file.specs.declared.fault.Place.{Place}
 use Rattle.plant_file.specs.declared.fault.PlantFault.TheVariants.{Twice, NoSuchThing, NoPool, NotLocal}
 use Rattle.plant_file.specs.Limits.{all_sources_limit, all_destinations_limit}
 use Rattle.plant_file.specs.KeyFaults.{place, range_faults}
-use Rattle.plant_file.specs.FileData.{LevelData, RemoteEntry, PoolEntry, DeviceEntry, SwitchEntry, BusEntry, FileData}
+use Rattle.plant_file.specs.FileData.{LevelData, FileData}
+use Rattle.plant_file.specs.declared.entries.RemoteEntry.{RemoteEntry}
+use Rattle.plant_file.specs.declared.entries.PoolEntry.{PoolEntry}
+use Rattle.plant_file.specs.declared.entries.DeviceEntry.{DeviceEntry}
+use Rattle.plant_file.specs.declared.entries.SwitchEntry.{SwitchEntry}
+use Rattle.plant_file.specs.declared.entries.BusEntry.{BusEntry}
 use Rattle.plant_rules.specs.Rules.{sum_faults, twice_faults, rule_faults, level_key, level_twice, device_twice, output_key, twice_at, remote_key, pool_key, bus_key, root_key, display_key, panel_key}
 use Rattle.plant_rules.specs.Links.{has_level, has_source, has_destination, main_level, unknown_faults, not_local_faults, no_pool_faults, remote_unknown, pool_unknown, device_unknown, bus_unknown, switch_unknown, destination_unknown}
 use Rattle.plant_rules.specs.PlantFile.{data_faults}

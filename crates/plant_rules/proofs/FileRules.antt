@@ -14,7 +14,12 @@ use Rattle.plant_file.specs.declared.fault.PlantFault.TheVariants.{NotToml, Twic
 use Rattle.plant_file.specs.Limits.{all_sources_limit, all_destinations_limit}
 use Rattle.plant_file.specs.KeyFaults.{place, sections_faults}
 use Rattle.plant_file.specs.Reading.{data_of}
-use Rattle.plant_file.specs.FileData.{LevelData, RemoteEntry, PoolEntry, DeviceEntry, SwitchEntry, BusEntry, FileData}
+use Rattle.plant_file.specs.FileData.{LevelData, FileData}
+use Rattle.plant_file.specs.declared.entries.RemoteEntry.{RemoteEntry}
+use Rattle.plant_file.specs.declared.entries.PoolEntry.{PoolEntry}
+use Rattle.plant_file.specs.declared.entries.DeviceEntry.{DeviceEntry}
+use Rattle.plant_file.specs.declared.entries.SwitchEntry.{SwitchEntry}
+use Rattle.plant_file.specs.declared.entries.BusEntry.{BusEntry}
 use Rattle.plant_rules.specs.Rules.{sum_faults, twice_faults, rule_faults, level_key, remote_key, pool_key, output_key, bus_key, root_key, display_key, panel_key, level_twice, device_twice, twice_at}
 use Rattle.plant_rules.specs.Links.{unknown_faults, not_local_faults, no_pool_faults, remote_unknown, pool_unknown, device_unknown, bus_unknown, switch_unknown, destination_unknown, is_remote, has_pool, main_level}
 use Rattle.plant_rules.specs.PlantFile.{data_faults, file_of, file_of_text}

@@ -13,7 +13,10 @@ use Rattle.std.proofs.lemmas.List.Folds.{list_any_more}
 use Rattle.std.proofs.lemmas.Slice.Eq.{bytes_eq-Decides}
 use Rattle.std.proofs.lemmas.Map.Text.{is_eq-slice_cmp}
 use Rattle.plant_rules.specs.declared.known.Counts.{Counts}
-use Rattle.plant_file.specs.FileData.{LevelData, RemoteEntry, PoolEntry, DeviceEntry}
+use Rattle.plant_file.specs.FileData.{LevelData}
+use Rattle.plant_file.specs.declared.entries.RemoteEntry.{RemoteEntry}
+use Rattle.plant_file.specs.declared.entries.PoolEntry.{PoolEntry}
+use Rattle.plant_file.specs.declared.entries.DeviceEntry.{DeviceEntry}
 use Rattle.plant_rules.specs.KnownInside.{no_counts, widened, pair_cmp, triple_cmp, name_cmp, remote_place, pool_place, KnowsLevels, KnowsRemotes, KnowsPools, KnowsDevices}
 
 -- equal in the order is equal in each number

@@ -2,7 +2,11 @@
 use Rattle.std.proofs.Common.{List}
 use Rattle.plant_file.specs.declared.fault.Field.{Field}
 use Rattle.plant_file.specs.declared.fault.Field.TheVariants as fields
-use Rattle.plant_file.specs.FileData.{RemoteEntry, DeviceEntry, RootEntry, DisplayEntry, FileData}
+use Rattle.plant_file.specs.FileData.{FileData}
+use Rattle.plant_file.specs.declared.entries.RemoteEntry.{RemoteEntry}
+use Rattle.plant_file.specs.declared.entries.DeviceEntry.{DeviceEntry}
+use Rattle.plant_file.specs.declared.entries.RootEntry.{RootEntry}
+use Rattle.plant_file.specs.declared.entries.DisplayEntry.{DisplayEntry}
 use Rattle.plant_rules.specs.Rules.{key_if}
 use Rattle.plant_rules.specs.Links.{key_unless, destination_unknown, is_remote, has_pool, main_level}
 

@@ -5,7 +5,8 @@ use Rattle.plant_file.specs.declared.fault.Section.TheVariants as sections
 use Rattle.plant_file.specs.declared.fault.Field.TheVariants as fields
 use Rattle.plant_file.specs.declared.fault.PlantFault.TheVariants.{Twice}
 use Rattle.plant_file.specs.FirstFault.{first_fault}
-use Rattle.plant_file.specs.FileData.{LevelData, DeviceEntry, FileData}
+use Rattle.plant_file.specs.FileData.{LevelData, FileData}
+use Rattle.plant_file.specs.declared.entries.DeviceEntry.{DeviceEntry}
 use Rattle.plant_file.specs.KeyFaults.{place}
 use Rattle.plant_rules.specs.Rules.{key_if, has_twice, twice_at, level_key, level_twice, output_key, device_twice, twice_faults}
 use Rattle.plant_rules.specs.RulesInside.{first_place, first_twice, earlier, names_twice, twice_place}

@@ -2,7 +2,14 @@
 use Rattle.std.specs.Prelude.{◌≡◌, ◌≢◌, ℕ, ◌≤◌, true, false, bytes_eq, List, All, map, sum_by, MatchOption}
 use Rattle.std.specs.List.{IsDistinct}
 use Rattle.plant_file.specs.Limits.{all_sources_limit, all_destinations_limit}
-use Rattle.plant_file.specs.FileData.{LevelData, RemoteEntry, PoolEntry, DeviceEntry, SwitchEntry, BusEntry, RootEntry, DisplayEntry, FileData}
+use Rattle.plant_file.specs.FileData.{LevelData, FileData}
+use Rattle.plant_file.specs.declared.entries.RemoteEntry.{RemoteEntry}
+use Rattle.plant_file.specs.declared.entries.PoolEntry.{PoolEntry}
+use Rattle.plant_file.specs.declared.entries.DeviceEntry.{DeviceEntry}
+use Rattle.plant_file.specs.declared.entries.SwitchEntry.{SwitchEntry}
+use Rattle.plant_file.specs.declared.entries.BusEntry.{BusEntry}
+use Rattle.plant_file.specs.declared.entries.RootEntry.{RootEntry}
+use Rattle.plant_file.specs.declared.entries.DisplayEntry.{DisplayEntry}
 use Rattle.plant_rules.specs.Rules.{level_key, remote_key, pool_key, output_key, bus_key, root_key, display_key, panel_key}
 use Rattle.plant_rules.specs.Links.{has_level, has_source, has_destination, has_device, is_remote, has_pool, main_level}
 use Rattle.plant_file.specs.Ranges.{AreInRange}

@@ -10,7 +10,10 @@ use Rattle.std.specs.BTreeMap as map
 use Rattle.std.specs.BTreeSet.{BTreeSet}
 use Rattle.std.specs.BTreeSet as set
 use Rattle.plant_rules.specs.declared.known.Counts.{Counts}
-use Rattle.plant_file.specs.FileData.{LevelData, RemoteEntry, PoolEntry, DeviceEntry, FileData}
+use Rattle.plant_file.specs.FileData.{LevelData, FileData}
+use Rattle.plant_file.specs.declared.entries.RemoteEntry.{RemoteEntry}
+use Rattle.plant_file.specs.declared.entries.PoolEntry.{PoolEntry}
+use Rattle.plant_file.specs.declared.entries.DeviceEntry.{DeviceEntry}
 
 -- the order of pairs, and of triples
 abbrev pub pair_cmp : ℕ × ℕ → ℕ × ℕ → Ordering

@@ -6,7 +6,12 @@ use Rattle.plant_file.specs.declared.fault.Field.{Field}
 use Rattle.plant_file.specs.declared.fault.Field.TheVariants as fields
 use Rattle.plant_file.specs.declared.fault.PlantFault.{PlantFault}
 use Rattle.plant_file.specs.declared.fault.PlantFault.TheVariants.{NoSuchThing, NoPool, NotLocal}
-use Rattle.plant_file.specs.FileData.{RemoteEntry, PoolEntry, DeviceEntry, SwitchEntry, BusEntry, FileData}
+use Rattle.plant_file.specs.FileData.{FileData}
+use Rattle.plant_file.specs.declared.entries.RemoteEntry.{RemoteEntry}
+use Rattle.plant_file.specs.declared.entries.PoolEntry.{PoolEntry}
+use Rattle.plant_file.specs.declared.entries.DeviceEntry.{DeviceEntry}
+use Rattle.plant_file.specs.declared.entries.SwitchEntry.{SwitchEntry}
+use Rattle.plant_file.specs.declared.entries.BusEntry.{BusEntry}
 use Rattle.plant_rules.specs.Rules.{key_if, each_faults}
 
 -- the key, where this isn't so

@@ -7,7 +7,9 @@ use Rattle.plant_file.specs.declared.fault.Place.{Place}
 use Rattle.plant_file.specs.declared.fault.PlantFault.{PlantFault}
 use Rattle.plant_file.specs.declared.fault.Field.TheVariants as fields
 use Rattle.plant_file.specs.KeyFaults.{place}
-use Rattle.plant_file.specs.FileData.{RemoteEntry, DeviceEntry, FileData}
+use Rattle.plant_file.specs.FileData.{FileData}
+use Rattle.plant_file.specs.declared.entries.RemoteEntry.{RemoteEntry}
+use Rattle.plant_file.specs.declared.entries.DeviceEntry.{DeviceEntry}
 use Rattle.plant_rules.specs.Rules.{key_if}
 use Rattle.plant_rules.specs.Links.{is_remote, has_pool, key_unless, main_level, unknown_faults, not_local_faults, no_pool_faults}
 

@@ -10,7 +10,14 @@ use Rattle.plant_file.specs.declared.fault.PlantFault.{PlantFault}
 use Rattle.plant_file.specs.declared.fault.PlantFault.TheVariants.{Twice}
 use Rattle.plant_file.specs.Limits.{all_sources_limit, all_destinations_limit}
 use Rattle.plant_file.specs.KeyFaults.{place, range_faults}
-use Rattle.plant_file.specs.FileData.{LevelData, RemoteEntry, PoolEntry, DeviceEntry, BusEntry, RootEntry, DisplayEntry, PanelEntry, FileData}
+use Rattle.plant_file.specs.FileData.{LevelData, FileData}
+use Rattle.plant_file.specs.declared.entries.RemoteEntry.{RemoteEntry}
+use Rattle.plant_file.specs.declared.entries.PoolEntry.{PoolEntry}
+use Rattle.plant_file.specs.declared.entries.DeviceEntry.{DeviceEntry}
+use Rattle.plant_file.specs.declared.entries.BusEntry.{BusEntry}
+use Rattle.plant_file.specs.declared.entries.RootEntry.{RootEntry}
+use Rattle.plant_file.specs.declared.entries.DisplayEntry.{DisplayEntry}
+use Rattle.plant_file.specs.declared.entries.PanelEntry.{PanelEntry}
 
 -- the key, where this is so
 abbrev pub key_if : Bool → Field → List Field

@@ -8,11 +8,11 @@ mod keys;
 mod known;
 mod laws;
 mod links;
-mod read;
+mod reading;
 mod rule;
 mod sums;
 mod twice;
 mod unknown;
 
 pub use laws::{a_plant_file_is_right, faults_have_a_place, the_rules_are_exact};
-pub use read::read;
+pub use reading::read;

@@ -1,6 +1,6 @@
 use Rattle.std.proofs.Common.{◌≡◌, Err, rules}
 use Rattle.plant_rules.proofs.FileAnswer.{sections-fail, data-fails, data-right, right-data}
-use Rattle.plant_rules.proofs.read.read.Goals as goal
+use Rattle.plant_rules.proofs.reading.read.Goals as goal
 
 pub returns-in_err-file-clause-answer : goal.returns-in_err-file-clause-answer
 returns-in_err-file-clause-answer c =
