@@ -28,15 +28,15 @@ pub number_of : (numbers : Numbering) (plant : PlantData) (matrix level place nu
 number_of numbers plant matrix level place number is other_matrix other_level same_matrix same_level =
     rw is.found (is.same_matrix ∙ same_matrix, is.same_level ∙ same_level)
 
-name_with : (file : FileData) (level : LevelData) (name : List ℕ) (source : ℕ) (remote : Option RemoteEntry) → (source_with file level name source remote).name ≡ name
+name_with : (file : FileData) (level : LevelData) (name : List ℕ) (source : ℕ) (remote : Option RemoteEntry) → (source_with (levels_of file) file level name source remote).name ≡ name
 name_with file level name source None = refl
 name_with file level name source (Some remote) = refl
 
 names_with : (file : FileData) (level : LevelData) (from : ℕ) (names : List (List ℕ)) →
-    map (λ (source : Source). source.name) (map (λ (named : ℕ × List ℕ). source_with file level named.1 named.0 (remote_at file level.matrix level.level named.0)) (enumerate_from from names)) ≡ names
+    map (λ (source : Source). source.name) (map (λ (named : ℕ × List ℕ). source_with (levels_of file) file level named.1 named.0 (remote_at file.remotes level.matrix level.level named.0)) (enumerate_from from names)) ≡ names
 names_with file level from [] = refl
 names_with file level from (name ∷ names) =
-    let here = name_with file level name from (remote_at file level.matrix level.level from) in
+    let here = name_with file level name from (remote_at file.remotes level.matrix level.level from) in
     let rest = names_with file level (from + 1) names in
     λ s. here s ∷ rest s
 
@@ -60,12 +60,12 @@ module _ (file : FileData) (is : IsFile file) where
   remote_so : (remote : RemoteEntry) (pool : PoolEntry) (number matrix level place : ℕ) → IsLinkedRemote file remote →
       slice_get (plant_of_file file).pools (pool_number file remote) ≡ Some (pool_in pool) → pool.from ≡ remote.from → pool.to ≡ matrix → (pool.level ≡ remote.level) × (remote.level ≡ level) →
       IsNumber source_numbers (levels_of file) matrix level place number →
-      IsNumber source_numbers (levels_of file) remote.from remote.level remote.from_source (source_number file remote.from remote.level remote.from_source) →
-      IsRemote (plant_of_file file) (source_number file remote.from remote.level remote.from_source) number (pool_number file remote)
+      IsNumber source_numbers (levels_of file) remote.from remote.level remote.from_source (source_number (levels_of file) remote.from remote.level remote.from_source) →
+      IsRemote (plant_of_file file) (source_number (levels_of file) remote.from remote.level remote.from_source) number (pool_number file remote)
   unfolding plant_of_file
   remote_so remote pool number matrix level place linked at_pool from to level_is number_is origin_is =
       let plant = plant_of_file file in
-      let origin = source_number file remote.from remote.level remote.from_source in
+      let origin = source_number (levels_of file) remote.from remote.level remote.from_source in
       record {
         local = source_is_local file is remote.from remote.level remote.from_source linked.origin linked.local;
         tied = some_so (slice_get plant.pools (pool_number file remote)) (pool_in pool) (Leads plant origin number) at_pool (record {
@@ -76,8 +76,8 @@ module _ (file : FileData) (is : IsFile file) where
 
   source_so : (k : ℕ) (d : LevelData) → k < length file.levels → (place : ℕ) (name : List ℕ) → place < (get_or file.levels k d).sources → IsName name →
       let at : LevelData = get_or file.levels k d in
-      (remote : Option RemoteEntry) → remote_at file at.matrix at.level place ≡ remote →
-      IsSource (plant_of_file file) (source_numbers.first (placed file.levels at) + place) (source_with file at name place remote)
+      (remote : Option RemoteEntry) → remote_at file.remotes at.matrix at.level place ≡ remote →
+      IsSource (plant_of_file file) (source_numbers.first (placed file.levels at) + place) (source_with (levels_of file) file at name place remote)
   source_so k d inside place name below named None found = record { name = named; origin = (source_in_level file is k d inside place below).1 }
   source_so k d inside place name below named (Some remote) found =
       let at : LevelData = get_or file.levels k d in
@@ -117,7 +117,7 @@ module _ (file : FileData) (is : IsFile file) where
       All-map (AreTold (plant_of_file file)) (placed file.levels) (in_order file.levels) (λ k d inside.
       let at : LevelData = get_or (in_order file.levels) k d in
       let differ = all_in_order file is (λ level. AllDiffer level.source_names × AllDiffer level.destination_names) is.names_differ k d inside in
-      let sources = pieces_are source_numbers (placed file.levels) (sources_at file) (in_order file.levels) (sources_follow file is) (all_whole file is) k d inside in
+      let sources = pieces_are source_numbers (placed file.levels) (sources_at (levels_of file) file) (in_order file.levels) (sources_follow file is) (all_whole file is) k d inside in
       let dests = pieces_are dest_numbers (placed file.levels) (λ level. level.destination_names) (in_order file.levels) (dests_follow file is) whole_dests k d inside in
       record {
         sources = subst (IsDistinct bytes_eq) (sym (ap (map (λ (source : Source). source.name)) sources ∙ names_with file at 0 at.source_names)) differ.0;

@@ -1,30 +1,22 @@
--- Words for the steps from a plant file to its plant. What names a thing by its place is numbered by the plant's levels.
+-- Words for the steps from a plant file to its plant: what is read so far, and what the maps have that are made on the way.
 use denote.Ref.{Bor}
-use Rattle.std.specs.Prelude.{◌≡◌, ℕ, ◌≤◌, ◌==◌, nat_lt, bytes_eq, List, [], ◌∷◌, All, length, take, map, filter, flat_map, find, sum_by, if◌then◌else◌, Option, Some, None}
-use Rattle.std.specs.Option.{unwrap_or, option_map, option_or}
+use Rattle.std.specs.Prelude.{◌≡◌, ℕ, ◌≤◌, ◌==◌, nat_lt, bytes_eq, List, [], ◌∷◌, All, length, map, filter, sum_by, if◌then◌else◌, Option, Some, None}
+use Rattle.std.specs.Option.{option_or}
 use Rattle.std.specs.List.{enumerate_from, position}
 use Rattle.std.specs.Ordering.{nat_cmp, ordering_then}
 use Rattle.std.specs.declared.cmp.Ordering.{Ordering}
 use Rattle.std.specs.BTreeMap.{BTreeMap, get}
 use Rattle.plant_file.specs.Limits.{pool_limit, level_source_limit, all_sources_limit, all_destinations_limit}
 use Rattle.plant_file.specs.FileData.{LevelData, FileData}
-use Rattle.plant_rules.specs.Links.{main_level}
 use Rattle.plant_file.specs.declared.entries.RemoteEntry.{RemoteEntry}
 use Rattle.plant_file.specs.declared.entries.PoolEntry.{PoolEntry}
 use Rattle.plant_file.specs.declared.entries.DeviceEntry.{DeviceEntry}
-use Rattle.plant_file.specs.declared.entries.SwitchEntry.{SwitchEntry}
 use Rattle.plant_file.specs.declared.entries.BusEntry.{BusEntry}
-use Rattle.plant_file.specs.declared.entries.RootEntry.{RootEntry}
-use Rattle.plant_file.specs.declared.entries.DisplayEntry.{DisplayEntry}
-use Rattle.plant_rules.specs.Rules.{remote_key, pool_key}
-use Rattle.plant_config.specs.PlantOfFile.{order, levels_of, source_number, pool_number, remote_at, source_with}
+use Rattle.plant_rules.specs.Rules.{pool_key}
+use Rattle.plant_config.specs.PlantOfFile.{order, source_number, pool_number, remote_at, source_with, device_in}
 use Rattle.plant_config.specs.declared.records.Level.{Level}
 use Rattle.plant_config.specs.declared.records.Source.{Source}
 use Rattle.plant_config.specs.declared.records.Device.{Device}
-use Rattle.plant_config.specs.declared.records.Bus.{Bus}
-use Rattle.plant_config.specs.declared.records.Display.{Display}
-use Rattle.plant_config.specs.Plant.{dest_numbers, source_numbers}
-use Rattle.plant_config.specs.Sites.{number_among}
 
 -- what a list of references points to
 abbrev pub shown : List (Bor LevelData) → List LevelData
@@ -51,65 +43,12 @@ pub record IsLow (level : Level) : Type 0 where
 abbrev pub AreLow : List Level → Type 0
 AreLow = All IsLow
 
--- the number in the whole plant of a source, and of a destination, by its place, 0 where the levels have none
-abbrev pub source_among : List Level → ℕ → ℕ → ℕ → ℕ
-source_among levels matrix level source =
-    unwrap_or (number_among source_numbers levels matrix level source) 0
-
-abbrev pub dest_among : List Level → ℕ → ℕ → ℕ → ℕ
-dest_among levels matrix level dest =
-    unwrap_or (number_among dest_numbers levels matrix level dest) 0
-
-abbrev pub root_among : List Level → RootEntry → ℕ
-root_among levels root = dest_among levels root.matrix main_level root.destination
-
-abbrev pub display_among : List Level → DisplayEntry → Display
-display_among levels display = record {
-  screen = display.screen;
-  index = display.index;
-  watch = dest_among levels display.matrix main_level display.destination;
-}
-
--- the buses that name a device, in the order of the file
-abbrev pub named : List BusEntry → DeviceEntry → List BusEntry
-named buses device = filter (λ bus. bytes_eq bus.device device.name) buses
-
-abbrev pub switch_among : List Level → SwitchEntry → ℕ
-switch_among levels switch = dest_among levels switch.matrix switch.level switch.destination
-
-abbrev pub bus_among : List Level → ℕ → BusEntry → Bus
-bus_among levels device bus = record {
-  device = device;
-  dest = dest_among levels bus.matrix main_level bus.destination;
-  switch = option_map (switch_among levels) bus.switch;
-}
-
-abbrev pub buses_among : List Level → ℕ → List BusEntry → DeviceEntry → List Bus
-buses_among levels number buses device = map (bus_among levels number) (named buses device)
-
--- a device of this number among the devices
-abbrev pub device_among : List Level → List DeviceEntry → List BusEntry → ℕ → DeviceEntry
-    → Device
-device_among levels devices buses number device = record {
-  output = source_among levels device.matrix main_level device.source;
-  first_bus = sum_by (λ other. length (named buses other)) (take number devices);
-  buses = length (named buses device);
-}
-
--- those of the first devices
+-- the devices of a file that are these first ones of them
 abbrev pub devices_from : List Level → List DeviceEntry → List BusEntry → List DeviceEntry
     → List Device
 devices_from levels devices buses front =
-    map (λ (numbered : ℕ × DeviceEntry). device_among levels devices buses numbered.0 numbered.1)
+    map (λ (numbered : ℕ × DeviceEntry). device_in levels devices buses numbered.0 numbered.1)
     (enumerate_from 0 front)
-
-abbrev pub numbered_devices : List Level → List DeviceEntry → List BusEntry → List Device
-numbered_devices levels devices buses = devices_from levels devices buses devices
-
-abbrev pub numbered_buses : List Level → List DeviceEntry → List BusEntry → List Bus
-numbered_buses levels devices buses =
-    flat_map (λ (numbered : ℕ × DeviceEntry). buses_among levels numbered.0 buses numbered.1)
-    (enumerate_from 0 devices)
 
 -- the order of the keys of the maps
 abbrev pub place_cmp : ℕ × ℕ × ℕ → ℕ × ℕ × ℕ → Ordering
@@ -122,10 +61,9 @@ place_of remote = (remote.matrix, remote.level, remote.source)
 abbrev pub way_of : PoolEntry → ℕ × ℕ × ℕ
 way_of pool = (pool.from, pool.to, pool.level)
 
--- the remote that is a source of a level, where it is one
+-- the remote of a key
 abbrev pub remote_among : List RemoteEntry → ℕ × ℕ × ℕ → Option RemoteEntry
-remote_among remotes at =
-    find (λ remote. bytes_eq (remote_key remote) (at.0 ∷ at.1 ∷ at.2 ∷ [])) remotes
+remote_among remotes at = remote_at remotes at.0 at.1 at.2
 
 -- the number of the pool that leads from a matrix to a matrix at a level
 abbrev pub pool_among : List PoolEntry → ℕ × ℕ × ℕ → Option ℕ
@@ -150,10 +88,9 @@ abbrev pub AddsTo : {X : Type 0} → BTreeMap (ℕ × ℕ × ℕ) X
 AddsTo old new key value =
     (at : ℕ × ℕ × ℕ) → get place_cmp new at ≡ added (get place_cmp old at) key value at
 
--- What is known of a file: its levels as the plant has them, and its remotes and its pools by what tells them apart.
+-- What is known of a file: that its levels' numbers fit, and its remotes and its pools by what tells them apart.
 pub record Knows (file : FileData) (levels : List Level)
     (by_place : BTreeMap (ℕ × ℕ × ℕ) RemoteEntry) (by_way : BTreeMap (ℕ × ℕ × ℕ) ℕ) : Type 0 where
-  pub numbered : levels ≡ levels_of file
   pub low : AreLow levels
   pub remotes : Maps by_place (remote_among file.remotes)
   pub few : length file.pools ≤ pool_limit
@@ -164,25 +101,29 @@ abbrev pub HasFewSources : LevelData → Type 0
 HasFewSources level = length level.source_names ≤ level_source_limit
 
 -- where a remote source comes from: its origin and its pool
-abbrev pub behind : FileData → RemoteEntry → ℕ × Option ℕ
-behind file remote =
-    (source_number file remote.from remote.level remote.from_source, Some (pool_number file remote))
+abbrev pub behind : List Level → FileData → RemoteEntry → ℕ × Option ℕ
+behind levels file remote = (
+  source_number levels remote.from remote.level remote.from_source,
+  Some (pool_number file remote),
+)
 
 -- where a source of a level comes from
-abbrev pub origin_with : FileData → LevelData → ℕ → Option RemoteEntry → ℕ × Option ℕ
-origin_with file level number None = (source_number file level.matrix level.level number, None)
-origin_with file level number (Some remote) = behind file remote
+abbrev pub origin_with : List Level → FileData → LevelData → ℕ → Option RemoteEntry
+    → ℕ × Option ℕ
+origin_with levels file level number None =
+    (source_number levels level.matrix level.level number, None)
+origin_with levels file level number (Some remote) = behind levels file remote
 
-abbrev pub origin_in : FileData → LevelData → ℕ → ℕ × Option ℕ
-origin_in file level number =
-    origin_with file level number (remote_at file level.matrix level.level number)
+abbrev pub origin_in : List Level → FileData → LevelData → ℕ → ℕ × Option ℕ
+origin_in levels file level number =
+    origin_with levels file level number (remote_at file.remotes level.matrix level.level number)
 
 -- a source of this name, by where it comes from
 abbrev pub with_origin : List ℕ → ℕ × Option ℕ → Source
 with_origin name origin = record { name = name; origin = origin.0; pool = origin.1 }
 
 -- the sources of a level that have these names
-abbrev pub sources_from : FileData → LevelData → List (List ℕ) → List Source
-sources_from file level names =
-    map (λ (named : ℕ × List ℕ). source_with file level named.1 named.0
-    (remote_at file level.matrix level.level named.0)) (enumerate_from 0 names)
+abbrev pub sources_from : List Level → FileData → LevelData → List (List ℕ) → List Source
+sources_from levels file level names =
+    map (λ (named : ℕ × List ℕ). source_with levels file level named.1 named.0
+    (remote_at file.remotes level.matrix level.level named.0)) (enumerate_from 0 names)

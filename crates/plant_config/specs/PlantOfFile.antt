@@ -1,5 +1,5 @@
 -- The plant of a plant file's data: its levels in order, all that they have numbered over the whole plant, and what names
--- another thing by its place now names it by its number.
+-- another thing by its place now names it by its number, which the levels of the plant give.
 use Rattle.std.specs.Prelude.{ℕ, ◌+◌, ◌*◌, ◌==◌, nat_lt, bytes_eq, List, [], ◌∷◌, map, filter, find, take, length, flat_map, sum_by, Option, Some, None}
 use Rattle.std.specs.Option.{unwrap_or, option_map}
 use Rattle.std.specs.List.{range_with_len, enumerate_from, position_or_len}
@@ -55,19 +55,19 @@ placed levels level = record {
 abbrev pub levels_of : FileData → List Level
 levels_of file = map (placed file.levels) (in_order file.levels)
 
--- the number in the whole plant of a source, and of a destination, by its place in the file
-abbrev pub source_number : FileData → ℕ → ℕ → ℕ → ℕ
-source_number file matrix level source =
-    unwrap_or (number_among source_numbers (levels_of file) matrix level source) 0
+-- the number in the whole plant of a source, and of a destination, by its place, 0 where the levels have none
+abbrev pub source_number : List Level → ℕ → ℕ → ℕ → ℕ
+source_number levels matrix level source =
+    unwrap_or (number_among source_numbers levels matrix level source) 0
 
-abbrev pub dest_number : FileData → ℕ → ℕ → ℕ → ℕ
-dest_number file matrix level dest =
-    unwrap_or (number_among dest_numbers (levels_of file) matrix level dest) 0
+abbrev pub dest_number : List Level → ℕ → ℕ → ℕ → ℕ
+dest_number levels matrix level dest =
+    unwrap_or (number_among dest_numbers levels matrix level dest) 0
 
 -- the remote that is a source of a level, where it is one
-abbrev pub remote_at : FileData → ℕ → ℕ → ℕ → Option RemoteEntry
-remote_at file matrix level source =
-    find (λ remote. bytes_eq (remote_key remote) (matrix ∷ level ∷ source ∷ [])) file.remotes
+abbrev pub remote_at : List RemoteEntry → ℕ → ℕ → ℕ → Option RemoteEntry
+remote_at remotes matrix level source =
+    find (λ remote. bytes_eq (remote_key remote) (matrix ∷ level ∷ source ∷ [])) remotes
 
 -- the number of the pool that leads to a remote
 abbrev pub pool_number : FileData → RemoteEntry → ℕ
@@ -76,60 +76,75 @@ pool_number file remote =
     (λ pool. bytes_eq (pool_key pool)
     (remote.from ∷ remote.matrix ∷ remote.level ∷ [])) file.pools
 
--- a source of a level: a local one is its own origin, a remote one stands for its origin
-abbrev pub source_with : FileData → LevelData → List ℕ → ℕ → Option RemoteEntry
-    → Source
-source_with file level name source None = record {
+-- a source of a level of the file: a local one is its own origin, a remote one stands for its origin
+abbrev pub source_with : List Level → FileData → LevelData → List ℕ → ℕ
+    → Option RemoteEntry → Source
+source_with levels file level name source None = record {
   name = name;
-  origin = source_number file level.matrix level.level source;
+  origin = source_number levels level.matrix level.level source;
   pool = None;
 }
-source_with file level name source (Some remote) = record {
+source_with levels file level name source (Some remote) = record {
   name = name;
-  origin = source_number file remote.from remote.level remote.from_source;
+  origin = source_number levels remote.from remote.level remote.from_source;
   pool = Some (pool_number file remote);
 }
 
--- the sources of a level, in the order of their numbers
-abbrev pub sources_at : FileData → LevelData → List Source
-sources_at file level =
-    map (λ (named : ℕ × List ℕ). source_with file level named.1 named.0
-    (remote_at file level.matrix level.level named.0)) (enumerate_from 0 level.source_names)
+-- the sources of a level of the file, in the order of their numbers
+abbrev pub sources_at : List Level → FileData → LevelData → List Source
+sources_at levels file level =
+    map (λ (named : ℕ × List ℕ). source_with levels file level named.1 named.0
+    (remote_at file.remotes level.matrix level.level named.0)) (enumerate_from 0 level.source_names)
 
 abbrev pub pool_in : PoolEntry → Pool
 pool_in pool = record { from = pool.from; to = pool.to; level = pool.level; ties = pool.ties }
 
 -- the buses that name a device, in the order of the file
-abbrev pub named_buses : FileData → DeviceEntry → List BusEntry
-named_buses file device = filter (λ bus. bytes_eq bus.device device.name) file.buses
+abbrev pub named_buses : List BusEntry → DeviceEntry → List BusEntry
+named_buses buses device = filter (λ bus. bytes_eq bus.device device.name) buses
 
--- a device of this number: its buses are behind those of the devices in front of it
-abbrev pub device_in : FileData → ℕ → DeviceEntry → Device
-device_in file number device = record {
-  output = source_number file device.matrix main_level device.source;
-  first_bus = sum_by (λ other. length (named_buses file other)) (take number file.devices);
-  buses = length (named_buses file device);
+-- the device of this number: its buses are behind those of the devices in front of it
+abbrev pub device_in : List Level → List DeviceEntry → List BusEntry → ℕ → DeviceEntry
+    → Device
+device_in levels devices buses number device = record {
+  output = source_number levels device.matrix main_level device.source;
+  first_bus = sum_by (λ other. length (named_buses buses other)) (take number devices);
+  buses = length (named_buses buses device);
 }
 
-abbrev pub switch_in : FileData → SwitchEntry → ℕ
-switch_in file switch = dest_number file switch.matrix switch.level switch.destination
+abbrev pub devices_in : List Level → List DeviceEntry → List BusEntry → List Device
+devices_in levels devices buses =
+    map (λ (numbered : ℕ × DeviceEntry). device_in levels devices buses numbered.0 numbered.1)
+    (enumerate_from 0 devices)
 
--- a bus of the device of this number
-abbrev pub bus_in : FileData → ℕ → BusEntry → Bus
-bus_in file device bus = record {
+abbrev pub switch_in : List Level → SwitchEntry → ℕ
+switch_in levels switch = dest_number levels switch.matrix switch.level switch.destination
+
+-- a bus of the device of this number, and all of that device
+abbrev pub bus_in : List Level → ℕ → BusEntry → Bus
+bus_in levels device bus = record {
   device = device;
-  dest = dest_number file bus.matrix main_level bus.destination;
-  switch = option_map (switch_in file) bus.switch;
+  dest = dest_number levels bus.matrix main_level bus.destination;
+  switch = option_map (switch_in levels) bus.switch;
 }
 
-abbrev pub root_in : FileData → RootEntry → ℕ
-root_in file root = dest_number file root.matrix main_level root.destination
+abbrev pub device_buses : List Level → List BusEntry → ℕ → DeviceEntry → List Bus
+device_buses levels buses number device = map (bus_in levels number) (named_buses buses device)
 
-abbrev pub display_in : FileData → DisplayEntry → Display
-display_in file display = record {
+-- the buses, those of one device together
+abbrev pub buses_in : List Level → List DeviceEntry → List BusEntry → List Bus
+buses_in levels devices buses =
+    flat_map (λ (numbered : ℕ × DeviceEntry). device_buses levels buses numbered.0 numbered.1)
+    (enumerate_from 0 devices)
+
+abbrev pub root_in : List Level → RootEntry → ℕ
+root_in levels root = dest_number levels root.matrix main_level root.destination
+
+abbrev pub display_in : List Level → DisplayEntry → Display
+display_in levels display = record {
   screen = display.screen;
   index = display.index;
-  watch = dest_number file display.matrix main_level display.destination;
+  watch = dest_number levels display.matrix main_level display.destination;
 }
 
 abbrev pub panel_in : PanelEntry → Panel
@@ -137,20 +152,19 @@ panel_in panel = record { device = panel.device; port = panel.port; master = pan
 
 -- the plant
 unfoldable pub plant_of_file : FileData → PlantData
-plant_of_file file = record {
-  title = file.title;
-  server = file.server;
-  levels = levels_of file;
-  sources = flat_map (sources_at file) (in_order file.levels);
-  dest_names = flat_map (λ level. level.destination_names) (in_order file.levels);
-  pools = map pool_in file.pools;
-  devices = map (λ (numbered : ℕ × DeviceEntry). device_in file numbered.0 numbered.1)
-      (enumerate_from 0 file.devices);
-  buses = flat_map
-      (λ (numbered : ℕ × DeviceEntry). map (bus_in file numbered.0) (named_buses file numbered.1))
-      (enumerate_from 0 file.devices);
-  air = map (root_in file) file.air;
-  preview = map (root_in file) file.preview;
-  displays = map (display_in file) file.displays;
-  panels = map panel_in file.panels;
-}
+plant_of_file file =
+    let levels = levels_of file in
+    record {
+      title = file.title;
+      server = file.server;
+      levels = levels;
+      sources = flat_map (sources_at levels file) (in_order file.levels);
+      dest_names = flat_map (λ level. level.destination_names) (in_order file.levels);
+      pools = map pool_in file.pools;
+      devices = devices_in levels file.devices file.buses;
+      buses = buses_in levels file.devices file.buses;
+      air = map (root_in levels) file.air;
+      preview = map (root_in levels) file.preview;
+      displays = map (display_in levels) file.displays;
+      panels = map panel_in file.panels;
+    }

@@ -2,10 +2,11 @@
 
 ghost use Rattle.std.specs.Prelude.{◌≡◌, ◌≤◌, ◌++◌, bytes_eq, length, IfOk, is_ok, OnOk};
 ghost use Rattle.std.specs.Option.{option_map};
-ghost use Rattle.plant_config.specs.OfFileInside.{AreLow, named, switch_among, buses_among};
-ghost use Rattle.plant_config.specs.OfFileInside.{numbered_devices, numbered_buses};
+ghost use Rattle.plant_config.specs.PlantOfFile.{named_buses, switch_in, device_buses};
+ghost use Rattle.plant_config.specs.PlantOfFile.{devices_in, buses_in};
+ghost use Rattle.plant_config.specs.OfFileInside.{AreLow};
 
-use super::lookups::{dest_among, source_among};
+use super::lookups::{dest_number, source_number};
 use crate::numbers::{DestId, DeviceId};
 use crate::records::{Bus, Device, Level};
 use plant_file::{BusEntry, DeviceEntry, Name};
@@ -21,7 +22,7 @@ fn is_same(one: &Name, other: &Name) -> bool
 // How many buses a device has.
 fn bus_count(buses: &[BusEntry], device: &DeviceEntry) -> u32
     requires { length buses.now ≤ 1024 }
-    ensures count { result ≡ length (named buses.now device.now) }
+    ensures count { result ≡ length (named_buses buses.now device.now) }
     ensures few { result ≤ 1024 }
 {
     let count = buses
@@ -42,14 +43,14 @@ pub fn devices(
     requires few_devices { length devices.now ≤ 64 }
     requires few_buses { length buses.now ≤ 1024 }
     ensures { IfOk result
-        (λ made. made.items ≡ numbered_devices levels.now devices.now buses.now) }
+        (λ made. made.items ≡ devices_in levels.now devices.now buses.now) }
 {
     let mut made = Vec::new(alloc);
     let mut first_bus = 0;
     for device in devices {
         let count = bus_count(buses, device);
         made.push(Device {
-            output: source_among(levels, device.matrix, 0, device.source),
+            output: source_number(levels, device.matrix, 0, device.source),
             first_bus,
             buses: count,
         })?;
@@ -61,10 +62,10 @@ pub fn devices(
 // The switch of a bus, where it has one.
 fn switch_of(levels: &[Level], bus: &BusEntry) -> Option<DestId>
     requires { AreLow levels.now }
-    ensures { result ≡ option_map (switch_among levels.now) bus.now.switch }
+    ensures { result ≡ option_map (switch_in levels.now) bus.now.switch }
 {
     match bus.switch {
-        Some(switch) => Some(dest_among(levels, switch.matrix, switch.level, switch.destination)),
+        Some(switch) => Some(dest_number(levels, switch.matrix, switch.level, switch.destination)),
         None => None,
     }
 }
@@ -79,13 +80,13 @@ fn add_buses(
 ) -> Result<(), AllocError>
     requires { AreLow levels.now }
     ensures { OnOk result
-        (made.new.items ≡ made.old.items ++ buses_among levels.now number buses.now device.now) }
+        (made.new.items ≡ made.old.items ++ device_buses levels.now buses.now number device.now) }
 {
     for bus in buses {
         if is_same(&bus.device, &device.name) {
             made.push(Bus {
                 device: number,
-                dest: dest_among(levels, bus.matrix, 0, bus.destination),
+                dest: dest_number(levels, bus.matrix, 0, bus.destination),
                 switch: switch_of(levels, bus),
             })?;
         }
@@ -103,7 +104,7 @@ pub fn buses(
     requires low { AreLow levels.now }
     requires few_devices { length devices.now ≤ 64 }
     ensures { IfOk result
-        (λ made. made.items ≡ numbered_buses levels.now devices.now buses.now) }
+        (λ made. made.items ≡ buses_in levels.now devices.now buses.now) }
 {
     let mut made = Vec::new(alloc);
     for (number, device) in devices.iter().enumerate() {

@@ -2,7 +2,8 @@
 
 ghost use Rattle.std.specs.Prelude.{◌≡◌, IfSome};
 ghost use Rattle.plant_config.specs.Sites.{level_among};
-ghost use Rattle.plant_config.specs.OfFileInside.{IsLow, AreLow, source_among, dest_among};
+ghost use Rattle.plant_config.specs.PlantOfFile.{source_number, dest_number};
+ghost use Rattle.plant_config.specs.OfFileInside.{IsLow, AreLow};
 
 use crate::numbers::{DestId, SourceId};
 use crate::records::Level;
@@ -20,9 +21,9 @@ fn level_among(levels: &[Level], matrix: u8, level: u8) -> Option<Level>
 }
 
 /// The source of this number at a level, 0 where there is none.
-pub fn source_among(levels: &[Level], matrix: u8, level: u8, number: u16) -> SourceId
+pub fn source_number(levels: &[Level], matrix: u8, level: u8, number: u16) -> SourceId
     requires { AreLow levels.now }
-    ensures { result ≡ source_among levels.now matrix level number }
+    ensures { result ≡ source_number levels.now matrix level number }
 {
     let number = u32::from(number);
     match level_among(levels, matrix, level) {
@@ -32,9 +33,9 @@ pub fn source_among(levels: &[Level], matrix: u8, level: u8, number: u16) -> Sou
 }
 
 /// The destination of this number at a level, 0 where there is none.
-pub fn dest_among(levels: &[Level], matrix: u8, level: u8, number: u16) -> DestId
+pub fn dest_number(levels: &[Level], matrix: u8, level: u8, number: u16) -> DestId
     requires { AreLow levels.now }
-    ensures { result ≡ dest_among levels.now matrix level number }
+    ensures { result ≡ dest_number levels.now matrix level number }
 {
     let number = u32::from(number);
     match level_among(levels, matrix, level) {

@@ -1,10 +1,10 @@
 //! The parts of a plant that are in the order of its file.
 
 ghost use Rattle.std.specs.Prelude.{◌≡◌, map, IfOk};
-ghost use Rattle.plant_config.specs.PlantOfFile.{pool_in, panel_in};
-ghost use Rattle.plant_config.specs.OfFileInside.{AreLow, root_among, display_among};
+ghost use Rattle.plant_config.specs.PlantOfFile.{pool_in, panel_in, root_in, display_in};
+ghost use Rattle.plant_config.specs.OfFileInside.{AreLow};
 
-use super::lookups::dest_among;
+use super::lookups::dest_number;
 use crate::numbers::DestId;
 use crate::records::{Display, Level, Panel, Pool};
 use plant_file::{DisplayEntry, PanelEntry, PoolEntry, RootEntry};
@@ -32,11 +32,11 @@ pub fn roots(
     roots: &[RootEntry],
 ) -> Result<Vec<DestId>, AllocError>
     requires { AreLow levels.now }
-    ensures { IfOk result (λ made. made.items ≡ map (root_among levels.now) roots.now) }
+    ensures { IfOk result (λ made. made.items ≡ map (root_in levels.now) roots.now) }
 {
     let mut made = Vec::new(alloc);
     for root in roots {
-        made.push(dest_among(levels, root.matrix, 0, root.destination))?;
+        made.push(dest_number(levels, root.matrix, 0, root.destination))?;
     }
     Ok(made)
 }
@@ -48,14 +48,14 @@ pub fn displays(
     displays: &[DisplayEntry],
 ) -> Result<Vec<Display>, AllocError>
     requires { AreLow levels.now }
-    ensures { IfOk result (λ made. made.items ≡ map (display_among levels.now) displays.now) }
+    ensures { IfOk result (λ made. made.items ≡ map (display_in levels.now) displays.now) }
 {
     let mut made = Vec::new(alloc);
     for display in displays {
         made.push(Display {
             screen: display.screen,
             index: display.index,
-            watch: dest_among(levels, display.matrix, 0, display.destination),
+            watch: dest_number(levels, display.matrix, 0, display.destination),
         })?;
     }
     Ok(made)

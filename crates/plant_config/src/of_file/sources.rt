@@ -1,11 +1,11 @@
 //! The sources of a plant file, each with its origin.
 
 ghost use Rattle.std.specs.Prelude.{◌≡◌, ◌≤◌, ◌++◌, All, flat_map, length, IfOk, is_ok, OnOk};
-ghost use Rattle.plant_config.specs.PlantOfFile.{levels_of, pool_number, sources_at};
+ghost use Rattle.plant_config.specs.PlantOfFile.{pool_number, sources_at};
 ghost use Rattle.plant_config.specs.OfFileInside.{AreLow, Knows, HasFewSources, shown};
 ghost use Rattle.plant_config.specs.OfFileInside.{behind, origin_in};
 
-use super::lookups::source_among;
+use super::lookups::source_number;
 use super::remotes::{Pools, Remotes, pools_of, remotes_of};
 use crate::numbers::{PoolId, SourceId};
 use crate::records::{Level, Source};
@@ -29,10 +29,10 @@ impl<'a> Origins<'a> {
         file: &'a PlantFile,
         levels: &'a [Level],
     ) -> Result<Origins<'a>, AllocError>
-        requires numbered { levels.now ≡ levels_of file.now }
         requires low { AreLow levels.now }
         requires few { length file.now.pools ≤ 256 }
-        ensures { IfOk result (λ made. made.file.now ≡ file.now) }
+        ensures file { IfOk result (λ made. made.file.now ≡ file.now) }
+        ensures levels { IfOk result (λ made. made.levels.now ≡ levels.now) }
     {
         let remotes = remotes_of(alloc, file.remotes())?;
         let pools = pools_of(alloc, file.pools())?;
@@ -57,28 +57,29 @@ impl<'a> Origins<'a> {
 
     // Where a remote source comes from: its origin, and the pool that leads from there.
     fn behind(&self, remote: &RemoteEntry) -> (SourceId, Option<PoolId>)
-        ensures { result ≡ behind self.now.file.now remote.now }
+        ensures { result ≡ behind self.now.levels.now self.now.file.now remote.now }
     {
-        let origin = source_among(self.levels, remote.from, remote.level, remote.from_source);
+        let origin = source_number(self.levels, remote.from, remote.level, remote.from_source);
         (origin, Some(self.pool(remote)))
     }
 
     // Where a source of a level comes from. A local one is its own origin.
     fn origin(&self, level: &LevelEntry, number: u16) -> (SourceId, Option<PoolId>)
-        ensures { result ≡ origin_in self.now.file.now level.now number }
+        ensures { result
+            ≡ origin_in self.now.levels.now self.now.file.now level.now number }
     {
         let (matrix, at) = (level.matrix(), level.level());
         match self.remotes.get(&(matrix, at, number)) {
             Some(remote) => self.behind(remote),
-            None => (source_among(self.levels, matrix, at, number), None),
+            None => (source_number(self.levels, matrix, at, number), None),
         }
     }
 
     // Adds the sources of a level.
     fn add_sources(&self, level: &LevelEntry, made: &mut Vec<Source>) -> Result<(), AllocError>
         requires { HasFewSources level.now }
-        ensures { OnOk result
-            (made.new.items ≡ made.old.items ++ sources_at self.now.file.now level.now) }
+        ensures { OnOk result (made.new.items
+            ≡ made.old.items ++ sources_at self.now.levels.now self.now.file.now level.now) }
     {
         for (number, name) in level.source_names().iter().enumerate() {
             let (origin, pool) = self.origin(level, number as u16);
@@ -94,8 +95,8 @@ impl<'a> Origins<'a> {
     // The sources of these levels.
     fn sources(&self, alloc: Global, ordered: &[&LevelEntry]) -> Result<Vec<Source>, AllocError>
         requires { All HasFewSources (shown ordered.now) }
-        ensures { IfOk result
-            (λ made. made.items ≡ flat_map (sources_at self.now.file.now) (shown ordered.now)) }
+        ensures { IfOk result (λ made. made.items
+            ≡ flat_map (sources_at self.now.levels.now self.now.file.now) (shown ordered.now)) }
     {
         let mut made = Vec::new(alloc);
         for level in ordered {
@@ -112,12 +113,11 @@ pub fn sources(
     levels: &[Level],
     ordered: &[&LevelEntry],
 ) -> Result<Vec<Source>, AllocError>
-    requires numbered { levels.now ≡ levels_of file.now }
     requires low { AreLow levels.now }
     requires few_pools { length file.now.pools ≤ 256 }
     requires few_sources { All HasFewSources (shown ordered.now) }
     ensures { IfOk result
-        (λ made. made.items ≡ flat_map (sources_at file.now) (shown ordered.now)) }
+        (λ made. made.items ≡ flat_map (sources_at levels.now file.now) (shown ordered.now)) }
 {
     let origins = Origins::of(alloc, file, levels)?;
     origins.sources(alloc, ordered)

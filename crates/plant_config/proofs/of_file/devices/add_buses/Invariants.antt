@@ -1,7 +1,7 @@
 use Rattle.std.proofs.Common.{◌≡◌, ◌++◌, take}
-use Rattle.plant_config.specs.OfFileInside.{buses_among}
+use Rattle.plant_config.specs.PlantOfFile.{device_buses}
 use Rattle.plant_config.proofs.of_file.devices.add_buses.Given as goal
 
 abbrev pub invariant-loop-bus : goal.invariant-loop-bus
 invariant-loop-bus l =
-    l.made.items ≡ l.initial.made.items ++ buses_among l.levels l.number (take l.bus-index l.buses) l.device
+    l.made.items ≡ l.initial.made.items ++ device_buses l.levels (take l.bus-index l.buses) l.number l.device

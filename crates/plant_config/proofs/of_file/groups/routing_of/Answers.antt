@@ -1,10 +1,12 @@
-use Rattle.std.proofs.Common.{All, map, flat_map, ap, sym, subst, ◌∙◌}
+use Rattle.std.proofs.Common.{All, List, map, flat_map, ap, sym, subst, ◌∙◌}
 use Rattle.plant_file.specs.FileData.{LevelData}
+use Rattle.plant_config.specs.declared.records.Level.{Level}
 use Rattle.plant_config.specs.PlantOfFile.{plant_of_file, levels_of, sources_at, pool_in}
 use Rattle.plant_config.specs.Limits.{all_destinations_limit, all_sources_limit}
 use Rattle.plant_config.specs.Plant.{dest_numbers, source_numbers}
 use Rattle.plant_config.specs.LevelsInside.{IsInGrid, AreNumbered}
 use Rattle.plant_config.proofs.LevelsOfFile.{each_level, length-levels_of, dests_follow, sources_follow, all_dests, all_sources}
+use Rattle.plant_config.proofs.OneMore.{same_2}
 use Rattle.plant_config.proofs.of_file.groups.routing_of.Goals as goal
 
 pub of-requires : goal.of-requires
@@ -23,7 +25,7 @@ pub returns : goal.returns
 unfolding plant_of_file
 returns c = record {
   levels = c.in_ok-of.ensures ∙ c.requires.numbered;
-  sources = c.in_ok-sources.ensures ∙ ap (flat_map (sources_at c.args.file.now)) c.requires.ordered;
+  sources = c.in_ok-sources.ensures ∙ same_2 (λ (among : List Level) (ordered : List LevelData). flat_map (sources_at among c.args.file.now) ordered) (c.as_slice.ensures.value ∙ c.requires.numbered) c.requires.ordered;
   dest_names = c.in_ok-dest_names.ensures ∙ ap (flat_map (λ (level : LevelData). level.destination_names)) c.requires.ordered;
   pools = c.in_ok-pools.ensures ∙ ap (map pool_in) c.pools.ensures;
 }
