@@ -1,5 +1,7 @@
 //! What a link answers to each answer of the system.
 
+ghost use Rattle.std.specs.Prelude.{◌≤◌, IfOk};
+
 use ctl_io::{Sink, Write};
 use ctl_net::{Link, LinkRead, TcpLink};
 use std::io::{self, ErrorKind};
@@ -12,7 +14,9 @@ struct Answering<'a> {
 }
 
 impl Answering<'_> {
-    fn next(&mut self, room: usize) -> io::Result<usize> {
+    fn next(&mut self, room: usize) -> io::Result<usize>
+        ensures { IfOk result (λ n. n ≤ room) }
+    {
         let [first, rest @ ..] = self.answers else {
             return Ok(0);
         };
