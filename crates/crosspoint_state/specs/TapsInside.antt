@@ -6,7 +6,7 @@ use Rattle.tap_lists.specs.Lists.{Lists, IsUnder, IsLoose, IsHeadOf}
 pub record LeavesOthers (old new : Lists) (dest : ℕ) : Type 0 where
   pub heads : length new.by_head ≡ length old.by_head
   pub members : new.members ≡ old.members
-  pub others : (head other : ℕ) → other ≢ dest → IsUnder new head other ↔ IsUnder old head other
+  pub others : (head at : ℕ) → at ≢ dest → IsUnder new head at ↔ IsUnder old head at
 
 -- A destination is under no head now.
 pub record Loosens (old new : Lists) (dest : ℕ) : Type 0 where
