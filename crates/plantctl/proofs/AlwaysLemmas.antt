@@ -1,13 +1,14 @@
 -- Which status each cause leads to.
 use Rattle.std.proofs.Common.{◌≡◌, ◌⊎◌, inl, inr, ℕ, ◌≤◌, Bool, true, false, List, length, Ok, Err, refl, sym, ◌∙◌, ap, subst, arith}
-use Rattle.std.specs.Prelude.{MatchBool}
+use Rattle.std.specs.Prelude.{MatchBool, map}
 use Rattle.ctl_io.specs.Faults.{count_after}
 use Rattle.ctl_io.specs.Held.{Held, Unshown, NoFile, Holds}
 use Rattle.plant_config.specs.Plant.{PlantData}
 use Rattle.plant_config.specs.Bench.{bench}
 use Rattle.plant_config.specs.PlantOfText.{plant_of_text}
 use Rattle.record_replay.specs.TiedReplay.{IsTiedReplay}
-use Rattle.record_replay.proofs.IsReplayLemmas.{apart}
+use Rattle.record_replay.specs.Laws.{work_of}
+use Rattle.record_replay.proofs.IsReplayLemmas.{none_bad}
 use Rattle.plantctl.specs.World.{World, FilesUntouched}
 use Rattle.plantctl.specs.End.{End, Done, NoMemory, Usage, FileMissing, FileFault, PlantRefused, PlantTooLong, LineRefused, ScriptTooLong, Audited, TraceTooLong, status_of, is_file_fault}
 use Rattle.plantctl.specs.Words.{Command, Check, Replay, plant_word, Ask}
@@ -239,7 +240,7 @@ accepted_of plant name script before now (Done output) accepted count (inl ends)
 accepted_of plant name script before now NoMemory accepted count (inl ends) = inr (inl refl)
 accepted_of plant name script before now (FileFault failed) accepted count (inl ends) = inr (inr (inl (refl, count)))
 accepted_of plant name script before now (FileMissing missing) accepted count (inl ends) = absurd ends.1
-accepted_of plant name script before now (LineRefused number) accepted count (inl ends) = absurd (apart plant script accepted.1.0 number accepted.1.1 ends.1)
+accepted_of plant name script before now (LineRefused number) accepted count (inl ends) = absurd (none_bad plant script accepted.1.0 number accepted.1.1 ends.1)
 accepted_of plant name script before now ScriptTooLong accepted count (inl ends) = absurd (omega (arith, ends))
 accepted_of plant name script before now (Audited verdict) accepted count (inl ends) = absurd ends
 accepted_of plant name script before now TraceTooLong accepted count (inl ends) = absurd ends
@@ -256,7 +257,7 @@ accepted_always words before now status plant name script asks accepted run =
 
 refused_script : (plant : PlantData) (script output : List ℕ) → IsRefused plant script → IfFits script (IsTiedReplay plant script output) → ⊥
 refused_script plant script output (inl long) fits = omega (arith, fits.0)
-refused_script plant script output (inr bad) fits = apart plant script output bad.0 fits.1.replay bad.1
+refused_script plant script output (inr bad) fits = none_bad plant script (map work_of fits.1.actions) bad.0 fits.1.history.spelled bad.1
 
 refused_of : (plant : PlantData) (name script : List ℕ) (before now : World) (end : End) → IsRefused plant script → now.file_faults ≡ count_after (is_file_fault end) before.file_faults
     → ReplayEnds plant name (Holds script) end ⊎ WasKept before now (status_of end) → IsOrKept 5 before now end

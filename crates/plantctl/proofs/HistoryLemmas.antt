@@ -5,7 +5,7 @@ use Rattle.ctl_io.specs.Held.{Holds}
 use Rattle.plant_config.specs.Plant.{PlantData}
 use Rattle.record_replay.specs.Laws.{Action, Turned, Left, Polled, IsHistory}
 use Rattle.record_replay.specs.TiedReplay.{IsTiedReplay}
-use Rattle.record_replay.specs.ScriptLaws.{ReplaysHaveHistory, HistoriesAreOne, TurnsAnswerItems}
+use Rattle.record_replay.specs.ScriptLaws.{HistoriesAreOne, TurnsAnswerItems}
 use Rattle.plantctl.specs.World.{World}
 use Rattle.plantctl.specs.End.{End, Done, NoMemory, Usage, FileMissing, FileFault, PlantRefused, PlantTooLong, LineRefused, ScriptTooLong, Audited, TraceTooLong, status_of}
 use Rattle.plantctl.specs.Replay.{ReplayEnds}
@@ -23,7 +23,7 @@ not_kept before now status is (inl one) = omega arith
 not_kept before now status is (inr (inl three)) = omega (arith, three.0)
 not_kept before now status is (inr (inr seven)) = omega (arith, seven.0)
 
-module _ (some : ReplaysHaveHistory) (one : HistoriesAreOne) (answer : TurnsAnswerItems) where
+module _ (one : HistoriesAreOne) (answer : TurnsAnswerItems) where
   is_answered : (plant : PlantData) (script output : List ℕ) (actions front later : List Action) (action : Action) → IsHistory plant script output actions → actions ≡ front ++ action ∷ later → AnswersItsPiece front action
   is_answered plant script output actions front later (Turned panel piece entries sent) history is = answer plant script output actions front later panel piece sent entries history is
   is_answered plant script output actions front later (Left panel) history is = tt
@@ -31,15 +31,14 @@ module _ (some : ReplaysHaveHistory) (one : HistoriesAreOne) (answer : TurnsAnsw
 
   tied_shows : (plant : PlantData) (script output : List ℕ) (before now : World) → IsTiedReplay plant script output → now.written ≡ appended before.written output → ShowsHistory plant script before now
   tied_shows plant script output before now tied appends =
-      let made = some plant script output tied.replay in
       record {
         output = output;
         appends = appends;
-        actions = made.0;
-        history = made.1;
-        alone = λ other others is. one plant script other output others made.0 is made.1;
-        answered = λ front later action is. is_answered plant script output made.0 front later action made.1 is;
-        ties = tied.ties made.0 made.1;
+        actions = tied.actions;
+        history = tied.history;
+        alone = λ other others is. one plant script other output others tied.actions is tied.history;
+        answered = λ front later action is. is_answered plant script output tied.actions front later action tied.history is;
+        ties = tied.ties;
       }
 
   end_shows : (plant : PlantData) (name script : List ℕ) (before now : World) (end : End) → IsWritten end before now 0 → ReplayEnds plant name (Holds script) end ⊎ WasKept before now (status_of end)

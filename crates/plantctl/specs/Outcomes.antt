@@ -8,8 +8,7 @@ use Rattle.plant_file.specs.declared.fault.PlantFault.{PlantFault}
 use Rattle.plant_file.specs.FaultText.{fault_text}
 use Rattle.plant_config.specs.Plant.{PlantData}
 use Rattle.plant_config.specs.PlantOfText.{plant_of_text}
-use Rattle.record_replay.specs.Script.{IsFirstBad}
-use Rattle.record_replay.specs.Replay.{IsReplay}
+use Rattle.record_replay.specs.Script.{Work, lines, worked, LinesSpell, IsFirstBad}
 use Rattle.record_replay.specs.TiedReplay.{IsTiedReplay}
 use Rattle.trace_audit.specs.declared.verdict.Verdict.{Verdict}
 use Rattle.trace_audit.specs.declared.verdict.Verdict.TheVariants.{Confirmed, BadLine, Gap, Repeat, Differs}
@@ -147,10 +146,11 @@ abbrev pub IsRefusedPlant : List ℕ → Type 0
 IsRefusedPlant text =
     (longest_plant < length text) ⊎ ((fault : PlantFault) × (plant_of_text text ≡ Err fault))
 
--- A script is accepted where it isn't too long and has a replay text on the plant.
+-- A script is accepted where it isn't too long and each line that isn't skipped has a form.
 abbrev pub IsAccepted : PlantData → List ℕ → Type 0
 IsAccepted plant script =
-    (length script ≤ longest_script) × ((output : List ℕ) × IsReplay plant script output)
+    (length script ≤ longest_script)
+    × ((works : List Work) × LinesSpell plant (worked (lines script)) works)
 
 -- A script is refused where it is too long or has a line without a form.
 abbrev pub IsRefused : PlantData → List ℕ → Type 0

@@ -14,7 +14,7 @@ use Rattle.record_replay.specs.Replay.{begun, AllWork}
 use Rattle.record_replay.specs.TiedReplay.{HasReplayed, HasReplayedFront}
 use Rattle.record_replay.specs.ReplayerInside.{StandsAt, MayDo, DoesScript}
 use Rattle.record_replay.proofs.IsReplayLemmas.{of_plant}
-use Rattle.record_replay.proofs.TiedReplayLemmas.{no_two_sources}
+use Rattle.record_replay.proofs.TiedReplayLemmas.{tied}
 use Rattle.record_replay.proofs.WorksLemmas.{AllWork-append, works_exist}
 
 -- A new replayer may do any script.
@@ -38,10 +38,12 @@ replayed written faults plant script replayer sink now first last stands small s
     let is : spelled.0 ≡ done.2.done = done.2.works_are ∙ ap (λ (left : List Work). done.2.done ++ left) (done.2.whole whole) ∙ append-nil done.2.done in (
       record {
         output = done.0;
-        replay = record {
-          replay = record { works = spelled.0; spelled = spelled.1; last = done.2.next; all_work = subst (λ (works : List Work). AllWork plant works (begun plant) done.0 done.2.next) (sym is) done.2.all_work };
-          ties = no_two_sources plant script done.0 stands.valid.is_plant;
-        };
+        replay = tied plant script done.0 stands.valid.is_plant (record {
+          works = spelled.0;
+          spelled = spelled.1;
+          last = done.2.next;
+          all_work = subst (λ (works : List Work). AllWork plant works (begun plant) done.0 done.2.next) (sym is) done.2.all_work;
+        });
         appends = all.0;
       },
       all.1,
@@ -61,16 +63,13 @@ cut_short written faults plant script replayer sink now first last stands small 
     let shorter = part.appends.shorter in (
       record {
         output = done.0 ++ later.0;
-        replay = record {
-          replay = record {
-            works = spelled.0;
-            spelled = spelled.1;
-            last = later.1;
-            all_work = subst (λ (works : List Work). AllWork plant works (begun plant) (done.0 ++ later.0) later.1) (sym done.2.works_are)
-                (AllWork-append plant done.2.done done.2.left (begun plant) done.2.next later.1 done.0 later.0 done.2.all_work later.2);
-          };
-          ties = no_two_sources plant script (done.0 ++ later.0) stands.valid.is_plant;
-        };
+        replay = tied plant script (done.0 ++ later.0) stands.valid.is_plant (record {
+          works = spelled.0;
+          spelled = spelled.1;
+          last = later.1;
+          all_work = subst (λ (works : List Work). AllWork plant works (begun plant) (done.0 ++ later.0) later.1) (sym done.2.works_are)
+              (AllWork-append plant done.2.done done.2.left (begun plant) done.2.next later.1 done.0 later.0 done.2.all_work later.2);
+        });
         appends = record {
           count = part.appends.count;
           shorter = omega (arith, shorter, length-append done.0 later.0);

@@ -9,7 +9,9 @@ use Rattle.plant_core.specs.Step.{step}
 use Rattle.plant_core.proofs.Validity.{IsValid-start}
 use Rattle.panel_session.specs.Entry.{PlantEntry}
 use Rattle.record_replay.specs.Laws.{history_of}
-use Rattle.record_replay.specs.TiedReplay.{KeepsTiesValid, NoTieCarriesTwoSources}
+use Rattle.record_replay.specs.Replay.{IsReplay}
+use Rattle.record_replay.specs.TiedReplay.{KeepsTiesValid, NoTieCarriesTwoSources, IsTiedReplay}
+use Rattle.record_replay.proofs.ActionsLemmas.{history_exists}
 use Rattle.record_replay.proofs.WorksLemmas.{run-plant, run-valid}
 
 -- What is asked leaves valid ties, of the same plant.
@@ -20,3 +22,9 @@ keeps_ties_valid plant history is = λ front later same.
 
 pub no_two_sources : (plant : PlantData) (script output : List ℕ) → IsPlant plant → NoTieCarriesTwoSources plant script output
 no_two_sources plant script output is = λ actions history. keeps_ties_valid plant (history_of actions) is
+
+-- A replay text of a plant shows its history.
+pub tied : (plant : PlantData) (script output : List ℕ) → IsPlant plant → IsReplay plant script output → IsTiedReplay plant script output
+tied plant script output is replay =
+    let made = history_exists plant script output replay in
+    record { actions = made.0; history = made.1; ties = keeps_ties_valid plant (history_of made.0) is }

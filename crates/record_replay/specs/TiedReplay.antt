@@ -1,4 +1,4 @@
--- What a replay is: its text, and the ties behind it.
+-- What a replay is: its text, the history that it shows, and the ties behind it.
 use Rattle.std.specs.Prelude.{◌≡◌, ℕ, List, ◌++◌, Option}
 use Rattle.ctl_io.specs.Sink.{appended, AppendsPart}
 use Rattle.history_lock.specs.History.{run}
@@ -7,7 +7,6 @@ use Rattle.crosspoint_state.specs.Ties.{HaveValidTies}
 use Rattle.plant_core.specs.State.{start}
 use Rattle.plant_core.specs.Step.{step}
 use Rattle.panel_session.specs.Entry.{PlantEntry}
-use Rattle.record_replay.specs.Replay.{IsReplay}
 use Rattle.record_replay.specs.Laws.{Action, history_of, IsHistory}
 
 -- Behind each front of a history, begun at the start of the plant, the ties of the crosspoints are valid: no tie carries two
@@ -21,10 +20,12 @@ abbrev pub NoTieCarriesTwoSources : PlantData → (script output : List ℕ) →
 NoTieCarriesTwoSources plant script output = (actions : List Action)
     → IsHistory plant script output actions → KeepsTiesValid plant (history_of actions)
 
--- The script has this replay text on this plant, and no tie carries two sources at any place of the history behind it.
+-- The script has this replay text on this plant: it shows a history in which the script is worked, and at no place of that
+-- history does a tie carry two sources.
 pub record IsTiedReplay (plant : PlantData) (script output : List ℕ) : Type 0 where
-  pub replay : IsReplay plant script output
-  pub ties : NoTieCarriesTwoSources plant script output
+  pub actions : List Action
+  pub history : IsHistory plant script output actions
+  pub ties : KeepsTiesValid plant (history_of actions)
 
 -- A sink was given the script's replay text.
 pub record HasReplayed (plant : PlantData) (script : List ℕ)
