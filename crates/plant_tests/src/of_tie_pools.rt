@@ -3,6 +3,7 @@
 ghost use Rattle.std.specs.Prelude.{◌≡◌, ◌<◌};
 ghost use Rattle.plant_config.specs.Plant.{destinations_of};
 ghost use Rattle.crosspoint_state.specs.Crosspoints.{NamesOnce};
+ghost use Rattle.crosspoint_state.specs.Taps.{ArePointsOf};
 ghost use Rattle.crosspoint_state.specs.Ties.{HaveValidTies};
 ghost use Rattle.crosspoint_state.specs.Laws.{AreInside};
 ghost use Rattle.tie_pools.specs.Counts.{AreCountsOf};
@@ -48,10 +49,10 @@ fn take_all(
 ) -> Result<(), Exhausted>
     requires dests { AreInside plant.now changes.now }
     requires once { NamesOnce changes.now }
-    requires room { points.old.room ≡ destinations_of plant.now }
+    requires kept { ArePointsOf plant.now points.old }
     requires counts { AreCountsOf plant.now points.old.entries ties.old }
     requires valid { HaveValidTies plant.now points.old.entries }
-    ensures room { points.new.room ≡ points.old.room }
+    ensures kept { ArePointsOf plant.now points.new }
     ensures counts { AreCountsOf plant.now points.new.entries ties.new }
     ensures valid { HaveValidTies plant.now points.new.entries }
 {
@@ -63,7 +64,7 @@ fn take_all(
 // Both destinations carry the camera, neither goes over to the replay alone, and both do at once.
 fn both_go_over(rt: &impl Abort, plant: &Plant, ties: &mut Ties, points: &mut Crosspoints)
     requires dests { 2 < destinations_of plant.now }
-    requires room { points.old.room ≡ destinations_of plant.now }
+    requires kept { ArePointsOf plant.now points.old }
     requires counts { AreCountsOf plant.now points.old.entries ties.old }
     requires valid { HaveValidTies plant.now points.old.entries }
 {
@@ -88,7 +89,7 @@ fn both_go_over(rt: &impl Abort, plant: &Plant, ties: &mut Ties, points: &mut Cr
 #[test]
 fn a_tie_goes_to_another_origin_with_all_its_destinations(rt: HostRuntime) -> Result<(), Fail> {
     let plant = Plant::from_toml(rt.alloc(), PLANT)?;
-    let mut points = Crosspoints::new(rt.alloc(), plant.destination_count())?;
+    let mut points = Crosspoints::new(rt.alloc(), &plant)?;
     let mut ties = Ties::new(rt.alloc(), &plant)?;
     ties_stay_valid();
     assert!(rt; 2 < plant.destination_count());

@@ -1,31 +1,35 @@
 //! `crosspoint_state` in use.
 
 use crosspoint_state::{Crosspoints, Spot};
-use plant_config::{Change, DestId, SourceId, TieNo};
+use plant_config::{Change, DestId, Plant, SourceId, TieNo};
 use std::test::Fail;
 
 #[test]
 fn a_destination_carries_what_it_was_given(rt: HostRuntime) -> Result<(), Fail> {
-    let mut crosspoints = Crosspoints::new(rt.alloc(), 8)?;
+    let plant = Plant::bench(rt.alloc())?;
+    assert!(rt; 7 < plant.destination_count());
+    let mut crosspoints = Crosspoints::new(rt.alloc(), &plant)?;
     let (fourth, seventh) = (DestId::of(4), DestId::of(7));
-    let camera = SourceId::of(40);
+    let camera = SourceId::of(20);
     assert_eq!(rt; crosspoints.source_at(fourth), None);
 
     let spot = Some(Spot {
         source: camera,
         tie: Some(TieNo::of(2)),
     });
-    crosspoints.set(fourth, spot);
-    crosspoints.set(seventh, spot);
+    crosspoints.set(&plant, fourth, spot);
+    crosspoints.set(&plant, seventh, spot);
     let again = Change {
         dest: fourth,
         source: Some(camera),
     };
     assert!(rt; crosspoints.is_idle(&again));
 
-    crosspoints.set(fourth, None);
+    crosspoints.set(&plant, fourth, None);
     assert_eq!(rt; crosspoints.at(fourth), None);
     assert_eq!(rt; crosspoints.at(seventh), spot);
     assert_eq!(rt; crosspoints.source_at(seventh), Some(camera));
+    assert_eq!(rt; crosspoints.taps().head_of(4), None);
+    assert_eq!(rt; crosspoints.taps().head_of(7), Some(20));
     Ok(())
 }

@@ -2,6 +2,7 @@
 
 ghost use Rattle.std.specs.Prelude.{◌≡◌, ◌<◌};
 ghost use Rattle.plant_config.specs.Plant.{destinations_of};
+ghost use Rattle.crosspoint_state.specs.Taps.{ArePointsOf};
 ghost use Rattle.crosspoint_state.specs.Ties.{HaveValidTies};
 ghost use Rattle.tie_pools.specs.Counts.{AreCountsOf};
 
@@ -36,10 +37,10 @@ fn take(
     source: Option<SourceId>,
 ) -> Result<(), Exhausted>
     requires dest { dest < destinations_of plant.now }
-    requires room { points.old.room ≡ destinations_of plant.now }
+    requires kept { ArePointsOf plant.now points.old }
     requires counts { AreCountsOf plant.now points.old.entries ties.old }
     requires valid { HaveValidTies plant.now points.old.entries }
-    ensures room { points.new.room ≡ points.old.room }
+    ensures kept { ArePointsOf plant.now points.new }
     ensures counts { AreCountsOf plant.now points.new.entries ties.new }
     ensures valid { HaveValidTies plant.now points.new.entries }
 {
@@ -52,7 +53,7 @@ fn take(
 // Two sources share the tie, of which a third one gets it only when both are parked.
 fn share_a_tie(rt: &impl Abort, plant: &Plant, ties: &mut Ties, points: &mut Crosspoints)
     requires dests { 2 < destinations_of plant.now }
-    requires room { points.old.room ≡ destinations_of plant.now }
+    requires kept { ArePointsOf plant.now points.old }
     requires counts { AreCountsOf plant.now points.old.entries ties.old }
     requires valid { HaveValidTies plant.now points.old.entries }
 {
@@ -86,7 +87,7 @@ fn share_a_tie(rt: &impl Abort, plant: &Plant, ties: &mut Ties, points: &mut Cro
 #[test]
 fn one_origin_comes_by_one_tie(rt: HostRuntime) -> Result<(), Fail> {
     let plant = Plant::from_toml(rt.alloc(), PLANT)?;
-    let mut points = Crosspoints::new(rt.alloc(), plant.destination_count())?;
+    let mut points = Crosspoints::new(rt.alloc(), &plant)?;
     let mut ties = Ties::new(rt.alloc(), &plant)?;
     // The ties are valid where nothing is carried.
     ties_stay_valid();
