@@ -8,6 +8,7 @@ use Rattle.dle_framing.specs.declared.framer.Framer.{Framer}
 use Rattle.dle_framing.specs.declared.item.Item.{Item}
 use Rattle.dle_framing.specs.Items.{Reading, items}
 use Rattle.dle_framing.proofs.Readings.{reading-by_start}
+use Rattle.panel_session.specs.Entry.{PlantEntry}
 use Rattle.panel_session.specs.OutgoingInside.{emptied}
 use Rattle.panel_session.specs.Turns.{bytes_of, IsTurn}
 use Rattle.dle_framing.proofs.FeedLemmas.{take-add}
@@ -22,18 +23,22 @@ use Rattle.panel_session.specs.declared.session.phase.Phase.TheVariants.{Read, P
 use Rattle.panel_session.specs.Asked.{Asks}
 use Rattle.panel_session.specs.AskedInside.{FoundAsks, MayAsk}
 use Rattle.panel_session.specs.Counted.{goods_of, bads_of}
-use Rattle.panel_session.specs.SoFar.{Progress, read_so_far, with_bytes, with_sent, with_entry, with_turn, nothing_yet, IsOver, IsSoFar}
+use Rattle.panel_session.specs.SoFar.{Progress, read_so_far, entries_so_far, with_bytes, with_sent, with_entry, with_turn, nothing_yet, IsOver, IsSoFar, SendsFront}
 use Rattle.panel_session.specs.TakenInside.{taken_phase, sent_by}
 use Rattle.panel_session.specs.Text.{frames_of, with_frames, nothing_sent}
 use Rattle.panel_session.specs.StandsInside.{Kept, Keeps, IsAtStage}
 use Rattle.panel_session.specs.Session.{Stands, kept_of}
-use Rattle.panel_session.specs.ReadingInside.{IsReading, HasRead}
+use Rattle.panel_session.specs.ReadingInside.{IsReading, HasTaken}
 use Rattle.plant_core.specs.Answer.{room_of}
 use Rattle.panel_session.specs.MovesInside.{next, took, took_answers, ended_turn}
 use Rattle.panel_session.proofs.KeptTurnLemmas.{keeps_so_far, keeps_polled_more, keeps_turn, keeps_nothing, keeps_text, turn_over, bytes_of-append}
 use Rattle.panel_session.proofs.KeptItemLemmas.{reading, read-more}
-use Rattle.panel_session.proofs.KeepsLemmas.{keeps_polled_last}
-use Rattle.panel_session.proofs.StandsLemmas.{next-small, fewer_items, phase-is, kept_same, at_phase, stands_item, stands_none, stands_with}
+use Rattle.panel_session.proofs.KeepsLemmas.{entries-polled, keeps_polled_last}
+use Rattle.panel_session.proofs.StandsLemmas.{next-small, answers_one, fewer_items, phase-is, kept_same, kept_whole, at_phase, stands_item, stands_none, stands_with}
+
+-- a poll of a session, with its answers
+abbrev polled_entry : ℕ → Session → List Answer → PlantEntry
+polled_entry seat session answers = record { seat = seat; request = Poll session.panel session.items session.counts.turns; answers = answers }
 
 -- The plant answered the last poll of a turn.
 pub stands_polled_last : (plant : PlantData) (panel seat : ℕ) (session : Session) (past : Progress) (polls : ℕ) (answers : List Answer) (unsent : Bool) → Stands plant panel session past
@@ -58,7 +63,7 @@ stands_polled_last plant panel seat session past polls answers unsent stands pol
     let full : (answers ≡ []) ⊎ (session.polls + 1 ≡ 32) = elim last [ (inl none) ↦ inl none | (inr full) ↦ inr (sym is ∙ full) ] in
     stands_with plant panel session (took_answers answers unsent (record session { phase = End; polls = polls })) past later stands refl refl refl refl refl refl refl refl
     (subst KeepsAt (sym is) (keeps_polled_last plant session.panel session.items session.counts.turns session.polls seat session.sender.output past answers unsent k empty full))
-    some
+    (λ unsent. (some unsent, answers_one plant later (entries_so_far past) (polled_entry seat session answers) session.sender.output (entries-polled past.turns past.now.told past.now.polls (polled_entry seat session answers))))
 
 -- It answered another.
 pub stands_polled_more : (plant : PlantData) (panel seat : ℕ) (session : Session) (past : Progress) (polls : ℕ) (answers : List Answer) (unsent : Bool) → Stands plant panel session past
@@ -82,7 +87,7 @@ stands_polled_more plant panel seat session past polls answers unsent stands pol
     }) later in
     stands_with plant panel session (took_answers answers unsent (record session { phase = PollStage; polls = polls })) past later stands refl refl refl refl refl refl refl refl
     (subst KeepsAt (sym is) (keeps_polled_more plant session.panel session.items session.counts.turns session.polls seat session.sender.output past answers unsent k empty one (λ full. below (is ∙ full))))
-    some
+    (λ unsent. (some unsent, answers_one plant later (entries_so_far past) (polled_entry seat session answers) session.sender.output (entries-polled past.turns past.now.told past.now.polls (polled_entry seat session answers))))
 
 -- a session that polls has polled fewer than 32 times in the turn
 pub polls_below : (plant : PlantData) (panel : ℕ) (session : Session) (past : Progress) → Stands plant panel session past → session.phase ≡ PollStage → session.polls < 32
@@ -110,9 +115,10 @@ stands_turn plant panel session past stands over none small =
       },
       stands_with plant panel session (ended_turn session) past (with_turn past) stands read refl refl refl refl refl refl refl
           (subst KeepsThen
-          (sym (kept_same session.panel 0 session.sender.output Read Read session.items session.items (next session.counts.turns) (session.counts.turns + 1) session.unsent false refl refl one_more none))
+          (sym (kept_whole (ended_turn session) none
+          ∙ kept_same session.panel 0 session.sender.output Read Read session.items session.items (next session.counts.turns) (session.counts.turns + 1) session.unsent false refl refl one_more none))
           (keeps_turn plant session.panel session.items session.counts.turns session.polls session.sender.output past k))
-          stands.some,
+          (λ unsent. absurd (false≢true (sym none ∙ unsent))),
     )
 
 -- A session to which nothing happened.
@@ -132,6 +138,7 @@ stands_new plant panel session plant_is names_are panel_is has_panel fed kept un
       goods = goods ∙ ap goods_of (sym none);
       bads = bads ∙ ap bads_of (sym none);
       some = λ is. absurd (false≢true (sym unsent ∙ is));
+      one = λ is. absurd (false≢true (sym unsent ∙ is));
       places = places;
     }
 
@@ -139,6 +146,12 @@ pub stands_so_far_lem : (plant : PlantData) (panel : ℕ) (session : Session) (p
 stands_so_far_lem plant panel session past stands =
     let P : ℕ → Type 0 = λ panel. IsSoFar plant panel past in
     subst P stands.panel_is (keeps_so_far plant (kept_of session) past stands.keeps)
+
+-- A session that stands for a past has sent a front of its text.
+pub stands_front : (plant : PlantData) (panel : ℕ) (session : Session) (past : Progress) → Stands plant panel session past → SendsFront plant past
+stands_front plant panel session past stands =
+    let so_far = stands_so_far_lem plant panel session past stands in
+    record { text = so_far.text; is_text = so_far.is_text; sent = so_far.sent }
 
 -- No bytes more change nothing.
 pub no_bytes : (past : Progress) → with_bytes [] past ≡ past
@@ -186,12 +199,12 @@ no_poll_phase (Named message) is = cc
 no_poll_phase (Sent message) is = cc
 
 -- An item was taken, and something is to be sent or not.
-pub has_read_item : (plant : PlantData) (panel : ℕ) (session after : Session) (past : Progress) (piece : List ℕ) (used : ℕ) (a : Asked) (framer_then : Framer) (send : Bool) → IsReading plant panel session past
+pub has_taken_item : (plant : PlantData) (panel : ℕ) (session after : Session) (past : Progress) (piece : List ℕ) (used : ℕ) (a : Asked) (framer_then : Framer) (send : Bool) → IsReading plant panel session past
     → length (items (read_so_far past ++ piece)) < 2 ^ 62 → FoundAsks (read_so_far past) piece used (Some a) → framer.StandsFor framer_then (read_so_far past ++ take used piece)
     → after ≡ took plant a (record session { framer = framer_then }) → (send ≡ true → sent_by plant a session.sender.output ≢ []) → (send ≡ true → after.sender.output.bytes ≡ sent_by plant a session.sender.output)
     → (send ≡ false → sent_by plant a session.sender.output ≡ []) → (send ≡ false → after.phase ≡ session.phase)
-    → HasRead plant panel (with_bytes (take used piece) past) send after
-has_read_item plant panel session after past piece used a framer_then send reading small found fed is some sent none quiet =
+    → HasTaken plant panel (with_bytes (take used piece) past) send after
+has_taken_item plant panel session after past piece used a framer_then send reading small found fed is some sent none quiet =
     let now = with_bytes (take used piece) past in
     let one = the_item found.item a found.asks in
     let adds : items (read_so_far past ++ take used piece) ≡ items (read_so_far past) ++ one.0 ∷ [] =
@@ -204,7 +217,7 @@ has_read_item plant panel session after past piece used a framer_then send readi
     let quiet_then : after.unsent ≡ false = ap (λ (session : Session). session.unsent) is ∙ reading.none_unsent in
     let staged : after.phase ≡ taken_phase a = ap (λ (session : Session). session.phase) is ∙ phase-is a session.phase reading.phase in
     (elim send as (λ send. (send ≡ true → sent_by plant a session.sender.output ≢ []) → (send ≡ true → after.sender.output.bytes ≡ sent_by plant a session.sender.output)
-    → (send ≡ false → sent_by plant a session.sender.output ≡ []) → (send ≡ false → after.phase ≡ session.phase) → HasRead plant panel now send after) [
+    → (send ≡ false → sent_by plant a session.sender.output ≡ []) → (send ≡ false → after.phase ≡ session.phase) → HasTaken plant panel now send after) [
       | true ↦ λ some sent none quiet. (
         subst SentAt (sym (sent refl)) stands,
         empty,

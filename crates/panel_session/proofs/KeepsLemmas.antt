@@ -54,19 +54,73 @@ keeps_sent plant kept past is k =
       output = k.output ∙ ap (behind past.sent) all ∙ sent-behind past.sent kept.output;
     }
 
+-- Where nothing is to be sent, it is the same whatever bytes were.
+pub keeps_bytes : (plant : PlantData) (kept : Kept) (past : Progress) (bytes : List ℕ) → kept.unsent ≡ false → Keeps plant kept past
+    → Keeps plant (record kept { output = record kept.output { bytes = bytes } }) past
+keeps_bytes plant kept past bytes none k =
+    let now : Output = record kept.output { bytes = bytes } in
+    let was : pending kept ≡ emptied kept.output = ap (λ (test : Bool). if test then kept.output else emptied kept.output) none in
+    let is : pending (record kept { output = now }) ≡ emptied kept.output = ap (λ (test : Bool). if test then now else emptied now) none in
+    record {
+      turns = k.turns;
+      before = k.before;
+      ask_before = k.ask_before;
+      ended = k.ended;
+      end_in = k.end_in;
+      asked = k.asked;
+      ask = k.ask;
+      items_are = k.items_are;
+      turns_are = k.turns_are;
+      polls_are = k.polls_are;
+      within = k.within;
+      polls = k.polls;
+      phase = k.phase;
+      none_from = k.none_from;
+      output = k.output ∙ ap (behind past.sent) (was ∙ sym is);
+    }
+
+-- The phase says the same whatever was sent.
+phase-unsent : (phase : Phase) (panel first : ℕ) (before asked : List Asked) (past : Progress) (sent other : List ℕ) → IsAtStage phase panel first before asked (with_sent sent past)
+    → IsAtStage phase panel first before asked (with_sent other past)
+phase-unsent Read panel first before asked past sent other at = at
+phase-unsent (Tell message) panel first before asked past sent other at = at
+phase-unsent PollStage panel first before asked past sent other at = at
+phase-unsent End panel first before asked past sent other at = at
+
+-- Bytes that were sent are yet to be.
+pub keeps_unsent : (plant : PlantData) (kept : Kept) (past : Progress) (front rest : List ℕ) → Keeps plant (record kept { unsent = false }) (with_sent (front ++ rest) past)
+    → Keeps plant (record kept { output = record kept.output { bytes = rest }; unsent = true }) (with_sent front past)
+keeps_unsent plant kept past front rest k = record {
+  turns = k.turns;
+  before = k.before;
+  ask_before = k.ask_before;
+  ended = k.ended;
+  end_in = k.end_in;
+  asked = k.asked;
+  ask = k.ask;
+  items_are = k.items_are;
+  turns_are = k.turns_are;
+  polls_are = k.polls_are;
+  within = k.within;
+  polls = k.polls;
+  phase = phase-unsent kept.phase kept.panel (length (items (bytes_of past.turns))) k.before k.asked past (front ++ rest) front k.phase;
+  none_from = k.none_from;
+  output = k.output ∙ ap (λ (bytes : List ℕ). record kept.output { bytes = bytes }) (append-nil (past.sent ++ (front ++ rest)) ∙ sym (append_assoc past.sent front rest));
+}
+
 -- all of it is pending where some is, and nothing where none is
 pending_all : (unsent : Bool) (output : Output) → (unsent ≡ false → output.bytes ≡ []) → output ≡ (if unsent then output else emptied output)
 pending_all true output none = refl
 pending_all false output none = ap (λ (bytes : List ℕ). record output { bytes = bytes }) (none refl)
 
-entries-told : (turns : List Turn) (told polls : List PlantEntry) (entry : PlantEntry) → polls ≡ [] → entries_of_turns turns ++ ((told ++ entry ∷ []) ++ polls) ≡ (entries_of_turns turns ++ (told ++ polls)) ++ entry ∷ []
+pub entries-told : (turns : List Turn) (told polls : List PlantEntry) (entry : PlantEntry) → polls ≡ [] → entries_of_turns turns ++ ((told ++ entry ∷ []) ++ polls) ≡ (entries_of_turns turns ++ (told ++ polls)) ++ entry ∷ []
 entries-told turns told polls entry none =
     let P : List PlantEntry → Type 0 = λ polls. entries_of_turns turns ++ ((told ++ entry ∷ []) ++ polls) ≡ (entries_of_turns turns ++ (told ++ polls)) ++ entry ∷ [] in
     subst P (sym none)
     (ap (λ (now : List PlantEntry). entries_of_turns turns ++ now) (append-nil (told ++ entry ∷ []) ∙ ap (λ (told : List PlantEntry). told ++ entry ∷ []) (sym (append-nil told)))
     ∙ sym (append_assoc (entries_of_turns turns) (told ++ []) (entry ∷ [])))
 
-entries-polled : (turns : List Turn) (told polls : List PlantEntry) (entry : PlantEntry) → entries_of_turns turns ++ (told ++ (polls ++ entry ∷ [])) ≡ (entries_of_turns turns ++ (told ++ polls)) ++ entry ∷ []
+pub entries-polled : (turns : List Turn) (told polls : List PlantEntry) (entry : PlantEntry) → entries_of_turns turns ++ (told ++ (polls ++ entry ∷ [])) ≡ (entries_of_turns turns ++ (told ++ polls)) ++ entry ∷ []
 entries-polled turns told polls entry =
     ap (λ (now : List PlantEntry). entries_of_turns turns ++ now) (sym (append_assoc told polls (entry ∷ [])))
     ∙ sym (append_assoc (entries_of_turns turns) (told ++ polls) (entry ∷ []))

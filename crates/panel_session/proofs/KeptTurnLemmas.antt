@@ -69,7 +69,7 @@ are_turns-append panel turns turn are is before after other split =
 pub bytes_of-append : (turns : List Turn) (turn : Turn) → bytes_of (turns ++ turn ∷ []) ≡ bytes_of turns ++ turn.piece
 bytes_of-append turns turn = flat_map-append (λ (turn : Turn). turn.piece) turns (turn ∷ []) ∙ ap (λ (piece : List ℕ). bytes_of turns ++ piece) (append-nil turn.piece)
 
-entries_of-append : (turns : List Turn) (turn : Turn) → entries_of_turns (turns ++ turn ∷ []) ≡ entries_of_turns turns ++ (turn.told ++ turn.polls)
+pub entries_of-append : (turns : List Turn) (turn : Turn) → entries_of_turns (turns ++ turn ∷ []) ≡ entries_of_turns turns ++ (turn.told ++ turn.polls)
 entries_of-append turns turn =
     flat_map-append (λ (turn : Turn). turn.told ++ turn.polls) turns (turn ∷ []) ∙ ap (λ (now : List PlantEntry). entries_of_turns turns ++ now) (append-nil (turn.told ++ turn.polls))
 
@@ -150,7 +150,7 @@ keeps_text plant kept past is k =
     }
 
 -- What was told of a turn so far is a front of what its items send, and all of it where polls were made.
-told_front : (phase : Phase) (panel first : ℕ) (before asked : List Asked) (past : Progress) → IsAtStage phase panel first before asked past → IsPrefix (requests past.now.told) (sent_to_plant panel first asked)
+pub told_front : (phase : Phase) (panel first : ℕ) (before asked : List Asked) (past : Progress) → IsAtStage phase panel first before asked past → IsPrefix (requests past.now.told) (sent_to_plant panel first asked)
 told_front Read panel first before asked past at = ([], append-nil _ ∙ at.0)
 told_front (Tell message) panel first before asked past at = (
   sent_to_plant panel (first + length at.0) (Sent message ∷ []),
@@ -161,7 +161,7 @@ told_front (Tell message) panel first before asked past at = (
 told_front PollStage panel first before asked past at = ([], append-nil _ ∙ at.0)
 told_front End panel first before asked past at = ([], append-nil _ ∙ at.0)
 
-told_all : (phase : Phase) (panel first : ℕ) (before asked : List Asked) (past : Progress) → IsAtStage phase panel first before asked past → past.now.polls ≢ [] → requests past.now.told ≡ sent_to_plant panel first asked
+pub told_all : (phase : Phase) (panel first : ℕ) (before asked : List Asked) (past : Progress) → IsAtStage phase panel first before asked past → past.now.polls ≢ [] → requests past.now.told ≡ sent_to_plant panel first asked
 told_all Read panel first before asked past at some = at.0
 told_all (Tell message) panel first before asked past at some = absurd (some at.3)
 told_all PollStage panel first before asked past at some = at.0

@@ -18,7 +18,7 @@ use Rattle.panel_session.specs.Session.{Awaits, with_outbox}
 use Rattle.panel_session.specs.SoFar.{Progress}
 use Rattle.panel_session.proofs.ActsLemmas.{polls_below}
 
-unsent-most : (unsent : Bool) → unsent_left unsent ≤ 1
+pub unsent-most : (unsent : Bool) → unsent_left unsent ≤ 1
 unsent-most true = omega arith
 unsent-most false = omega arith
 

@@ -6,6 +6,8 @@ pub mod KeptTurnLemmas
 pub mod StandsLemmas
 pub mod ActsLemmas
 pub mod ReadLemmas
+pub mod ApartLemmas
+pub mod HandedLemmas
 pub mod SessionLemmas
 pub mod FrameRoom
 pub mod FrameLemmas
@@ -17,6 +19,8 @@ pub mod RunLemmas
 pub mod TurnOnce
 pub mod ByteEnds
 pub mod AsksExist
+pub mod TextFronts
+pub mod FitsOnLemmas
 pub mod TurnExists
 pub mod TurnsFit
 pub mod TurnsOnce

@@ -12,23 +12,23 @@ use Rattle.panel_session.specs.declared.session.Session.{Session}
 use Rattle.panel_session.specs.declared.session.phase.Phase.{Phase}
 use Rattle.panel_session.specs.AskedInside.{FoundAsks}
 use Rattle.panel_session.specs.MovesInside.{took, phase_with}
-use Rattle.panel_session.specs.ReadingInside.{HasReadOn}
+use Rattle.panel_session.specs.ReadingInside.{HasReadOn, HasTakenOn}
 use Rattle.panel_session.specs.SoFar.{read_so_far}
 use Rattle.panel_session.specs.TakenInside.{sent_by, IsSending}
-use Rattle.panel_session.proofs.ActsLemmas.{has_read_item, has_read_none}
+use Rattle.panel_session.proofs.ActsLemmas.{has_taken_item, has_read_none}
 
 -- An item was taken.
 pub has_taken : (session after : Session) (framer_then : Framer) (piece : List ℕ) (used : ℕ) (a : Asked) (send : Bool) → GoesOver (take used piece) session.framer framer_then
     → ((text : List ℕ) → framer.StandsFor session.framer text → FoundAsks text piece used (Some a))
     → after ≡ took session.sender.names a (record session { framer = framer_then }) → (send ≡ true → sent_by session.sender.names a session.sender.output ≢ [])
     → (send ≡ true → IsSending session.sender.names a session.sender.output after.sender.output) → (send ≡ false → sent_by session.sender.names a session.sender.output ≡ [])
-    → (send ≡ false → after.phase ≡ session.phase) → HasReadOn session piece used send after
+    → (send ≡ false → after.phase ≡ session.phase) → HasTakenOn session piece used send after
 has_taken session after framer_then piece used a send goes_over finds taken some sending none quiet = λ plant panel past reading small.
     let Took : PlantData → Type 0 = λ names. after ≡ took names a (record session { framer = framer_then }) in
     let Some : PlantData → Type 0 = λ names. send ≡ true → sent_by names a session.sender.output ≢ [] in
     let Sending : PlantData → Type 0 = λ names. send ≡ true → IsSending names a session.sender.output after.sender.output in
     let Quiet : PlantData → Type 0 = λ names. send ≡ false → sent_by names a session.sender.output ≡ [] in
-    has_read_item plant panel session after past piece used a framer_then send reading small (finds (read_so_far past) reading.stands.framer) (goes_over (read_so_far past) reading.stands.framer)
+    has_taken_item plant panel session after past piece used a framer_then send reading small (finds (read_so_far past) reading.stands.framer) (goes_over (read_so_far past) reading.stands.framer)
     (subst Took reading.stands.names_are taken) (subst Some reading.stands.names_are some) (subst Sending reading.stands.names_are sending) (subst Quiet reading.stands.names_are none) quiet
 
 -- No item ended.
@@ -44,7 +44,7 @@ told_by framer_then message session = took session.sender.names (Sent message) (
 
 pub has_told : (session : Session) (framer_then : Framer) (piece : List ℕ) (used : ℕ) (message : Message) → GoesOver (take used piece) session.framer framer_then
     → ((text : List ℕ) → framer.StandsFor session.framer text → FoundAsks text piece used (Some (Sent message)))
-    → HasReadOn session piece used true (told_by framer_then message session)
+    → HasTakenOn session piece used true (told_by framer_then message session)
 has_told session framer_then piece used message goes_over finds =
     has_taken session (told_by framer_then message session) framer_then piece used (Sent message) true goes_over finds refl (λ _ none. cc) (λ _. refl) (λ no. absurd (false≢true (sym no))) (λ no. absurd (false≢true (sym no)))
 

@@ -12,13 +12,13 @@ use Rattle.plant_core.specs.declared.answer.Answer.{Answer}
 use Rattle.plant_core.specs.declared.request.Request.{Request}
 use Rattle.plant_core.specs.declared.request.Request.TheVariants.{Told, Poll, Leave, DisplayPoll}
 use Rattle.panel_session.specs.declared.session.act.Act.{Act}
-use Rattle.panel_session.specs.declared.session.act.Act.TheVariants.{Send, Rest}
+use Rattle.panel_session.specs.declared.session.act.Act.TheVariants.{Rest}
 use Rattle.panel_session.specs.declared.session.Session.{Session}
 use Rattle.panel_session.specs.Acting.{Acts, ActsOn, IsInPlace, MayGoOn}
 use Rattle.panel_session.specs.Entry.{PlantEntry}
 use Rattle.panel_session.specs.Run.{MayTurn, HasRun}
 use Rattle.panel_session.specs.RunInside.{IsUnderWay}
-use Rattle.panel_session.specs.Session.{StandsFor, outgoing_of}
+use Rattle.panel_session.specs.Session.{StandsFor}
 use Rattle.panel_session.specs.SoFar.{Progress, unread, read_so_far, with_bytes, with_sent, with_entry}
 use Rattle.panel_session.specs.Turns.{Turn, bytes_of, entries_in, entries_of_turns, IsTurn}
 use Rattle.panel_session.specs.Text.{IsText}
@@ -103,20 +103,20 @@ module _ {State : Type 0} {step : State → Request → Stepped State Answer} {F
       ∙ ap (λ (bytes : List ℕ). now.now.piece ++ bytes) (take-append-drop used rest) ∙ way.piece_is
 
   -- bytes were sent
-  pub way_sent : {machine_now : State} {session_now after : Session} {now : Progress} {rest left more : List ℕ} (used : ℕ)
+  pub way_sent : {machine_now : State} {session_now after : Session} {now : Progress} {rest left more : List ℕ} (used : ℕ) (bytes : List ℕ)
       → IsUnderWay step Fits plant panel past piece machine machine_now session_now rest now more → left ≡ drop used rest
-      → Acts plant panel (with_bytes (take used rest) now) rest used Send after
+      → StandsFor plant panel after (with_sent bytes (with_bytes (take used rest) now))
       → IsUnderWay step Fits plant panel past piece machine machine_now after left
-      (with_sent (outgoing_of after) (with_bytes (take used rest) now)) (more ++ outgoing_of after)
-  way_sent {after = after} {now = now} {rest = rest} {more = more} used way is acts = record {
+      (with_sent bytes (with_bytes (take used rest) now)) (more ++ bytes)
+  way_sent {now = now} {rest = rest} {more = more} used bytes way is stands = record {
     turns = way.turns;
     piece_is = ap (λ (left : List ℕ). (now.now.piece ++ take used rest) ++ left) is ∙ used_more used way;
     idle = λ some. is ∙ drop-none used rest (way.idle some);
-    sent = ap (λ (bytes : List ℕ). bytes ++ outgoing_of after) way.sent ∙ append_assoc past.sent more (outgoing_of after);
+    sent = ap (λ (sent : List ℕ). sent ++ bytes) way.sent ∙ append_assoc past.sent more bytes;
     seats = way.seats;
     legal = way.legal;
     machine_is = way.machine_is;
-    stands = acts.1;
+    stands = stands;
   }
 
   -- A request was answered, with its entry behind the others, and bytes were sent.

@@ -19,10 +19,10 @@ use Rattle.panel_session.specs.Entry.{PlantEntry}
 use Rattle.panel_session.specs.MovesInside.{took_answers, answered_too}
 use Rattle.panel_session.specs.OutgoingInside.{emptied}
 use Rattle.panel_session.specs.PolledInside.{HasPolled}
-use Rattle.panel_session.specs.ReadingInside.{IsReading}
+use Rattle.panel_session.specs.ReadingInside.{IsReading, HasTaken}
 use Rattle.panel_session.specs.RoomsInside.{fitting}
 use Rattle.panel_session.specs.SenderKept.{sending}
-use Rattle.panel_session.specs.Session.{StandsFor, Awaits, AsksAt, kept_of, outgoing_of, with_outbox}
+use Rattle.panel_session.specs.Session.{StandsFor, Awaits, AsksAt, kept_of, made_by, with_outbox}
 use Rattle.panel_session.specs.SoFar.{Progress, unread, read_so_far, with_sent, with_entry}
 use Rattle.panel_session.specs.StandsInside.{Kept, Keeps, IsAtStage, behind}
 use Rattle.panel_session.specs.Text.{Output, frames_of, with_frames}
@@ -32,6 +32,7 @@ use Rattle.panel_session.proofs.KeptItemLemmas.{length-asked, length-before}
 use Rattle.panel_session.proofs.OutputLemmas.{frames-behind}
 use Rattle.panel_session.proofs.SessionLemmas.{answered_poll, answered_told, awaits_with, sends_unsent}
 use Rattle.panel_session.proofs.StandsLemmas.{at_phase, stands_with}
+use Rattle.panel_session.proofs.KeepsLemmas.{keeps_bytes}
 
 -- What is to be sent with frames behind it.
 pub behind_frames : (frames : List (List ℕ)) (output : Output) → with_frames frames output ≡ behind output.bytes (with_frames frames (emptied output))
@@ -39,39 +40,15 @@ behind_frames frames output =
     let P : List ℕ → Type 0 = λ bytes. with_frames frames (record output { bytes = bytes }) ≡ behind output.bytes (with_frames frames (emptied output)) in
     subst P (append-nil output.bytes) (frames-behind frames output.bytes (emptied output))
 
--- A session stands for the same past, whatever it has sent.
-pub stands_whatever : (plant : PlantData) (panel : ℕ) (session : Session) (past : Progress) (bytes : List ℕ) → StandsFor plant panel session past → session.unsent ≡ false
-    → StandsFor plant panel (record session { sender = sending (record session.sender.output { bytes = bytes }) session.sender }) past
+-- A session stands for the same past, whatever it has sent, and whether an ACK went by itself.
+pub stands_whatever : (plant : PlantData) (panel : ℕ) (session : Session) (past : Progress) (bytes : List ℕ) (parted : Bool) → StandsFor plant panel session past → session.unsent ≡ false
+    → StandsFor plant panel (record session { sender = sending (record session.sender.output { bytes = bytes }) session.sender; parted = parted }) past
 unfolding StandsFor
-stands_whatever plant panel session past bytes stands none =
-    let after = record session { sender = sending (record session.sender.output { bytes = bytes }) session.sender } in
+stands_whatever plant panel session past bytes parted stands none =
+    let after = record session { sender = sending (record session.sender.output { bytes = bytes }) session.sender; parted = parted } in
     let KeepsOf : Kept → Type 0 = λ kept. Keeps plant kept past in
     let k = subst KeepsOf (at_phase session session.phase refl none) stands.0.keeps in
-    let same : Keeps plant (record {
-      panel = session.panel;
-      phase = session.phase;
-      items = session.items;
-      turns = session.counts.turns;
-      polls = session.polls;
-      output = record session.sender.output { bytes = bytes };
-      unsent = false;
-    }) past = record {
-      turns = k.turns;
-      before = k.before;
-      ask_before = k.ask_before;
-      ended = k.ended;
-      end_in = k.end_in;
-      asked = k.asked;
-      ask = k.ask;
-      items_are = k.items_are;
-      turns_are = k.turns_are;
-      polls_are = k.polls_are;
-      within = k.within;
-      polls = k.polls;
-      phase = k.phase;
-      none_from = k.none_from;
-      output = k.output;
-    } in (
+    let same = keeps_bytes plant (record (kept_of session) { output = session.sender.output; unsent = false }) past bytes refl k in (
       stands_with plant panel session after past past stands.0 refl refl refl refl refl refl refl refl
           (subst KeepsOf (sym (at_phase after session.phase refl none)) same) (λ unsent. absurd (false≢true (sym none ∙ unsent))),
       stands.1,
@@ -90,7 +67,7 @@ once_sent plant panel session past answers (byte ∷ bytes) is stands =
     let after = took_answers answers true session in
     let acts = sends_unsent plant panel after past [] (stands true (λ _ none. cc) (λ no. absurd (false≢true (sym no)))) refl in
     let At : List ℕ → Type 0 = λ bytes. StandsFor plant panel (took_answers answers false session) (with_sent bytes past) in
-    let Now : Progress → Type 0 = λ now. StandsFor plant panel (took_answers answers false session) (with_sent (outgoing_of after) now) in
+    let Now : Progress → Type 0 = λ now. StandsFor plant panel (took_answers answers false session) (with_sent (made_by after) now) in
     subst At is (subst Now (no_bytes past) acts.1)
 
 -- The plant answered what an item sent to it, and the frames of the answers are sent.
@@ -116,6 +93,11 @@ polled_sent plant panel seat session past request phase polls answers awaits few
     let waits = awaits_with plant panel session past request box awaits refl in
     once_sent plant panel (record session { phase = phase; polls = polls }) (with_entry (record { seat = seat; request = request; answers = answers }) past) fit _ refl
     (λ unsent some none. answered_poll plant panel seat (with_outbox session box) (took_answers fit unsent (record session { phase = phase; polls = polls })) past request phase polls waits few poll counted polled refl some none)
+
+-- What was made for an item is sent.
+pub taken_stands : (plant : PlantData) (panel : ℕ) (session : Session) (now : Progress) → HasTaken plant panel now true session → StandsFor plant panel session (with_sent (made_by session) now)
+unfolding StandsFor
+taken_stands plant panel session now has = (has.0, has.1, λ poll. absurd (has.4 poll))
 
 -- A session that reads stands for its past.
 pub reading_stands : (plant : PlantData) (panel : ℕ) (session : Session) (past : Progress) → IsReading plant panel session past → StandsFor plant panel session past

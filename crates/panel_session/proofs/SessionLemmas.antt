@@ -21,7 +21,7 @@ use Rattle.panel_session.specs.Entry.{PlantEntry}
 use Rattle.panel_session.specs.SoFar.{Progress, read_so_far, with_bytes, with_sent, with_entry}
 use Rattle.panel_session.specs.Text.{frames_of, with_frames}
 use Rattle.panel_session.specs.StandsInside.{IsAtStage}
-use Rattle.panel_session.specs.Session.{Stands, StandsFor, Awaits, AsksAt, kept_of, with_outbox}
+use Rattle.panel_session.specs.Session.{Stands, StandsFor, Awaits, AsksAt, kept_of, later_of, outgoing_of, with_outbox}
 use Rattle.panel_session.specs.PolledInside.{HasPolled}
 use Rattle.panel_session.specs.ReadingInside.{IsReading, HasRead}
 use Rattle.panel_session.specs.Acting.{Acts, MayGoOn}
@@ -32,7 +32,7 @@ use Rattle.panel_session.specs.MovesInside.{took_answers, ended_turn}
 use Rattle.panel_session.proofs.KeptItemLemmas.{reading, length-asked}
 use Rattle.panel_session.proofs.KeptTurnLemmas.{keeps_text}
 use Rattle.panel_session.proofs.StandsLemmas.{fewer_items, stands_with, stands_to_poll, stands_sent, stands_told}
-use Rattle.panel_session.proofs.ActsLemmas.{stands_polled_last, stands_polled_more, polls_below, stands_turn, no_bytes}
+use Rattle.panel_session.proofs.ActsLemmas.{stands_polled_last, stands_polled_more, polls_below, stands_front, stands_turn, no_bytes}
 
 -- What was read is to be sent.
 pub sends : (plant : PlantData) (panel : ℕ) (session : Session) (now : Progress) (piece : List ℕ) (used : ℕ) (send : Bool) → send ≡ true → HasRead plant panel now send session → Acts plant panel now piece used Send session
@@ -40,9 +40,10 @@ unfolding StandsFor
 sends plant panel session now piece used send is read =
     let P : Bool → Type 0 = λ send. HasRead plant panel now send session in
     let has = subst P is read in (
-      has.3,
-      (has.0, has.1, λ poll. absurd (has.4 poll)),
-      keeps_text plant (kept_of session) (with_sent session.sender.output.bytes now) has.2 has.0.keeps,
+      has.2,
+      (has.0, has.1, λ poll. absurd (has.3 poll)),
+      stands_front plant panel session (with_sent (outgoing_of session) now) has.0,
+      has.4,
     )
 
 -- or the session reads on
@@ -59,7 +60,8 @@ sends_unsent plant panel session past piece stands unsent =
     subst P (sym (no_bytes past)) (
       stands.0.some unsent,
       (after, stands.1, stands.2),
-      keeps_text plant (kept_of (record session { unsent = false })) (with_sent session.sender.output.bytes past) refl after.keeps,
+      stands_front plant panel (record session { unsent = false }) (with_sent (later_of session) past) after,
+      stands.0.one unsent,
     )
 
 -- A session that stands for a past reads on, where it is at that phase.
@@ -219,7 +221,7 @@ pub awaits_with : (plant : PlantData) (panel : ℕ) (session : Session) (past : 
     → Awaits plant panel (with_outbox session box) past request
 unfolding Awaits
 awaits_with plant panel session past request box awaits same = (
-  stands_with plant panel session (with_outbox session box) past past awaits.0 refl refl refl refl refl refl same refl awaits.0.keeps awaits.0.some,
+  stands_with plant panel session (with_outbox session box) past past awaits.0 refl refl refl refl refl refl same refl awaits.0.keeps (λ unsent. (awaits.0.some unsent, awaits.0.one unsent)),
   awaits.1,
   awaits.2,
 )

@@ -1,5 +1,5 @@
 -- What a session stands for, item by item.
-use Rattle.std.proofs.Common.{◌≡◌, ◌≢◌, ℕ, ◌+◌, ◌-◌, ◌^◌, ◌<◌, ◌≤◌, true, false, Bool, List, [], ◌∷◌, ◌++◌, length, refl, sym, ap, ◌∙◌, subst, arith}
+use Rattle.std.proofs.Common.{◌≡◌, ◌≢◌, ℕ, ◌+◌, ◌-◌, ◌^◌, ◌<◌, ◌≤◌, true, false, Bool, List, [], ◌∷◌, ◌++◌, length, drop, refl, sym, ap, ◌∙◌, subst, arith, inr}
 use Rattle.std.proofs.Math.Nat.{mod-eq_of_lt}
 use Rattle.std.proofs.lemmas.Bool.{false≢true}
 use Rattle.std.proofs.lemmas.List.{length-append}
@@ -23,14 +23,17 @@ use Rattle.panel_session.specs.declared.session.phase.Phase.TheVariants.{Read, T
 use Rattle.panel_session.specs.Asked.{Asks}
 use Rattle.panel_session.specs.declared.session.counts.Counts.{Counts}
 use Rattle.panel_session.specs.Counted.{is_good_item, is_bad_item, goods_of, bads_of}
-use Rattle.panel_session.specs.SoFar.{Progress, read_so_far, with_bytes, with_sent, with_entry}
+use Rattle.panel_session.specs.SoFar.{Progress, read_so_far, entries_so_far, with_bytes, with_sent, with_entry}
 use Rattle.panel_session.specs.TakenInside.{taken_phase, taken_output, sent_by}
 use Rattle.panel_session.specs.Text.{Output, frames_of, with_frames}
 use Rattle.panel_session.specs.StandsInside.{Kept, Keeps}
-use Rattle.panel_session.specs.Session.{Stands, kept_of}
+use Rattle.panel_session.specs.Session.{Stands, kept_of, left_output, later_of, next_bytes}
 use Rattle.panel_session.specs.MovesInside.{next, counts_with, phase_with, took, took_answers}
 use Rattle.panel_session.proofs.KeptItemLemmas.{reading, read-more, keeps_item, keeps_none, keeps_to_poll}
-use Rattle.panel_session.proofs.KeepsLemmas.{keeps_sent, keeps_told}
+use Rattle.panel_session.specs.Entry.{PlantEntry}
+use Rattle.panel_session.specs.OneSend.{IsOneSend}
+use Rattle.panel_session.proofs.TraceLemmas.{frames-bytes}
+use Rattle.panel_session.proofs.KeepsLemmas.{entries-told, keeps_bytes, keeps_sent, keeps_told}
 
 -- one more of a number that is far from the end
 pub next-small : (n : ℕ) → n < 2 ^ 62 → next n ≡ n + 1
@@ -128,10 +131,22 @@ kept_same panel polls output phase phase_then count count_then turns turns_then 
     ∙ ap (λ (turns : ℕ). kept phase_then count_then turns unsent) same_turns
     ∙ ap (λ (unsent : Bool). kept phase_then count_then turns_then unsent) same_unsent
 
+-- where nothing is to be sent, what a session made stands there whole
+left_same : (parted unsent : Bool) (output : Output) → unsent ≡ false → left_output parted unsent output ≡ output
+left_same false unsent output none = refl
+left_same true true output none = absurd (false≢true (sym none))
+left_same true false output none = refl
+
+pub kept_whole : (session : Session) → session.unsent ≡ false
+    → kept_of session ≡ record { panel = session.panel; phase = session.phase; items = session.items; turns = session.counts.turns; polls = session.polls; output = session.sender.output; unsent = session.unsent }
+kept_whole session none =
+    ap (λ (output : Output). record { panel = session.panel; phase = session.phase; items = session.items; turns = session.counts.turns; polls = session.polls; output = output; unsent = session.unsent })
+    (left_same session.parted session.unsent session.sender.output none)
+
 -- a session at a phase, with nothing to be sent
 pub at_phase : (session : Session) (phase : Phase) → session.phase ≡ phase → session.unsent ≡ false
     → kept_of session ≡ record { panel = session.panel; phase = phase; items = session.items; turns = session.counts.turns; polls = session.polls; output = session.sender.output; unsent = false }
-at_phase session phase at none = kept_same session.panel session.polls session.sender.output session.phase phase session.items session.items session.counts.turns session.counts.turns session.unsent false at refl refl none
+at_phase session phase at none = kept_whole session none ∙ kept_same session.panel session.polls session.sender.output session.phase phase session.items session.items session.counts.turns session.counts.turns session.unsent false at refl refl none
 
 -- An item was read.
 pub stands_item : (plant : PlantData) (panel : ℕ) (session : Session) (past : Progress) (bytes : List ℕ) (item : Item (List ℕ)) (a : Asked) (framer_then : Framer) → Stands plant panel session past
@@ -157,13 +172,15 @@ stands_item plant panel session past bytes item a framer_then stands read none a
       has_panel = stands.has_panel;
       framer = subst FedOf (read-more past bytes) fed;
       keeps = subst KeepsThen
-          (sym (kept_same session.panel session.polls (taken_output plant a session.sender.output) (phase_with a session.phase) (taken_phase a) (next session.items) (session.items + 1)
+          (sym (kept_whole (took plant a (record session { framer = framer_then })) none
+          ∙ kept_same session.panel session.polls (taken_output plant a session.sender.output) (phase_with a session.phase) (taken_phase a) (next session.items) (session.items + 1)
           (counts_with a session.counts).turns session.counts.turns session.unsent false
           (phase-is a session.phase read) (next-small session.items (omega arith)) (turns-with a session.counts) none))
           (keeps_item plant a item session.panel session.items session.counts.turns session.polls session.sender.output past bytes k adds asks);
       goods = goods-with a item session.counts asks goods_small ∙ ap (λ (n : ℕ). n + goods_of (item ∷ [])) stands.goods ∙ sym (goods-more its item) ∙ ap goods_of (sym all);
       bads = bads-with a item session.counts asks bads_small ∙ ap (λ (n : ℕ). n + bads_of (item ∷ [])) stands.bads ∙ sym (bads-more its item) ∙ ap bads_of (sym all);
       some = λ unsent. absurd (false≢true (sym none ∙ unsent));
+      one = λ unsent. absurd (false≢true (sym none ∙ unsent));
       places = stands.places;
     }
 
@@ -188,13 +205,14 @@ stands_none plant panel session past bytes framer_then stands read none adds fed
       goods = stands.goods ∙ ap goods_of (sym all);
       bads = stands.bads ∙ ap bads_of (sym all);
       some = λ unsent. absurd (false≢true (sym none ∙ unsent));
+      one = λ unsent. absurd (false≢true (sym none ∙ unsent));
       places = stands.places;
     }
 
 -- Other parts of a session that keep the same past.
 pub stands_with : (plant : PlantData) (panel : ℕ) (session after : Session) (past later : Progress) → Stands plant panel session past → read_so_far later ≡ read_so_far past → after.plant ≡ session.plant → after.sender.names ≡ session.sender.names → after.framer ≡ session.framer
     → after.counts.goods ≡ session.counts.goods → after.counts.bads ≡ session.counts.bads → after.outbox.places ≡ session.outbox.places → after.panel ≡ session.panel
-    → Keeps plant (kept_of after) later → (after.unsent ≡ true → after.sender.output.bytes ≢ []) → Stands plant panel after later
+    → Keeps plant (kept_of after) later → (after.unsent ≡ true → (later_of after ≢ []) × IsOneSend plant later (later_of after)) → Stands plant panel after later
 stands_with plant panel session after past later stands read same_plant same_names same_framer same_goods same_bads same_places same_panel keeps some =
     let FedBy : Framer → Type 0 = λ one. framer.StandsFor one (read_so_far past) in
     let FedOf : List ℕ → Type 0 = λ text. framer.StandsFor after.framer text in
@@ -207,7 +225,8 @@ stands_with plant panel session after past later stands read same_plant same_nam
       keeps = keeps;
       goods = same_goods ∙ stands.goods ∙ ap (λ (text : List ℕ). goods_of (items text)) (sym read);
       bads = same_bads ∙ stands.bads ∙ ap (λ (text : List ℕ). bads_of (items text)) (sym read);
-      some = some;
+      some = λ unsent. (some unsent).0;
+      one = λ unsent. (some unsent).1;
       places = same_places ∙ stands.places;
     }
 
@@ -219,15 +238,34 @@ stands_to_poll plant panel session past stands read none =
     let k : Keeps plant (reading session.panel session.items session.counts.turns session.polls session.sender.output) past = subst KeepsOf (at_phase session Read read none) stands.keeps in
     stands_with plant panel session (record session { phase = PollStage }) past past stands refl refl refl refl refl refl refl refl
     (subst KeepsOf (sym (at_phase (record session { phase = PollStage }) PollStage refl none)) (keeps_to_poll plant session.panel session.items session.counts.turns session.polls session.sender.output past k))
-    stands.some
+    (λ unsent. absurd (false≢true (sym none ∙ unsent)))
+
+-- What was handed out of a session's bytes is sent.
+keeps_handed : (plant : PlantData) (kept : Kept) (output : Output) (parted unsent : Bool) (past : Progress) → unsent ≡ true
+    → Keeps plant (record kept { output = left_output parted unsent output; unsent = unsent }) past
+    → Keeps plant (record kept { output = output; unsent = false }) (with_sent (next_bytes parted false output.bytes) past)
+keeps_handed plant kept output parted false past is k = absurd (false≢true is)
+keeps_handed plant kept output false true past is k = keeps_sent plant (record kept { output = output; unsent = true }) past refl k
+keeps_handed plant kept output true true past is k =
+    let rest = drop 2 output.bytes in
+    let left : Output = record output { bytes = rest } in
+    keeps_bytes plant (record kept { output = left; unsent = false }) (with_sent rest past) output.bytes refl (keeps_sent plant (record kept { output = left; unsent = true }) past refl k)
 
 -- What was to be sent is sent.
 pub stands_sent : (plant : PlantData) (panel : ℕ) (session : Session) (past : Progress) → Stands plant panel session past → session.unsent ≡ true
-    → Stands plant panel (record session { unsent = false }) (with_sent session.sender.output.bytes past)
+    → Stands plant panel (record session { unsent = false }) (with_sent (later_of session) past)
 stands_sent plant panel session past stands unsent =
-    stands_with plant panel session (record session { unsent = false }) past (with_sent session.sender.output.bytes past) stands refl refl refl refl refl refl refl refl
-    (keeps_sent plant (kept_of session) past unsent stands.keeps)
+    let after = record session { unsent = false } in
+    let KeepsOf : Kept → Type 0 = λ kept. Keeps plant kept (with_sent (later_of session) past) in
+    stands_with plant panel session after past (with_sent (later_of session) past) stands refl refl refl refl refl refl refl refl
+    (subst KeepsOf (sym (kept_whole after refl)) (keeps_handed plant (kept_of session) session.sender.output session.parted session.unsent past unsent stands.keeps))
     (λ unsent. absurd (false≢true unsent))
+
+-- The frames of the answers to what was asked last are sent at once.
+pub answers_one : (plant : PlantData) (past : Progress) (before : List PlantEntry) (last : PlantEntry) (output : Output) → entries_so_far past ≡ before ++ last ∷ []
+    → IsOneSend plant past (with_frames (frames_of last.answers) (emptied output)).bytes
+answers_one plant past before last output is =
+    inr (inr (inr (inr (record { before = before; last = last; entries_are = is; bytes_are = frames-bytes (frames_of last.answers) (emptied output) }))))
 
 -- The plant answered what an item sent to it.
 pub stands_told : (plant : PlantData) (panel seat : ℕ) (session : Session) (past : Progress) (message : Message) (answers : List Answer) (unsent : Bool) → Stands plant panel session past
@@ -238,7 +276,8 @@ pub stands_told : (plant : PlantData) (panel seat : ℕ) (session : Session) (pa
 stands_told plant panel seat session past message answers unsent stands tell none empty some =
     let KeepsOf : Kept → Type 0 = λ kept. Keeps plant kept past in
     let k = subst KeepsOf (at_phase session (Tell message) tell none) stands.keeps in
+    let entry : PlantEntry = record { seat = seat; request = Told session.panel (session.items - 1) message; answers = answers } in
     stands_with plant panel session (took_answers answers unsent (record session { phase = Read })) past
-    (with_entry (record { seat = seat; request = Told session.panel (session.items - 1) message; answers = answers }) past) stands refl refl refl refl refl refl refl refl
+    (with_entry entry past) stands refl refl refl refl refl refl refl refl
     (keeps_told plant session.panel session.items session.counts.turns session.polls seat message session.sender.output past answers unsent k empty)
-    some
+    (λ unsent. (some unsent, answers_one plant (with_entry entry past) (entries_so_far past) entry session.sender.output (entries-told past.turns past.now.told past.now.polls entry k.phase.3)))

@@ -1,5 +1,6 @@
 -- What a session's past is where its turns are over.
-use Rattle.std.proofs.Common.{◌≡◌, ◌⊎◌, inl, inr, true, false, if◌then◌else◌, ℕ, List, [], ◌++◌, map, refl, sym, ap, subst}
+use Rattle.std.proofs.Common.{◌≡◌, ◌⊎◌, inl, inr, true, false, if◌then◌else◌, Bool, ℕ, List, [], ◌++◌, map, refl, sym, ap, subst}
+use Rattle.std.proofs.lemmas.Bool.{false≢true}
 use Rattle.std.proofs.lemmas.List.{append-nil}
 use Rattle.dle_framing.specs.declared.item.Item.{Item}
 use Rattle.dle_framing.specs.Items.{items}
@@ -8,7 +9,7 @@ use Rattle.panel_session.specs.declared.session.Session.{Session}
 use Rattle.panel_session.specs.Asked.{AllAsk}
 use Rattle.panel_session.specs.Entry.{PlantEntry}
 use Rattle.panel_session.specs.OutgoingInside.{emptied}
-use Rattle.panel_session.specs.Session.{Stands, outgoing_of, kept_of}
+use Rattle.panel_session.specs.Session.{Stands, kept_of, later_of, left_output, next_bytes}
 use Rattle.panel_session.specs.SoFar.{Progress, unread, read_so_far, entries_so_far}
 use Rattle.panel_session.specs.StandsInside.{Kept, Keeps, pending}
 use Rattle.panel_session.specs.Text.{Output, IsText}
@@ -40,12 +41,19 @@ text_over plant past text begins is =
     let TextIn : List PlantEntry → Type 0 = λ entries. IsText plant (items (bytes_of past.turns)) entries text in
     subst TextIn (append-nil (entries_of_turns past.turns)) (subst TextOf (append-nil (bytes_of past.turns)) (subst TextWith begins is))
 
--- The whole text of turns that are over was sent, or is once the outgoing bytes are.
+-- What wasn't handed out is what goes next.
+left_later : (parted unsent : Bool) (output : Output) → unsent ≡ true → (left_output parted unsent output).bytes ≡ next_bytes parted false output.bytes
+left_later parted false output is = absurd (false≢true is)
+left_later false true output is = refl
+left_later true true output is = refl
+
+-- The whole text of turns that are over was sent, or is once the bytes that go next are.
 pub turns_text_lem : (plant : PlantData) (panel : ℕ) (session : Session) (past : Progress) → Stands plant panel session past → past.now ≡ unread
-    → IsText plant (items (bytes_of past.turns)) (entries_of_turns past.turns) past.sent ⊎ IsText plant (items (bytes_of past.turns)) (entries_of_turns past.turns) (past.sent ++ outgoing_of session)
+    → IsText plant (items (bytes_of past.turns)) (entries_of_turns past.turns) past.sent ⊎ IsText plant (items (bytes_of past.turns)) (entries_of_turns past.turns) (past.sent ++ later_of session)
 turns_text_lem plant panel session past stands begins =
     let TextOf : List ℕ → Type 0 = λ text. IsText plant (items (bytes_of past.turns)) (entries_of_turns past.turns) text in
-    (elim (session.unsent) as (λ unsent. TextOf (past.sent ++ (if unsent then session.sender.output else emptied session.sender.output).bytes) → TextOf past.sent ⊎ TextOf (past.sent ++ outgoing_of session)) [
-      | true ↦ λ text. inr text
-      | false ↦ λ text. inl (subst TextOf (append-nil past.sent) text)
-    ]) (text_over plant past (past.sent ++ (pending (kept_of session)).bytes) begins (text_left plant (kept_of session) past stands.keeps))
+    let left = left_output session.parted session.unsent session.sender.output in
+    (elim (session.unsent) as (λ unsent. session.unsent ≡ unsent → TextOf (past.sent ++ (if unsent then left else emptied left).bytes) → TextOf past.sent ⊎ TextOf (past.sent ++ later_of session)) [
+      | true ↦ λ is text. inr (subst TextOf (ap (λ (bytes : List ℕ). past.sent ++ bytes) (left_later session.parted session.unsent session.sender.output is)) text)
+      | false ↦ λ is text. inl (subst TextOf (append-nil past.sent) text)
+    ]) refl (text_over plant past (past.sent ++ (pending (kept_of session)).bytes) begins (text_left plant (kept_of session) past stands.keeps))

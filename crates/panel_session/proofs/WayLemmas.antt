@@ -8,7 +8,7 @@ use Rattle.panel_session.specs.declared.session.Session.{Session}
 use Rattle.panel_session.specs.declared.session.phase.Phase.TheVariants.{Read}
 use Rattle.panel_session.specs.Run.{MayTurn}
 use Rattle.panel_session.specs.RunInside.{IsUnderWay}
-use Rattle.panel_session.specs.Session.{outgoing_of}
+use Rattle.panel_session.specs.Session.{later_of}
 use Rattle.panel_session.specs.SoFar.{Progress}
 use Rattle.panel_session.specs.WorkInside.{unsent_bytes, IsOnItsWay, HasCome}
 use Rattle.panel_session.proofs.RunLemmas.{way_begins, way_sent}
@@ -38,8 +38,8 @@ module _ {State : Type 0} {step : State → Request → Stepped State Answer} {F
     {plant : PlantData} {panel : ℕ} {past : Progress} {piece : List ℕ} {machine : State} where
   -- A turn begins, and what was not yet sent is.
   way_given : {most : State → ℕ} {begun : Session} (unsent : Bool) → begun.unsent ≡ unsent → MayTurn step Fits most plant panel begun past machine piece
-      → (now : Progress) × IsUnderWay step Fits plant panel past piece machine machine (record begun { unsent = false }) piece now (if unsent then outgoing_of begun else [])
-  way_given {begun = begun} true is may = (_, way_sent 0 (way_begins may) refl (sends_unsent plant panel begun past piece may.stands is))
+      → (now : Progress) × IsUnderWay step Fits plant panel past piece machine machine (record begun { unsent = false }) piece now (if unsent then later_of begun else [])
+  way_given {begun = begun} true is may = (_, way_sent 0 (later_of begun) (way_begins may) refl (sends_unsent plant panel begun past piece may.stands is).1)
   way_given {begun = begun} false is may =
       let At : Bool → Type 0 = λ unsent. IsUnderWay step Fits plant panel past piece machine machine (record begun { unsent = unsent }) piece past [] in
       (past, subst At is (way_begins may))

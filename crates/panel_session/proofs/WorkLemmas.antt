@@ -18,20 +18,20 @@ use Rattle.panel_session.specs.Acting.{Acts}
 use Rattle.panel_session.specs.MovesInside.{answered_too, silenced, ended_turn}
 use Rattle.panel_session.specs.OutgoingInside.{emptied}
 use Rattle.panel_session.specs.PolledInside.{HasPolled}
-use Rattle.panel_session.specs.ReadingInside.{HasRead, HasReadOn}
+use Rattle.panel_session.specs.ReadingInside.{HasTaken, HasTakenOn}
 use Rattle.panel_session.specs.RoomsInside.{fitting}
 use Rattle.panel_session.specs.Run.{MayTurn, HasRun}
 use Rattle.panel_session.specs.RunInside.{IsUnderWay}
 use Rattle.panel_session.specs.SenderKept.{sending}
-use Rattle.panel_session.specs.Session.{StandsFor, outgoing_of}
+use Rattle.panel_session.specs.Session.{StandsFor, made_by}
 use Rattle.panel_session.specs.SoFar.{Progress, with_bytes, with_sent, with_entry}
 use Rattle.panel_session.specs.StandsInside.{behind}
 use Rattle.panel_session.specs.Text.{Output, frames_of, with_frames}
 use Rattle.panel_session.specs.WorkInside.{polling_at}
 use Rattle.panel_session.proofs.ActsLemmas.{no_bytes}
 use Rattle.panel_session.proofs.RunLemmas.{asked_behind, drop-none, goes_none, may_go_on, told_behind, used_more, way_over, way_sent}
-use Rattle.panel_session.proofs.SentLemmas.{behind_frames, polled_sent, polls_none, reading_stands, stands_whatever, told_is, told_sent}
-use Rattle.panel_session.proofs.SessionLemmas.{asks_first_poll, asks_poll, asks_told, is_reading, rests, sends}
+use Rattle.panel_session.proofs.SentLemmas.{behind_frames, polled_sent, polls_none, reading_stands, stands_whatever, taken_stands, told_is, told_sent}
+use Rattle.panel_session.proofs.SessionLemmas.{asks_first_poll, asks_poll, asks_told, is_reading, rests}
 
 module _ {State : Type 0} {step : State → Request → Stepped State Answer} {Fits : State → Request → Type 0}
     {plant : PlantData} {panel : ℕ} {past : Progress} {piece : List ℕ} {machine : State} where
@@ -39,8 +39,8 @@ module _ {State : Type 0} {step : State → Request → Stepped State Answer} {F
   has_read : {most : State → ℕ} {begun : Session} {machine_now : State} {session_now : Session} {now : Progress} {rest more : List ℕ} (after : Session) (used : ℕ) (send : Bool)
       → MayTurn step Fits most plant panel begun past machine piece
       → IsUnderWay step Fits plant panel past piece machine machine_now session_now rest now more
-      → session_now.phase ≡ Read → session_now.unsent ≡ false → HasReadOn session_now rest used send after
-      → HasRead plant panel (with_bytes (take used rest) now) send after
+      → session_now.phase ≡ Read → session_now.unsent ≡ false → HasTakenOn session_now rest used send after
+      → HasTaken plant panel (with_bytes (take used rest) now) send after
   has_read {session_now = session_now} {now = now} after used send may way read none reads =
       reads plant panel now (is_reading plant panel session_now now way.stands read none) (may_go_on may way).items
 
@@ -48,7 +48,7 @@ module _ {State : Type 0} {step : State → Request → Stepped State Answer} {F
   pub way_read : {most : State → ℕ} {begun : Session} {machine_now : State} {session_now : Session} {now : Progress} {rest left more : List ℕ} (after : Session) (used : ℕ)
       → MayTurn step Fits most plant panel begun past machine piece
       → IsUnderWay step Fits plant panel past piece machine machine_now session_now rest now more → left ≡ drop used rest
-      → session_now.phase ≡ Read → session_now.unsent ≡ false → HasReadOn session_now rest used false after
+      → session_now.phase ≡ Read → session_now.unsent ≡ false → HasTakenOn session_now rest used false after
       → IsUnderWay step Fits plant panel past piece machine machine_now after left (with_bytes (take used rest) now) more
   way_read {now = now} {rest = rest} {left = left} after used may way is read none reads = record {
     turns = way.turns;
@@ -66,11 +66,11 @@ module _ {State : Type 0} {step : State → Request → Stepped State Answer} {F
   pub way_read_sent : {most : State → ℕ} {begun : Session} {machine_now : State} {session_now : Session} {now : Progress} {rest left more : List ℕ} (after : Session) (used : ℕ)
       → MayTurn step Fits most plant panel begun past machine piece
       → IsUnderWay step Fits plant panel past piece machine machine_now session_now rest now more → left ≡ drop used rest
-      → session_now.phase ≡ Read → session_now.unsent ≡ false → HasReadOn session_now rest used true after
+      → session_now.phase ≡ Read → session_now.unsent ≡ false → HasTakenOn session_now rest used true after
       → IsUnderWay step Fits plant panel past piece machine machine_now after left
-      (with_sent (outgoing_of after) (with_bytes (take used rest) now)) (more ++ outgoing_of after)
+      (with_sent (made_by after) (with_bytes (take used rest) now)) (more ++ made_by after)
   way_read_sent {now = now} {rest = rest} after used may way is read none reads =
-      way_sent used way is (sends plant panel after (with_bytes (take used rest) now) rest used true refl (has_read after used true may way read none reads))
+      way_sent used (made_by after) way is (taken_stands plant panel after (with_bytes (take used rest) now) (has_read after used true may way read none reads))
 
   -- The last item's message is asked.
   pub asks_to_tell : {most : State → ℕ} {begun : Session} {machine_now : State} {session_now : Session} {now : Progress} {rest more : List ℕ} (request : Request) (message : Message)
@@ -109,7 +109,7 @@ module _ {State : Type 0} {step : State → Request → Stepped State Answer} {F
       } in
       let At : Session → Type 0 = λ session. StandsFor plant panel session later in
       let stands : At (after false (behind output.bytes (with_frames frames (emptied output)))) =
-      stands_whatever plant panel (after false (with_frames frames (emptied output))) later (output.bytes ++ sent)
+      stands_whatever plant panel (record (after false (with_frames frames (emptied output))) { parted = false }) later (output.bytes ++ sent) session_now.parted
       (told_sent plant panel panel session_now now request message answers acts.0 few tell) refl in
       asked_behind 0 request sent way refl fits state
       (subst At (ap (after false) (sym (behind_frames frames output)) ∙ ap (λ (unsent : Bool). after unsent (with_frames frames output)) (sym none)) stands)
@@ -119,17 +119,17 @@ module _ {State : Type 0} {step : State → Request → Stepped State Answer} {F
   pub way_told : {machine_now machine_then : State} {session_now : Session} {now : Progress} {rest : List ℕ} (before : List ℕ) (request : Request) (message : Message)
       → let answers = (step machine_now request).answers in
       let answered = answered_too answers (record session_now { phase = Read }) in
-      IsUnderWay step Fits plant panel past piece machine machine_now session_now rest now (before ++ outgoing_of session_now)
+      IsUnderWay step Fits plant panel past piece machine machine_now session_now rest now (before ++ made_by session_now)
       → session_now.phase ≡ Tell message → session_now.unsent ≡ false → Acts plant panel now rest 0 (Ask request) session_now
       → Fits machine_now request → machine_then ≡ (step machine_now request).state → length answers ≤ room_of plant
-      → (now_then : Progress) × IsUnderWay step Fits plant panel past piece machine machine_then answered rest now_then (before ++ outgoing_of answered)
+      → (now_then : Progress) × IsUnderWay step Fits plant panel past piece machine machine_then answered rest now_then (before ++ made_by answered)
   way_told {machine_now = machine_now} {machine_then = machine_then} {session_now = session_now} {now = now} {rest = rest} before request message way tell none acts fits state few =
       let told = Told session_now.panel (session_now.items - 1) message in
       let Goes : Request → Type 0 = λ request.
       let answers = (step machine_now request).answers in
       let answered = answered_too answers (record session_now { phase = Read }) in
       Acts plant panel now rest 0 (Ask request) session_now → Fits machine_now request → machine_then ≡ (step machine_now request).state → length answers ≤ room_of plant
-      → (now_then : Progress) × IsUnderWay step Fits plant panel past piece machine machine_then answered rest now_then (before ++ outgoing_of answered) in
+      → (now_then : Progress) × IsUnderWay step Fits plant panel past piece machine machine_then answered rest now_then (before ++ made_by answered) in
       let goes : Goes told = λ acts fits state few.
       let answers = (step machine_now told).answers in
       let answered = answered_too answers (record session_now { phase = Read }) in
@@ -137,8 +137,8 @@ module _ {State : Type 0} {step : State → Request → Stepped State Answer} {F
       let sent = (with_frames frames (emptied session_now.sender.output)).bytes in
       let later = with_sent sent (with_entry (entry_at step machine_now panel told) now) in
       let More : List ℕ → Type 0 = λ more. IsUnderWay step Fits plant panel past piece machine machine_then answered rest later more in
-      let same : (before ++ outgoing_of session_now) ++ sent ≡ before ++ outgoing_of answered =
-      append_assoc before (outgoing_of session_now) sent ∙ ap (λ (output : Output). before ++ output.bytes) (sym (behind_frames frames session_now.sender.output)) in
+      let same : (before ++ made_by session_now) ++ sent ≡ before ++ made_by answered =
+      append_assoc before (made_by session_now) sent ∙ ap (λ (output : Output). before ++ output.bytes) (sym (behind_frames frames session_now.sender.output)) in
       (later, subst More same (told_on message way tell none acts fits state few)) in
       subst Goes (sym (told_is plant panel session_now now request message acts.0 tell)) goes acts fits state few
 
@@ -180,11 +180,13 @@ module _ {State : Type 0} {step : State → Request → Stepped State Answer} {F
       let answered = answered_too answers (silenced asking) in
       let sent = answered.sender.output.bytes in
       let later = with_sent sent (with_entry entry now) in
-      let At : Bool → Type 0 = λ unsent. StandsFor plant panel (record answered { phase = phase; polls = polls + 1; unsent = unsent }) later in
+      let after : Session = record answered { phase = phase; polls = polls + 1; unsent = false } in
+      let At : Bool → Type 0 = λ unsent. StandsFor plant panel (record after { unsent = unsent }) later in
       let counted : polls + 1 ≡ (polls + 1) % 2 ^ 32 = sym (mod-eq_of_lt (omega arith)) in (
         later,
         asked_behind 0 request sent way refl fits state
-            (subst At (sym none) (polled_sent plant panel panel (polling_at polls asking) now request phase (polls + 1) answers acts.0 few refl counted polled))
+            (subst At (sym none) (stands_whatever plant panel (record after { parted = false }) later sent asking.parted
+            (polled_sent plant panel panel (polling_at polls asking) now request phase (polls + 1) answers acts.0 few refl counted polled) refl))
             refl (sym (append-nil now.now.piece)) refl (sym (append_assoc now.now.told now.now.polls (entry ∷ []))) (λ _. refl),
       )
 
@@ -196,13 +198,13 @@ module _ {State : Type 0} {step : State → Request → Stepped State Answer} {F
       → request ≡ Poll asking.panel asking.items asking.counts.turns → Acts plant panel now [] 0 (Ask (Poll asking.panel asking.items asking.counts.turns)) (polling_at polls asking)
       → asking.unsent ≡ false → polls < 32
       → Fits machine_now request → machine_then ≡ (step machine_now request).state → length answers ≤ room_of plant → HasPolled answers (polls + 1) phase
-      → (now_then : Progress) × IsUnderWay step Fits plant panel past piece machine machine_then (record answered { phase = phase; polls = polls + 1 }) [] now_then (more ++ outgoing_of answered)
+      → (now_then : Progress) × IsUnderWay step Fits plant panel past piece machine machine_then (record answered { phase = phase; polls = polls + 1 }) [] now_then (more ++ made_by answered)
   polled_by {machine_now = machine_now} {machine_then = machine_then} {more = more} asking polls phase request way is acts none below =
       let Goes : Request → Type 0 = λ request.
       let answers = (step machine_now request).answers in
       let answered = answered_too answers (silenced asking) in
       Fits machine_now request → machine_then ≡ (step machine_now request).state → length answers ≤ room_of plant → HasPolled answers (polls + 1) phase
-      → (now_then : Progress) × IsUnderWay step Fits plant panel past piece machine machine_then (record answered { phase = phase; polls = polls + 1 }) [] now_then (more ++ outgoing_of answered) in
+      → (now_then : Progress) × IsUnderWay step Fits plant panel past piece machine machine_then (record answered { phase = phase; polls = polls + 1 }) [] now_then (more ++ made_by answered) in
       let goes : Goes (Poll asking.panel asking.items asking.counts.turns) = λ fits state few polled. way_polled asking polls phase way acts none below fits state few polled in
       subst Goes (sym is) goes
 
@@ -219,9 +221,9 @@ module _ {State : Type 0} {step : State → Request → Stepped State Answer} {F
   pub asks_item : {most : State → ℕ} {begun : Session} {machine_now : State} {session_now : Session} {now : Progress} {rest more : List ℕ} (after : Session) (used : ℕ) (request : Request) (message : Message)
       → MayTurn step Fits most plant panel begun past machine piece
       → IsUnderWay step Fits plant panel past piece machine machine_now session_now rest now more
-      → session_now.phase ≡ Read → session_now.unsent ≡ false → HasReadOn session_now rest used true after → after.phase ≡ Tell message → after.unsent ≡ false
+      → session_now.phase ≡ Read → session_now.unsent ≡ false → HasTakenOn session_now rest used true after → after.phase ≡ Tell message → after.unsent ≡ false
       → (0 < after.items → after.items < 2 ^ 62 → request ≡ Told after.panel (after.items - 1) message)
-      → (now_then : Progress) × IsUnderWay step Fits plant panel past piece machine machine_now after (drop used rest) now_then (more ++ outgoing_of after)
+      → (now_then : Progress) × IsUnderWay step Fits plant panel past piece machine machine_now after (drop used rest) now_then (more ++ made_by after)
       × Acts plant panel now_then (drop used rest) 0 (Ask request) after
   asks_item after used request message may way read none reads tell quiet is =
       let sent = way_read_sent after used may way refl read none reads in
@@ -231,8 +233,8 @@ module _ {State : Type 0} {step : State → Request → Stepped State Answer} {F
   pub way_item : {most : State → ℕ} {begun : Session} {machine_now : State} {session_now : Session} {now : Progress} {rest more : List ℕ} (after : Session) (used : ℕ) (send : Bool)
       → MayTurn step Fits most plant panel begun past machine piece
       → IsUnderWay step Fits plant panel past piece machine machine_now session_now rest now more
-      → session_now.phase ≡ Read → session_now.unsent ≡ false → HasReadOn session_now rest used send after
-      → (now_then : Progress) × IsUnderWay step Fits plant panel past piece machine machine_now after (drop used rest) now_then (more ++ (if send then outgoing_of after else []))
+      → session_now.phase ≡ Read → session_now.unsent ≡ false → HasTakenOn session_now rest used send after
+      → (now_then : Progress) × IsUnderWay step Fits plant panel past piece machine machine_now after (drop used rest) now_then (more ++ (if send then made_by after else []))
   way_item after used true may way read none reads = (_, way_read_sent after used may way refl read none reads)
   way_item after used false may way read none reads = (_, goes_none (way_read after used may way refl read none reads))
 
@@ -245,11 +247,11 @@ module _ {State : Type 0} {step : State → Request → Stepped State Answer} {F
       → asking.unsent ≡ false → polls < 32
       → Fits machine_now request → machine_then ≡ (step machine_now request).state → length answers ≤ room_of plant → HasPolled answers (polls + 1) phase
       → after ≡ answered_too answers (silenced asking) → phase ≡ PollStage
-      → (now_then : Progress) × IsUnderWay step Fits plant panel past piece machine machine_then (polling_at (polls + 1) after) [] now_then (more ++ outgoing_of after)
+      → (now_then : Progress) × IsUnderWay step Fits plant panel past piece machine machine_then (polling_at (polls + 1) after) [] now_then (more ++ made_by after)
       × Acts plant panel now_then [] 0 (Ask (Poll after.panel after.items after.counts.turns)) (polling_at (polls + 1) after)
   polls_on {machine_now = machine_now} {machine_then = machine_then} {now = now} {more = more} asking after polls phase request may way is acts none below fits state few polled same poll =
       let done = polled_by asking polls phase request way is acts none below fits state few polled in
-      let Way : Session → Phase → Type 0 = λ session phase. IsUnderWay step Fits plant panel past piece machine machine_then (record session { phase = phase; polls = polls + 1 }) [] done.0 (more ++ outgoing_of session) in
+      let Way : Session → Phase → Type 0 = λ session phase. IsUnderWay step Fits plant panel past piece machine machine_then (record session { phase = phase; polls = polls + 1 }) [] done.0 (more ++ made_by session) in
       let AtStage : Phase → Type 0 = λ phase. Way (answered_too (step machine_now request).answers (silenced asking)) phase in
       let Of : Session → Type 0 = λ session. Way session PollStage in
       let way_then = subst Of (sym same) (subst AtStage poll done.1) in
@@ -264,10 +266,10 @@ module _ {State : Type 0} {step : State → Request → Stepped State Answer} {F
       → asking.unsent ≡ false → polls < 32
       → Fits machine_now request → machine_then ≡ (step machine_now request).state → length answers ≤ room_of plant → HasPolled answers (polls + 1) phase
       → after ≡ answered_too answers (silenced asking) → phase ≡ End
-      → HasRun step Fits plant panel past piece machine machine_then (ended_turn after) (more ++ outgoing_of after)
+      → HasRun step Fits plant panel past piece machine machine_then (ended_turn after) (more ++ made_by after)
   polls_end {machine_now = machine_now} {machine_then = machine_then} {now = now} {more = more} asking after polls phase request may way is acts none below fits state few polled same over =
       let done = polled_by asking polls phase request way is acts none below fits state few polled in
-      let Way : Session → Phase → Type 0 = λ session phase. IsUnderWay step Fits plant panel past piece machine machine_then (record session { phase = phase; polls = polls + 1 }) [] done.0 (more ++ outgoing_of session) in
+      let Way : Session → Phase → Type 0 = λ session phase. IsUnderWay step Fits plant panel past piece machine machine_then (record session { phase = phase; polls = polls + 1 }) [] done.0 (more ++ made_by session) in
       let AtStage : Phase → Type 0 = λ phase. Way (answered_too (step machine_now request).answers (silenced asking)) phase in
       let Of : Session → Type 0 = λ session. Way session End in
       way_ends after (polls + 1) may (subst Of (sym same) (subst AtStage over done.1)) (ap (λ (session : Session). session.unsent) same ∙ none)

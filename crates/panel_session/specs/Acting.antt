@@ -9,7 +9,8 @@ use Rattle.plant_core.specs.declared.request.Request.TheVariants.{Told, Poll, Le
 use Rattle.panel_session.specs.declared.session.act.Act.{Act}
 use Rattle.panel_session.specs.declared.session.act.Act.TheVariants.{Send, Ask, Rest}
 use Rattle.panel_session.specs.declared.session.Session.{Session}
-use Rattle.panel_session.specs.SoFar.{Progress, read_so_far, entries_so_far, with_bytes, with_sent, with_turn, IsOver}
+use Rattle.panel_session.specs.SoFar.{Progress, read_so_far, entries_so_far, with_bytes, with_sent, with_turn, IsOver, SendsFront}
+use Rattle.panel_session.specs.OneSend.{IsOneSend}
 use Rattle.panel_session.specs.Text.{IsText}
 use Rattle.panel_session.specs.Session.{StandsFor, Awaits, outgoing_of, outbox_of}
 
@@ -27,14 +28,16 @@ IsInPlace now (Poll panel item turn) used piece = used ≡ length piece
 IsInPlace now (Leave panel) used piece = ⊥
 IsInPlace now (DisplayPoll screen refresh) used piece = ⊥
 
--- What `act` does behind a past that now has the bytes that it used. `Send`: some bytes are to be sent, and once they are,
--- all of the session's text so far is. `Ask`: a request that fits the plant is to be answered into the
--- outbox, which is empty and has room for those of a step. `Rest`: the piece is used up and the turn is over.
+-- What `act` does behind a past that now has the bytes that it used. `Send`: some bytes are to be sent at once, and once they
+-- are, a front of the session's text so far is. `Ask`: all of that text was sent, and a request that fits the plant is to be
+-- answered into the outbox, which is empty and has room for the answers of a step. `Rest`: the piece is used up, and the
+-- turn is over.
 abbrev pub Acts : PlantData → ℕ → Progress → List ℕ → ℕ → Act → Session → Type 0
 Acts plant panel now piece used Send session =
     (outgoing_of session ≢ [])
     × StandsFor plant panel session (with_sent (outgoing_of session) now)
-    × IsText plant (items (read_so_far now)) (entries_so_far now) (now.sent ++ outgoing_of session)
+    × SendsFront plant (with_sent (outgoing_of session) now)
+    × IsOneSend plant now (outgoing_of session)
 Acts plant panel now piece used (Ask request) session =
     Awaits plant panel session now request
     × (outbox_of session ≡ record { items = []; places = room_of plant })

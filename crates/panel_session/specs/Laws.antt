@@ -1,5 +1,6 @@
 -- What holds of every session. The functions of `laws` promise it.
-use Rattle.std.specs.Prelude.{◌≡◌, ◌⊎◌, ℕ, Bool, List, ◌++◌, map}
+use Rattle.std.specs.Prelude.{◌≡◌, ◌≢◌, ◌⊎◌, ℕ, Bool, List, [], ◌++◌, map}
+use mathlib.Core.List.{IsPrefix}
 use Rattle.dle_framing.specs.Items.{items}
 use Rattle.history_lock.specs.Step.{Stepped}
 use Rattle.plant_config.specs.Plant.{PlantData}
@@ -9,10 +10,11 @@ use Rattle.plant_core.specs.declared.request.Request.TheVariants.{DisplayPoll}
 use Rattle.plant_core.specs.State.{State, IsValid}
 use Rattle.plant_core.specs.Step.{step}
 use Rattle.panel_session.specs.DisplayPacket.{AreLamps}
+use Rattle.panel_session.specs.Entry.{PlantEntry}
 use Rattle.panel_session.specs.declared.session.Session.{Session}
 use Rattle.panel_session.specs.Run.{IsWorked}
-use Rattle.panel_session.specs.Session.{StandsFor, Awaits, outgoing_of}
-use Rattle.panel_session.specs.SoFar.{Progress, IsSoFar, unread}
+use Rattle.panel_session.specs.Session.{StandsFor, Awaits, later_of}
+use Rattle.panel_session.specs.SoFar.{Progress, FitsOn, IsSoFar, unread}
 use Rattle.panel_session.specs.Text.{IsText}
 use Rattle.panel_session.specs.Turns.{Turn, Fits, bytes_of, entries_of_turns}
 
@@ -48,7 +50,33 @@ TurnsAreSent = (plant : PlantData) (panel : ℕ) (session : Session) (past : Pro
     → StandsFor plant panel session past → past.now ≡ unread
     → IsText plant (items (bytes_of past.turns)) (entries_of_turns past.turns) past.sent
     ⊎ IsText plant (items (bytes_of past.turns)) (entries_of_turns past.turns)
-    (past.sent ++ outgoing_of session)
+    (past.sent ++ later_of session)
+
+-- what a session stands for begins a list of entries that fits what was read of it and the rest of the present piece, of which
+-- nothing is left where the turn has polled
+abbrev pub StandsFits : Type 0
+StandsFits = (plant : PlantData) (panel : ℕ) (session : Session) (past : Progress) (rest : List ℕ)
+    → StandsFor plant panel session past → (past.now.polls ≢ [] → rest ≡ [])
+    → FitsOn panel past (past.now.piece ++ rest)
+
+-- and so does what it stands for while a request of it wasn't answered
+abbrev pub AwaitsFits : Type 0
+AwaitsFits = (plant : PlantData) (panel : ℕ) (session : Session) (past : Progress)
+    → (request : Request) (rest : List ℕ)
+    → Awaits plant panel session past request → (past.now.polls ≢ [] → rest ≡ [])
+    → FitsOn panel past (past.now.piece ++ rest)
+
+-- the text of a front of what was read is a front of the text of all, with the same entries
+abbrev pub FrontsOfText : Type 0
+FrontsOfText = (plant : PlantData) (read more : List ℕ) (entries : List PlantEntry)
+    → (text : List ℕ) → IsText plant (items read) entries text
+    → (whole : List ℕ) × IsText plant (items (read ++ more)) entries whole × IsPrefix text whole
+
+-- what was read has one text with the same entries
+abbrev pub TextsAreOne : Type 0
+TextsAreOne = (plant : PlantData) (read : List ℕ) (entries : List PlantEntry)
+    → (text other : List ℕ) → IsText plant (items read) entries text
+    → IsText plant (items read) entries other → text ≡ other
 
 -- In a valid state the lamps that answer a display poll are of displays and sources of the plant.
 abbrev pub DisplayPollAnswersAreLamps : Type 0

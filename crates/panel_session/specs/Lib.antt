@@ -14,6 +14,7 @@ pub mod PageKept
 pub mod SoFar
 pub mod TakenInside
 pub mod Counted
+pub mod OneSend
 pub mod StandsInside
 pub mod Session
 pub mod MovesInside
@@ -22,7 +23,7 @@ pub mod CallsLeft
 pub mod Acting
 pub mod ReadingInside
 pub mod Lending
-pub mod LeaveInside
+pub mod LineRoomInside
 pub mod Run
 pub mod Laws
 pub mod DisplayPacket

@@ -1,5 +1,5 @@
 -- What a session becomes, step by step.
-use Rattle.std.specs.Prelude.{ℕ, ◌+◌, ◌%◌, ◌^◌, Bool, List, []}
+use Rattle.std.specs.Prelude.{ℕ, ◌+◌, ◌%◌, ◌^◌, nat_lt, Bool, true, false, if◌then◌else◌, List, [], length}
 use Rattle.dle_framing.specs.Numbers.{ack}
 use Rattle.plant_config.specs.Plant.{PlantData}
 use Rattle.plant_core.specs.declared.answer.Answer.{Answer}
@@ -44,6 +44,22 @@ took plant asked session = record session {
   counts = counts_with asked session.counts;
 }
 
+-- An ACK goes by itself where it has pages of names behind it,
+abbrev pub goes_apart : Asked → List ℕ → Bool
+goes_apart Nothing bytes = false
+goes_apart Repeat bytes = false
+goes_apart Refused bytes = false
+goes_apart Noted bytes = false
+goes_apart (Named message) bytes = nat_lt 2 (length bytes)
+goes_apart (Sent message) bytes = false
+
+-- and then they are yet to be sent.
+abbrev pub apart : Bool → Session → Session
+apart parted session = record session {
+  parted = parted;
+  unsent = if parted then true else session.unsent;
+}
+
 -- A good frame is counted, and its ACK is to be sent.
 abbrev pub acknowledged : Session → Session
 acknowledged session = record session {
@@ -56,6 +72,7 @@ abbrev pub took_answers : List Answer → Bool → Session → Session
 took_answers answers unsent session = record session {
   sender = sending (with_frames (frames_of answers) (emptied session.sender.output)) session.sender;
   unsent = unsent;
+  parted = false;
   outbox = record session.outbox { items = [] };
 }
 

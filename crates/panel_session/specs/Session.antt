@@ -1,5 +1,5 @@
 -- Which pasts a session stands for.
-use Rattle.std.specs.Prelude.{◌≡◌, ◌≢◌, ℕ, ◌-◌, ◌<◌, ◌≤◌, true, false, List, [], length}
+use Rattle.std.specs.Prelude.{◌≡◌, ◌≢◌, ℕ, ◌-◌, ◌<◌, ◌≤◌, Bool, true, false, List, [], length, take, drop}
 use Rattle.dle_framing.specs.Framer as framer
 use Rattle.dle_framing.specs.Items.{items}
 use Rattle.history_lock.specs.Places.{Placed}
@@ -14,10 +14,31 @@ use Rattle.panel_session.specs.declared.session.phase.Phase.TheVariants.{Read, T
 use Rattle.panel_session.specs.SoFar.{Progress, nothing_yet, read_so_far, with_entry}
 use Rattle.panel_session.specs.StandsInside.{Kept, Keeps}
 use Rattle.panel_session.specs.Counted.{goods_of, bads_of}
+use Rattle.panel_session.specs.OneSend.{IsOneSend}
+use Rattle.panel_session.specs.Text.{Output}
+
+-- all the bytes that a session made last, whether they were handed out or not
+abbrev pub made_by : Session → List ℕ
+made_by session = session.sender.output.bytes
+
+-- what goes next of the bytes that a session made: all of them, or, where the ACK in front goes by itself, that while what is
+-- behind it wasn't handed out, and then what is behind it
+abbrev pub next_bytes : Bool → Bool → List ℕ → List ℕ
+next_bytes false unsent bytes = bytes
+next_bytes true true bytes = take 2 bytes
+next_bytes true false bytes = drop 2 bytes
 
 -- the bytes that a session sends next
 abbrev pub outgoing_of : Session → List ℕ
-outgoing_of session = session.sender.output.bytes
+outgoing_of session = next_bytes session.parted session.unsent (made_by session)
+
+-- the bytes that it sends once what is to be sent is handed out
+abbrev pub later_of : Session → List ℕ
+later_of session = outgoing_of (record session { unsent = false })
+
+-- its plant
+abbrev pub plant_of : Session → PlantData
+plant_of session = session.plant.now
 
 -- a session's outbox
 abbrev pub outbox_of : Session → Placed Answer
@@ -27,6 +48,12 @@ outbox_of session = session.outbox
 abbrev pub with_outbox : Session → Placed Answer → Session
 with_outbox session outbox = record session { outbox = outbox }
 
+-- what of an output wasn't handed out: where the ACK in front goes by itself, what is behind it
+abbrev pub left_output : Bool → Bool → Output → Output
+left_output false unsent output = output
+left_output true true output = record output { bytes = drop 2 output.bytes }
+left_output true false output = output
+
 abbrev pub kept_of : Session → Kept
 kept_of session = record {
   panel = session.panel;
@@ -34,7 +61,7 @@ kept_of session = record {
   items = session.items;
   turns = session.counts.turns;
   polls = session.polls;
-  output = session.sender.output;
+  output = left_output session.parted session.unsent session.sender.output;
   unsent = session.unsent;
 }
 
@@ -49,7 +76,8 @@ pub record Stands (plant : PlantData) (panel : ℕ) (session : Session) (past : 
   pub keeps : Keeps plant (kept_of session) past
   pub goods : session.counts.goods ≡ goods_of (items (read_so_far past))
   pub bads : session.counts.bads ≡ bads_of (items (read_so_far past))
-  pub some : session.unsent ≡ true → session.sender.output.bytes ≢ []
+  pub some : session.unsent ≡ true → later_of session ≢ []
+  pub one : session.unsent ≡ true → IsOneSend plant past (later_of session)
   pub places : session.outbox.places ≡ room_of plant
 
 -- The session of this panel of a plant stands for this past, with nothing asked that wasn't answered: where it polls it has

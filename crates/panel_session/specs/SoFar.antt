@@ -1,5 +1,5 @@
 -- What a session has done so far.
-use Rattle.std.specs.Prelude.{◌≡◌, ◌≢◌, ℕ, ◌≤◌, List, [], ◌∷◌, ◌++◌, length, All}
+use Rattle.std.specs.Prelude.{◌≡◌, ◌≢◌, ℕ, ◌≤◌, List, [], ◌∷◌, ◌++◌, length, map, All}
 use mathlib.Core.List.{IsPrefix}
 use Rattle.dle_framing.specs.declared.item.Item.{Item}
 use Rattle.dle_framing.specs.Items.{items}
@@ -9,7 +9,7 @@ use Rattle.plant_core.specs.declared.request.Request.TheVariants.{Told, Poll, Le
 use Rattle.panel_session.specs.Entry.{PlantEntry}
 use Rattle.panel_session.specs.declared.session.asked.Asked.{Asked}
 use Rattle.panel_session.specs.Asked.{AllAsk, sent_to_plant}
-use Rattle.panel_session.specs.Turns.{Turn, bytes_of, entries_of_turns, requests, item_count, poll_behind, EndIn, AreTurns, IsTurn}
+use Rattle.panel_session.specs.Turns.{Turn, bytes_of, entries_of_turns, requests, item_count, poll_behind, EndIn, AreTurns, Fits, IsTurn}
 use Rattle.panel_session.specs.Text.{IsText}
 
 -- The turns that are over, the present one so far (the bytes of its piece that were used, and its entries), and the bytes
@@ -75,6 +75,18 @@ pub record IsSoFar (plant : PlantData) (panel : ℕ) (past : Progress) : Type 0 
   pub polls : All (λ entry. entry.request ≡ poll_now panel past) past.now.polls
   pub told_first : TellsFirst panel past asked
   pub within : length past.now.polls ≤ 32
+  pub text : List ℕ
+  pub is_text : IsText plant (items (read_so_far past)) (entries_so_far past) text
+  pub sent : IsPrefix past.sent text
+
+-- What was done so far begins a list of entries that fits the reads, of which the last is this piece.
+pub record FitsOn (panel : ℕ) (past : Progress) (piece : List ℕ) : Type 0 where
+  pub entries : List PlantEntry
+  pub fits : Fits panel (map (λ turn. turn.piece) past.turns ++ piece ∷ []) entries
+  pub front : IsPrefix (entries_so_far past) entries
+
+-- A front of the session's text of what was read and answered was sent.
+pub record SendsFront (plant : PlantData) (past : Progress) : Type 0 where
   pub text : List ℕ
   pub is_text : IsText plant (items (read_so_far past)) (entries_so_far past) text
   pub sent : IsPrefix past.sent text

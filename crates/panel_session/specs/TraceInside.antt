@@ -1,4 +1,4 @@
--- How long the parts of a trace's line may be.
+-- What the parts of a trace's line need.
 use Rattle.std.specs.Prelude.{ℕ}
 
 -- the most bytes of a request: a word, three numbers and the spaces between them
@@ -8,7 +8,3 @@ most_request = 67
 -- the most bytes of a reply: the frames of 1,024 answers in hexadecimal
 abbrev pub most_reply : ℕ
 most_reply = 49152
-
--- the most bytes of the line of a leave, with room for any request in it
-abbrev pub most_leave_line : ℕ
-most_leave_line = 96

@@ -64,6 +64,13 @@ abbrev pub trace_line : PlantData → ℕ → Request → List Answer → List �
 trace_line plant position request answers =
     entry_text position request (reply_text plant request answers) ++ line_end ∷ []
 
+-- A request can be spelled: its message is in its ranges.
+abbrev pub MaySpell : Request → Type 0
+MaySpell (Told panel item message) = InRange message
+MaySpell (Poll panel item turn) = Unit {0}
+MaySpell (Leave panel) = Unit {0}
+MaySpell (DisplayPoll screen refresh) = Unit {0}
+
 -- A request may be traced: its numbers are at most 2^62, and its message is in its ranges.
 abbrev pub MayTrace : Request → Type 0
 MayTrace (Told panel item message) =

@@ -8,12 +8,12 @@ use Rattle.panel_session.specs.declared.session.Session.{Session}
 use Rattle.panel_session.specs.declared.session.phase.Phase.TheVariants.{Poll}
 use Rattle.panel_session.specs.Run.{MayTurn, HasRun}
 use Rattle.panel_session.specs.RunInside.{IsUnderWay}
-use Rattle.panel_session.specs.Session.{outgoing_of}
+use Rattle.panel_session.specs.Session.{later_of, made_by}
 use Rattle.panel_session.specs.SoFar.{Progress}
 
 -- what was not yet handed out
 abbrev pub unsent_bytes : Session → List ℕ
-unsent_bytes session = if session.unsent then outgoing_of session else []
+unsent_bytes session = if session.unsent then later_of session else []
 
 -- a session that has polled so often in the turn, and polls again
 abbrev pub polling_at : ℕ → Session → Session
@@ -55,7 +55,7 @@ WorksOn step Fits most rest used send session session_then machine machine_then 
     (on : IsOnItsWay step Fits most session machine rest)
     → (now_then : Progress)
     × HasCome on session_then machine_then (drop used rest) now_then
-    (if send then outgoing_of session_then else [])
+    (if send then made_by session_then else [])
 
 -- A turn goes on, up to where this is left of its piece: exactly what was sent was given to the outlet.
 abbrev pub GoesOn : {State Outlet : Type 0} (step : State → Request → Stepped State Answer)

@@ -2,6 +2,7 @@
 
 ghost use Rattle.panel_session.specs.Laws.{AwaitsSoFar, StandsSoFar, TurnsAreOne};
 ghost use Rattle.panel_session.specs.Laws.{TurnsAreSent, TurnsFit};
+ghost use Rattle.panel_session.specs.Laws.{AwaitsFits, StandsFits, FrontsOfText, TextsAreOne};
 ghost use Rattle.panel_session.specs.Laws.{DisplayPollAnswersAreLamps};
 
 use history_lock::Machine;
@@ -24,6 +25,18 @@ pub fn one_turn<M: Machine<Request = Request, Answer = Answer>>()
 pub fn turns_fit()
     ensures fit { TurnsFit }
     ensures text { TurnsAreSent }
+{}
+
+/// What a session has done so far begins a list of entries that fits its reads, the present piece as a whole among them.
+pub fn so_far_fits()
+    ensures stands { StandsFits }
+    ensures awaits { AwaitsFits }
+{}
+
+/// With the same entries the text of a front of what was read is a front of the text of all of it, and there is one text.
+pub fn texts_go_on()
+    ensures front { FrontsOfText }
+    ensures one { TextsAreOne }
 {}
 
 /// In a valid state the lamps that answer a display poll are of displays and sources of the plant, so that

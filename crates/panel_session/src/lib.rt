@@ -11,7 +11,9 @@ mod sending;
 mod session;
 mod traces;
 
-pub use laws::{display_poll_answers_are_lamps, one_turn, stands_so_far, turns_fit};
+pub use laws::{
+    display_poll_answers_are_lamps, one_turn, so_far_fits, stands_so_far, texts_go_on, turns_fit,
+};
 pub use outlet::Outlet;
 pub use packet::display_packet;
 pub use session::Session;

@@ -7,7 +7,8 @@ ghost use Rattle.plant_core.specs.declared.request.Request.{Request};
 ghost use Rattle.plant_core.specs.declared.request.Request.TheVariants.{Leave};
 ghost use Rattle.plant_core.specs.Answer.{IsSayable, room_of};
 ghost use Rattle.panel_session.specs.SoFar.{Progress, nothing_yet};
-ghost use Rattle.panel_session.specs.TraceLine.{trace_line};
+ghost use Rattle.panel_session.specs.MostAnswers.{most_answers};
+ghost use Rattle.panel_session.specs.TraceLine.{trace_line, MaySpell, MayReply};
 
 pub(crate) mod act;
 pub(crate) mod asked;
@@ -23,13 +24,16 @@ use crate::session::act::Act;
 use crate::session::asked::next_asked;
 use crate::session::counts::Counts;
 use crate::session::phase::{Phase, phase_behind};
-use crate::traces::leave_line::LeaveLine;
+use crate::traces::line_room::LineRoom;
 use dle_framing::Framer;
 use history_lock::OutBox;
 use plant_config::{PanelNo, Plant};
 use plant_core::{Answer, PlantState, Request};
 use plant_names::Names;
 use std::alloc::{AllocError, Global};
+
+// The bytes of an ACK.
+const ACK_LEN: usize = 2;
 
 /// A session of one panel: what the panel sends is handed in, in whatever pieces it comes, and what it is sent comes out.
 /// Between the two a session asks the plant, by its caller. All its memory is taken by `start`.
@@ -42,12 +46,15 @@ pub struct Session<'p> {
     sender: Sender<'p>,
     // Whether the outgoing bytes were not yet handed out.
     unsent: bool,
+    // Whether they are an ACK with pages of names behind it, of which the ACK goes by itself.
+    parted: bool,
     outbox: OutBox<Answer>,
     // The items so far, and the polls of this turn.
     items: u64,
     polls: u32,
     counts: Counts,
-    leave_line: LeaveLine,
+    // What the lines of a trace are written in.
+    line: LineRoom,
 }
 
 impl<'p> Session<'p> {
@@ -57,7 +64,8 @@ impl<'p> Session<'p> {
     ghost use Rattle.panel_session.specs.CallsLeft.{phase_left, IsNearer, LeavesLess};
     ghost use Rattle.panel_session.specs.declared.session.phase.Phase.TheVariants.{Read};
     ghost use Rattle.panel_session.specs.ReadingInside.{ReadsOn, HasReadOn};
-    ghost use Rattle.panel_session.specs.Session.{outgoing_of, outbox_of, StandsFor, Awaits};
+    ghost use Rattle.panel_session.specs.Session.{outgoing_of, outbox_of, plant_of};
+    ghost use Rattle.panel_session.specs.Session.{StandsFor, Awaits};
     ghost use Rattle.panel_session.specs.Session.{TakesAnswers, BeginsAnew, BeginsAnewUnanswered};
 
     /// A session of a panel of the plant, to which nothing was sent. The names are those of the plant. Its room is enough for
@@ -81,6 +89,7 @@ impl<'p> Session<'p> {
             phase: Phase::Read,
             sender: Sender::new(alloc, plant, names)?,
             unsent: false,
+            parted: false,
             outbox: OutBox::new(alloc, PlantState::room_of(plant))?,
             items: 0,
             polls: 0,
@@ -89,7 +98,7 @@ impl<'p> Session<'p> {
                 bads: 0,
                 turns: 0,
             },
-            leave_line: LeaveLine::new(alloc)?,
+            line: LineRoom::new(alloc)?,
         })
     }
 
@@ -102,6 +111,7 @@ impl<'p> Session<'p> {
         self.phase = Phase::Read;
         self.sender.reset();
         self.unsent = false;
+        self.parted = false;
         self.outbox.clear();
         self.items = 0;
         self.polls = 0;
@@ -136,7 +146,12 @@ impl<'p> Session<'p> {
     pub fn outgoing(&self) -> &[u8]
         ensures { result.now ≡ outgoing_of self.now }
     {
-        self.sender.as_slice()
+        let bytes = self.sender.as_slice();
+        if !self.parted {
+            return bytes;
+        }
+        let (ack, pages) = bytes.split_at(ACK_LEN.min(bytes.len()));
+        if self.unsent { ack } else { pages }
     }
 
     /// Where the plant puts its answers after `Act::Ask`.
@@ -145,6 +160,22 @@ impl<'p> Session<'p> {
         ensures now { result.now ≡ outbox_of self.old }
     {
         &mut self.outbox
+    }
+
+    /// The line of a trace, with its LF, of the entry at this position, of this request and these answers. The session stays
+    /// as it is.
+    pub fn entry_line(&mut self, position: u64, request: &Request, answers: &[Answer]) -> &[u8]
+        requires spelled { MaySpell request.now }
+        requires sayable { All IsSayable answers.now }
+        requires few { length answers.now ≤ most_answers }
+        requires reply { MayReply (plant_of self.old) request.now answers.now }
+        ensures* same { sem 𝓛 (StaysTheSame self.entry) }
+        ensures line { result.now
+            ≡ trace_line (plant_of self.old) position request.now answers.now }
+    {
+        // kit: with `self.plant` among the arguments the loan isn't followed back to the session.
+        let plant = self.plant;
+        self.line.write(plant, position, *request, answers)
     }
 
     /// The line of a trace, with its LF, of this panel's leave at this position, 0 to 2^62. The session stays as it is.
@@ -157,8 +188,9 @@ impl<'p> Session<'p> {
             → Awaits plant panel self.old past request
             → result.now ≡ trace_line plant position (Leave panel) [] }
     {
-        let panel = self.panel;
-        self.leave_line.write(position, panel)
+        let leave = Request::Leave { panel: self.panel };
+        let plant = self.plant;
+        self.line.write(plant, position, leave, &[])
     }
 
     /// Goes on with the turn, in what is left of its piece: how many bytes it used of that, and what the caller does next.
@@ -229,12 +261,12 @@ impl<'p> Session<'p> {
         ensures progress { 0 < length piece.now → 0 < result.0 }
         ensures reads { HasReadOn self.old piece.now result.0 result.1 self.new }
         ensures quiet { result.1 ≡ false → self.new.phase ≡ self.old.phase }
-        ensures unsent { self.new.unsent ≡ self.old.unsent }
+        ensures unsent { result.1 ≡ false → self.new.unsent ≡ self.old.unsent }
         ensures left { self.old.phase ≡ Read → phase_left self.new.phase self.new.polls ≤ 68 }
     {
         let (used, asked) = next_asked(&mut self.framer, piece);
         match asked {
-            Some(asked) => (used, self.take(asked)),
+            Some(asked) => (used, self.take_apart(asked)),
             None => (used, false),
         }
     }

@@ -1,5 +1,6 @@
-//! Lines of a trace: what one is written of, the line of a leave, and the laws of lines.
+//! Lines of a trace: what one is written of, the room for one, and the laws of lines.
 
-pub(crate) mod leave_line;
+pub(crate) mod line_room;
+mod request_line;
 pub(crate) mod trace_laws;
 pub(crate) mod trace_line;

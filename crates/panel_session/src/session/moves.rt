@@ -4,10 +4,11 @@ ghost use Rattle.std.specs.Prelude.{◌≡◌, ◌≢◌, true, false, [], All, 
 ghost use Rattle.plant_core.specs.Answer.{IsSayable};
 ghost use Rattle.panel_session.specs.AskedInside.{NamesInRange};
 ghost use Rattle.panel_session.specs.MovesInside.{took, acknowledged, took_answers, ended_turn};
+ghost use Rattle.panel_session.specs.MovesInside.{apart, goes_apart};
 ghost use Rattle.panel_session.specs.RoomsInside.{fitting};
 ghost use Rattle.panel_session.specs.TakenInside.{IsSending, IsAnswer, IsNoAnswer};
 
-use super::Session;
+use super::{ACK_LEN, Session};
 use crate::session::asked::Asked;
 use crate::session::phase::Phase;
 
@@ -50,6 +51,29 @@ impl Session<'_> {
         }
     }
 
+    // The same, but an ACK with pages of names behind it goes by itself, and they are yet to be sent.
+    pub(super) fn take_apart(&mut self, asked: Asked) -> bool
+        requires names { NamesInRange (Some asked) }
+        ensures session { self.new ≡ apart self.new.parted
+            (took self.old.sender.names asked self.old) }
+        ensures parted { self.new.parted ≡ goes_apart asked self.new.sender.output.bytes }
+        ensures some { result ≡ true
+            → IsAnswer self.old.sender.names asked self.old.sender.output }
+        ensures bytes { result ≡ true → IsSending self.old.sender.names asked
+            self.old.sender.output self.new.sender.output }
+        ensures none { result ≡ false
+            → IsNoAnswer self.old.sender.names asked self.old.sender.output }
+        ensures quiet { result ≡ false → self.new.phase ≡ self.old.phase }
+        ensures same { result ≡ false → self.new.unsent ≡ self.old.unsent }
+    {
+        let send = self.take(asked);
+        self.parted = is_apart(asked, self.sender.as_slice());
+        if self.parted {
+            self.unsent = true;
+        }
+        send
+    }
+
     // A good frame is counted, and its ACK is to be sent.
     pub(super) fn acknowledge(&mut self)
         ensures { self.new ≡ acknowledged self.old }
@@ -67,6 +91,7 @@ impl Session<'_> {
         ensures none { self.new.unsent ≡ false → self.new.sender.output.bytes ≡ [] }
     {
         self.unsent = self.sender.answer(self.outbox.items());
+        self.parted = false;
         self.outbox.clear();
     }
 
@@ -77,5 +102,15 @@ impl Session<'_> {
         self.phase = Phase::Read;
         self.polls = 0;
         self.counts.turns = self.counts.turns.wrapping_add(1);
+    }
+}
+
+// Whether an ACK goes by itself: these bytes are made for an item that asks so.
+fn is_apart(asked: Asked, bytes: &[u8]) -> bool
+    ensures { result ≡ goes_apart asked bytes.now }
+{
+    match asked {
+        Asked::Named(_) => bytes.len() > ACK_LEN,
+        Asked::Nothing | Asked::Repeat | Asked::Refused | Asked::Noted | Asked::Sent(_) => false,
     }
 }

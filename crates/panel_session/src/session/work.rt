@@ -65,7 +65,7 @@ impl Session<'_> {
             let (used, send) = self.work_item(machine, rest);
             rest = &rest[used..];
             if send {
-                out.give(self.outgoing());
+                out.give(self.sender.as_slice());
             }
         }
     }
@@ -146,7 +146,7 @@ impl Session<'_> {
     fn give_some<O: Outlet>(&self, out: &mut O)
         ensures { O.Given out.old self.now.sender.output.bytes out.new }
     {
-        let bytes = self.outgoing();
+        let bytes = self.sender.as_slice();
         if !bytes.is_empty() {
             out.give(bytes);
         }

@@ -3,29 +3,26 @@
 ghost use Rattle.std.specs.Prelude.{◌≡◌, ◌+◌, ◌*◌, ◌≤◌, ◌++◌, All, length};
 ghost use Rattle.std.specs.Prelude.{vec_len, vec_capacity};
 ghost use Rattle.std.specs.List.{flat_map};
-ghost use Rattle.swp08_messages.specs.Text.{InRange};
 ghost use Rattle.plant_core.specs.Answer.{IsSayable};
 ghost use Rattle.plant_core.specs.Displays.{lamp_limit};
-ghost use Rattle.plant_core.specs.declared.request.Request.TheVariants.{Told, Poll, Leave};
-ghost use Rattle.plant_core.specs.declared.request.Request.TheVariants.{DisplayPoll};
 ghost use Rattle.panel_session.specs.DisplayPacket.{AreLamps, longest_packet};
 ghost use Rattle.panel_session.specs.MostAnswers.{most_answers};
 ghost use Rattle.panel_session.specs.OutgoingKept.{answer_bytes};
 ghost use Rattle.panel_session.specs.Text.{frames_of};
 ghost use Rattle.panel_session.specs.TraceLine.{trace_limit, trace_line, longest_trace_line};
-ghost use Rattle.panel_session.specs.TraceLine.{request_text, reply_text, told_bytes};
-ghost use Rattle.panel_session.specs.TraceLine.{display_reply, MayTrace, MayReply};
-ghost use Rattle.panel_session.specs.TraceInside.{most_request, most_reply};
+ghost use Rattle.panel_session.specs.TraceLine.{reply_text, told_bytes};
+ghost use Rattle.panel_session.specs.TraceLine.{display_reply, MaySpell, MayTrace, MayReply};
+ghost use Rattle.panel_session.specs.TraceInside.{most_reply};
 
 use crate::packet::display_packet;
 use crate::sending::outgoing::Outgoing;
 use crate::sending::spell::append;
+use crate::traces::request_line::append_request;
 use line_text::{append_decimal, append_hex};
-use plant_config::{PanelNo, Plant};
+use plant_config::Plant;
 use plant_core::{Answer, Request};
 use std::alloc::{AllocError, Global};
 use std::marker::Model;
-use swp08_messages::Message;
 
 // The most bytes of the frames of 1,024 answers: no page of a dump is longer than the messages of as many answers.
 const MAX_SENT: usize = 1024 * 24;
@@ -87,6 +84,29 @@ impl TraceLines {
             ≤ longest_trace_line }
         ensures room { vec_capacity out.new ≡ vec_capacity out.old }
     {
+        self.append_entry(plant, position, request, answers, out);
+    }
+
+    // The same, whatever the numbers of the position and the request are.
+    pub(crate) fn append_entry(
+        &mut self,
+        plant: &Plant,
+        position: u64,
+        request: &Request,
+        answers: &[Answer],
+        out: &mut Vec<u8>,
+    )
+        requires spelled { MaySpell request.now }
+        requires sayable { All IsSayable answers.now }
+        requires few { length answers.now ≤ most_answers }
+        requires reply { MayReply plant.now request.now answers.now }
+        requires room { vec_len out.old + longest_trace_line ≤ vec_capacity out.old }
+        ensures line { out.new.items
+            ≡ out.old.items ++ trace_line plant.now position request.now answers.now }
+        ensures most { length (trace_line plant.now position request.now answers.now)
+            ≤ longest_trace_line }
+        ensures room { vec_capacity out.new ≡ vec_capacity out.old }
+    {
         let TraceLines { outgoing, spelled } = self;
         append_decimal(position, out);
         append(out, b" ");
@@ -119,92 +139,6 @@ impl TraceLines {
             spelled: packet,
         } = self;
         put_reply(plant, request, answers, outgoing, packet, out);
-    }
-}
-
-// Appends the request of an entry.
-fn append_request(request: &Request, spelled: &mut Vec<u8>, out: &mut Vec<u8>)
-    requires request { MayTrace request.now }
-    requires spelled { longest_packet ≤ vec_capacity spelled.old }
-    requires room { vec_len out.old + most_request ≤ vec_capacity out.old }
-    ensures text { out.new.items ≡ out.old.items ++ request_text request.now }
-    ensures most { vec_len out.new ≤ vec_len out.old + most_request }
-    ensures room { vec_capacity out.new ≡ vec_capacity out.old }
-    ensures spelled { vec_capacity spelled.new ≡ vec_capacity spelled.old }
-{
-    match *request {
-        Request::Told { panel, at, message } => append_told(panel, at, message, spelled, out),
-        Request::Poll { panel, at, turn } => append_poll(panel, at, turn, out),
-        Request::Leave { panel } => append_leave(panel, out),
-        Request::DisplayPoll { screen, refresh } => append_show(screen, refresh, out),
-    }
-}
-
-// Appends what a panel told, its message by the DATA in hexadecimal.
-fn append_told(
-    panel: PanelNo,
-    item: u64,
-    message: Message,
-    spelled: &mut Vec<u8>,
-    out: &mut Vec<u8>,
-)
-    requires in_range { InRange message }
-    requires spelled { longest_packet ≤ vec_capacity spelled.old }
-    requires room { vec_len out.old + most_request ≤ vec_capacity out.old }
-    ensures text { out.new.items ≡ out.old.items ++ request_text (Told panel item message) }
-    ensures most { vec_len out.new ≤ vec_len out.old + most_request }
-    ensures room { vec_capacity out.new ≡ vec_capacity out.old }
-    ensures spelled { vec_capacity spelled.new ≡ vec_capacity spelled.old }
-{
-    spelled.clear();
-    message.write(spelled);
-    append(out, b"told ");
-    append_decimal(u64::from(panel.get()), out);
-    append(out, b" ");
-    append_decimal(item, out);
-    append(out, b" ");
-    append_hex(spelled, out);
-}
-
-// Appends the poll of a panel.
-fn append_poll(panel: PanelNo, item: u64, turn: u64, out: &mut Vec<u8>)
-    requires { vec_len out.old + most_request ≤ vec_capacity out.old }
-    ensures text { out.new.items ≡ out.old.items ++ request_text (Poll panel item turn) }
-    ensures most { vec_len out.new ≤ vec_len out.old + most_request }
-    ensures room { vec_capacity out.new ≡ vec_capacity out.old }
-{
-    append(out, b"poll ");
-    append_decimal(u64::from(panel.get()), out);
-    append(out, b" ");
-    append_decimal(item, out);
-    append(out, b" ");
-    append_decimal(turn, out);
-}
-
-// Appends the leave of a panel.
-pub(crate) fn append_leave(panel: PanelNo, out: &mut Vec<u8>)
-    requires { vec_len out.old + most_request ≤ vec_capacity out.old }
-    ensures text { out.new.items ≡ out.old.items ++ request_text (Leave panel) }
-    ensures most { vec_len out.new ≤ vec_len out.old + most_request }
-    ensures room { vec_capacity out.new ≡ vec_capacity out.old }
-{
-    append(out, b"leave ");
-    append_decimal(u64::from(panel.get()), out);
-}
-
-// Appends the display poll of a screen.
-fn append_show(screen: u16, refresh: bool, out: &mut Vec<u8>)
-    requires { vec_len out.old + most_request ≤ vec_capacity out.old }
-    ensures text { out.new.items ≡ out.old.items ++ request_text (DisplayPoll screen refresh) }
-    ensures most { vec_len out.new ≤ vec_len out.old + most_request }
-    ensures room { vec_capacity out.new ≡ vec_capacity out.old }
-{
-    append(out, b"show ");
-    append_decimal(u64::from(screen), out);
-    if refresh {
-        append(out, b" 1");
-    } else {
-        append(out, b" 0");
     }
 }
 

@@ -5,7 +5,7 @@ use Rattle.panel_session.specs.declared.session.Session.{Session}
 use Rattle.panel_session.specs.declared.session.phase.Phase.{Phase}
 use Rattle.panel_session.specs.declared.session.phase.Phase.TheVariants.{Poll as PollStage}
 use Rattle.panel_session.specs.CallsLeft.{phase_left, unsent_left}
-use Rattle.panel_session.proofs.LeftLemmas.{left-by}
+use Rattle.panel_session.proofs.LeftLemmas.{left-by, unsent-most}
 use Rattle.panel_session.specs.ReadingInside.{HasRead}
 use Rattle.panel_session.specs.SoFar.{Progress, with_bytes}
 use Rattle.panel_session.proofs.SessionLemmas.{sends, reads_on, asks_first_poll}
@@ -41,7 +41,7 @@ loop-used-preserved c = record {
       (c.read_once-more.ensures.reads plant panel (with_bytes (take used piece) past) now (subst Small (sym (read_rest past piece _ used (take_rest piece used))) small)));
   quiet = λ read. (
     c.read_once-more.ensures.quiet c.if-send.false ∙ (c.loop-used.invariant.quiet read).0,
-    c.read_once-more.ensures.unsent ∙ (c.loop-used.invariant.quiet read).1,
+    c.read_once-more.ensures.unsent c.if-send.false ∙ (c.loop-used.invariant.quiet read).1,
   );
 }
 
@@ -53,7 +53,7 @@ returns-then-send-clause-ends c = λ read.
       left-by c.args.self.now,
       left-by c.read_once-more.new.self,
       ap (λ (phase : Phase). phase_left phase c.args.self.now.polls) read,
-      ap unsent_left (c.read_once-more.ensures.unsent ∙ quiet.1),
+      unsent-most c.read_once-more.new.self.unsent,
       c.read_once-more.ensures.left quiet.0,
       c.read_once-more.ensures.progress,
       c.read_once-more.ensures.within,

@@ -10,7 +10,7 @@ use Rattle.panel_session.specs.declared.session.Session.{Session}
 use Rattle.panel_session.specs.declared.session.phase.Phase.{Phase}
 use Rattle.panel_session.specs.declared.session.phase.Phase.TheVariants.{Read}
 use Rattle.panel_session.specs.MovesInside.{answered_too}
-use Rattle.panel_session.specs.Session.{outgoing_of, with_outbox}
+use Rattle.panel_session.specs.Session.{made_by, with_outbox}
 use Rattle.panel_session.specs.WorkInside.{HasCome}
 use Rattle.panel_session.proofs.ReadLemmas.{has_passed, has_taken, has_told, phase_stays, told_by}
 use Rattle.panel_session.proofs.RunLemmas.{sayable_now}
@@ -116,7 +116,7 @@ returns-clause-works g c =
     ∙ ap (λ (session : Session). answered_too session.outbox.items session) c.acknowledge.ensures
     ∙ ap (λ (phase : Phase). answered_too c.step.new.out.items (with_outbox (record told { phase = phase }) c.step.new.out)) c.requires.reads
     ∙ taken_too (record told { phase = Read }) c.step.new.out answers c.step.ensures.answers c.step.ensures.places in
-    let Of : Session → Type 0 = λ session. HasCome on session c.step.new.self (drop used c.args.piece.now) done.0 (outgoing_of session) in
+    let Of : Session → Type 0 = λ session. HasCome on session c.step.new.self (drop used c.args.piece.now) done.0 (made_by session) in
     (done.0, subst Of (sym same) done.1)
 
 pub returns-in_default-clause-works : goal.returns-in_default-clause-works

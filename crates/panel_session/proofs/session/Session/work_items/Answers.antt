@@ -1,6 +1,6 @@
 use Rattle.std.proofs.Common.{ℕ, List, [], ◌++◌, length, eqb-true, refl, sym, ◌∙◌, subst}
 use Rattle.std.proofs.lemmas.List.{nil_from_length, take_rest}
-use Rattle.panel_session.specs.Session.{outgoing_of}
+use Rattle.panel_session.specs.Session.{made_by}
 use Rattle.panel_session.specs.WorkInside.{HasCome}
 use Rattle.panel_session.proofs.RunLemmas.{goes_none, goes_quiet, goes_sent}
 use Rattle.panel_session.proofs.WayLemmas.{further}
@@ -25,11 +25,11 @@ loop-rest-preserved-then-send g c = record {
   way = λ on.
       let come = c.loop-rest.invariant.way on in
       let worked = c.work_item-used.ensures.works (further on come.0 come.1 come.3 c.loop-rest.invariant.fits c.loop-rest.invariant.room) in
-      let bytes = outgoing_of c.work_item-used.new.self in
+      let bytes = made_by c.work_item-used.new.self in
       let Given : List ℕ → Type 0 = λ bytes. g.O.Outlet.Given c.loop-rest.out bytes c.give.new.self in (
         worked.0,
         come.1 ++ bytes,
-        g.met.O.Outlet.given_more c.args.out.now c.loop-rest.out c.give.new.self come.1 bytes come.2 (subst Given c.outgoing.ensures c.give.ensures),
+        g.met.O.Outlet.given_more c.args.out.now c.loop-rest.out c.give.new.self come.1 bytes come.2 (subst Given c.as_slice.ensures c.give.ensures),
         goes_sent on.more come.1 bytes c.work_item-used.result.1 c.if-send.true (take_rest c.loop-rest.rest.now c.work_item-used.result.0) worked.1,
       );
   reads = c.work_item-used.ensures.reads;
@@ -46,7 +46,7 @@ loop-rest-preserved g c = record {
         worked.0,
         come.1,
         come.2,
-        goes_quiet (on.more ++ come.1) (outgoing_of c.work_item-used.new.self) c.work_item-used.result.1 c.if-send.false (take_rest c.loop-rest.rest.now c.work_item-used.result.0) worked.1,
+        goes_quiet (on.more ++ come.1) (made_by c.work_item-used.new.self) c.work_item-used.result.1 c.if-send.false (take_rest c.loop-rest.rest.now c.work_item-used.result.0) worked.1,
       );
   reads = c.work_item-used.ensures.reads;
   none = c.work_item-used.ensures.none;

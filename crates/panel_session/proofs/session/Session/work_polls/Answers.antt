@@ -10,7 +10,7 @@ use Rattle.panel_session.specs.MovesInside.{answered_too, ended_turn, silenced}
 use Rattle.panel_session.specs.PolledInside.{HasPolled}
 use Rattle.panel_session.specs.Run.{HasRun}
 use Rattle.panel_session.specs.SenderKept.{SenderData}
-use Rattle.panel_session.specs.Session.{outgoing_of}
+use Rattle.panel_session.specs.Session.{made_by}
 use Rattle.panel_session.specs.WorkInside.{polling_at}
 use Rattle.panel_session.proofs.RunLemmas.{goes_more, goes_none, sayable_now}
 use Rattle.panel_session.proofs.SentLemmas.{polls_again, taken_too}
@@ -52,7 +52,7 @@ returns-in-End g c = λ on.
       on.room,
       on.may.serves.within,
     ) in
-    let bytes = outgoing_of after in
+    let bytes = made_by after in
     let run = polls_end asking after polls phase request on.may come.4 c.polling-request.ensures come.5 c.loop-self.invariant.none c.loop-self.invariant.below fits c.step.ensures.state few polled same c.in-End.is in
     let Run : Session → List ℕ → Type 0 = λ session more. HasRun g.M.Machine.step g.M.Machine.Fits on.plant on.panel on.past on.piece on.first c.step.new.self session more in
     let Sent : List ℕ → Type 0 = λ more. Run (ended_turn after) more in
@@ -91,7 +91,7 @@ loop-self-preserved g c =
             on.room,
             on.may.serves.within,
           ) in
-          let bytes = outgoing_of after in
+          let bytes = made_by after in
           let done = polls_on asking after polls phase request on.may come.4 c.polling-request.ensures come.5 c.loop-self.invariant.none c.loop-self.invariant.below fits c.step.ensures.state few polled same goes_on.0 in (
             done.0,
             come.1 ++ bytes,

@@ -30,7 +30,7 @@ loop-out-preserved-in-Send g c = record {
         with_sent (outgoing_of after) (with_bytes (take used c.loop-out.rest.now) w.0),
         w.1 ++ outgoing_of after,
         g.met.O.Outlet.given_more c.args.out.now c.loop-out.out c.give.new.self w.1 (outgoing_of after) w.2 given,
-        way_sent used w.3 (take_rest c.loop-out.rest.now used) acts,
+        way_sent used (outgoing_of after) w.3 (take_rest c.loop-out.rest.now used) acts.1,
       );
   fits = c.loop-out.invariant.fits;
   room = c.loop-out.invariant.room;

@@ -2,7 +2,7 @@ use Rattle.std.proofs.Common.{◌≡◌, ◌+◌, [], ◌∷◌, codes, length, 
 use Rattle.std.specs.Fmt.{decimal}
 use Rattle.panel_session.specs.TraceLine.{request_text, reply_text, trace_line, line_end, longest_trace_line}
 use Rattle.panel_session.proofs.TraceLemmas.{line-appended, longer, appended-most}
-use Rattle.panel_session.proofs.traces.trace_line.TraceLines.append.Goals as goal
+use Rattle.panel_session.proofs.traces.trace_line.TraceLines.append_entry.Goals as goal
 
 pub returns-clause-line : goal.returns-clause-line
 returns-clause-line c =
