@@ -1,5 +1,6 @@
 pub mod CutLemmas
 pub mod InputLemmas
 pub mod LinkEventsLemmas
+pub mod MemAcceptorLemmas
 pub mod MemLinkLemmas
 pub mod MemPortLemmas

@@ -8,3 +8,6 @@ pub mod Link
 pub mod LinkEvents
 pub mod MemLink
 pub mod InputInside
+pub mod Acceptor
+pub mod MemAcceptor
+pub mod MemAcceptorInside

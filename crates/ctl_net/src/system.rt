@@ -2,8 +2,10 @@
 //! again.
 
 mod link_answer;
+mod tcp_acceptor;
 mod tcp_link;
 mod udp_port;
 
+pub use tcp_acceptor::TcpAcceptor;
 pub use tcp_link::TcpLink;
 pub use udp_port::UdpPort;

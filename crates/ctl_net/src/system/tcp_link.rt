@@ -1,6 +1,6 @@
 //! The adapter over a connection.
 
-ghost use Rattle.std.specs.Prelude.{◌≡◌, ◌<◌, length, take};
+ghost use Rattle.std.specs.Prelude.{◌≡◌, ◌<◌, IfOk, length, take};
 
 use crate::system::link_answer::link_answer;
 use crate::{Link, LinkRead};
@@ -98,7 +98,11 @@ impl<S: io::Read + io::Write> TcpLink<S> {
 impl<S: io::Read + io::Write + OpenStream + Drop> TcpLink<S> {
     /// A link over a connection of which a read waits at most `timeout`. It is refused where that is 0, and where the
     /// system doesn't take it.
-    pub fn new(stream: S, timeout: Duration) -> io::Result<TcpLink<S>> {
+    pub fn new(stream: S, timeout: Duration) -> io::Result<TcpLink<S>>
+        ensures read_faults { IfOk result (λ link. link.read_faults ≡ 0) }
+        ensures write_faults { IfOk result (λ link. link.write_faults ≡ 0) }
+        ensures idles { IfOk result (λ link. link.idles ≡ 0) }
+    {
         stream.set_read_timeout(Some(timeout))?;
         Ok(TcpLink::over(stream))
     }

@@ -1,0 +1,99 @@
+//! The adapter over a listener.
+
+ghost use Rattle.std.specs.Prelude.{◌≡◌, IfOk};
+
+use crate::{Acceptor, Next, TcpLink};
+use ctl_io::{FaultCount, call_again};
+use std::io;
+use std::net::{OpenListener, OpenStream};
+use std::time::Duration;
+
+/// An acceptor over a listener, for so many sessions. It keeps nothing of what is given back.
+#[derive(Drop)]
+pub struct TcpAcceptor<T> {
+    listener: T,
+    sessions: u32,
+    // A read of a link waits at most so long.
+    timeout: Duration,
+    out: u64,
+    next_faults: FaultCount,
+    done_faults: FaultCount,
+}
+
+impl<T: OpenListener> TcpAcceptor<T> {
+    /// An acceptor for so many sessions, with links of which a read waits at most `timeout`.
+    pub fn new(listener: T, sessions: u32, timeout: Duration) -> TcpAcceptor<T>
+        ensures sessions { result.sessions ≡ sessions }
+        ensures out { result.out ≡ 0 }
+        ensures next_faults { result.next_faults ≡ 0 }
+        ensures done_faults { result.done_faults ≡ 0 }
+    {
+        TcpAcceptor {
+            listener,
+            sessions,
+            timeout,
+            out: 0,
+            next_faults: FaultCount::new(),
+            done_faults: FaultCount::new(),
+        }
+    }
+}
+
+impl<T: OpenListener + Send> Acceptor for TcpAcceptor<T>
+where
+    T::Stream: io::Read + io::Write + OpenStream + Send,
+{
+    ghost use Rattle.ctl_io.specs.Custody.{only_out};
+
+    type L = TcpLink<T::Stream>;
+
+    ghost sessions = { λ a. a.sessions };
+
+    ghost links = { λ a. only_out a.out };
+
+    ghost next_faults = { λ a. a.next_faults };
+
+    ghost done_faults = { λ a. a.done_faults };
+
+    fn next(&mut self) -> Next<TcpLink<T::Stream>> {
+        if self.sessions == 0 {
+            return Next::NoMore;
+        }
+        if self.out == u64::MAX {
+            self.next_faults.raise();
+            return Next::Failed;
+        }
+        match accept(&self.listener, self.timeout) {
+            Ok(link) => {
+                self.sessions -= 1;
+                self.out += 1;
+                Next::One(link)
+            }
+            Err(_) => {
+                self.next_faults.raise();
+                Next::Failed
+            }
+        }
+    }
+
+    fn done(&mut self, link: TcpLink<T::Stream>) {
+        self.out -= 1;
+        if link.write_faults() > 0 || link.read_faults() > 0 {
+            self.done_faults.raise();
+        }
+    }
+}
+
+// The link over the next connection. A frame is sent at once and waits for no other; where the system can't be asked for
+// that, it is no fault.
+fn accept<T: OpenListener>(listener: &T, timeout: Duration) -> io::Result<TcpLink<T::Stream>>
+where
+    T::Stream: io::Read + io::Write + OpenStream,
+    ensures read_faults { IfOk result (λ link. link.read_faults ≡ 0) }
+    ensures write_faults { IfOk result (λ link. link.write_faults ≡ 0) }
+    ensures idles { IfOk result (λ link. link.idles ≡ 0) }
+{
+    let (stream, _) = call_again(|| listener.accept())?;
+    let _ = stream.set_nodelay(true);
+    TcpLink::new(stream, timeout)
+}
