@@ -1,5 +1,6 @@
 //! What no clause says: ports that find memory, sockets, and what becomes of the system's answers.
 
+mod acceptors;
 mod answers;
 mod gates;
 mod ports;
