@@ -5,3 +5,5 @@ pub mod LawLemmas
 pub mod PlaceLemmas
 pub mod StepLemmas
 pub mod FeedLemmas
+pub mod HalfLemmas
+pub mod PortLemmas
