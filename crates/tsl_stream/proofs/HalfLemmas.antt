@@ -5,7 +5,7 @@ use Rattle.ctl_io.specs.Sink.{appended}
 use Rattle.ctl_io.proofs.SinkLemmas.{appended-appended}
 use Rattle.tsl_stream.specs.Numbers.{dle}
 use Rattle.tsl_stream.specs.Stream.{doubled}
-use Rattle.tsl_stream.specs.Half.{half_after}
+use Rattle.tsl_stream.specs.WritingInside.{half_after}
 use Rattle.tsl_stream.proofs.FeedLemmas.{take-add}
 use Rattle.tsl_stream.proofs.Runs.{at_byte, doubled-byte}
 

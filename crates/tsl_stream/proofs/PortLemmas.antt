@@ -9,8 +9,9 @@ use Rattle.tsl_stream.specs.Numbers.{dle, stx}
 use Rattle.tsl_stream.specs.Stream.{doubled, stream_text}
 use Rattle.tsl_stream.specs.Items.{Item, Packet, Reading, only_rest, with_item, reading, items, rest}
 use Rattle.tsl_stream.specs.Kept.{IsOpen}
-use Rattle.tsl_stream.specs.Half.{half_after}
-use Rattle.tsl_stream.specs.Port.{Leaves, HasPackets, sent_text}
+use Rattle.tsl_stream.specs.WritingInside.{half_after}
+use Rattle.tsl_stream.specs.Port.{Leaves, HasPackets}
+use Rattle.tsl_stream.specs.WritingInside.{sent_text}
 use Rattle.tsl_stream.proofs.Runs.{at_byte, doubled-byte}
 use Rattle.tsl_stream.proofs.Packets.{IsWhole, wanted-short, wanted-take}
 use Rattle.tsl_stream.proofs.Readings.{reading-by_start, reading-noise, reading-noise_dle, reading-open, reading-broken}

@@ -5,7 +5,7 @@ pub mod Laws
 pub mod Kept
 pub mod Reader
 pub mod Feeding
-pub mod Half
 pub mod Port
 pub mod StepsInside
 pub mod ReaderInside
+pub mod WritingInside

@@ -1,10 +1,10 @@
 -- What the sink of a port was given.
-use Rattle.std.specs.Prelude.{◌≡◌, ◌⊎◌, ℕ, Bool, true, false, if◌then◌else◌, List, [], ◌∷◌, ◌++◌, map, Option, IfSome}
+use Rattle.std.specs.Prelude.{◌≡◌, ◌⊎◌, ℕ, Bool, true, false, List, [], ◌∷◌, ◌++◌, map, Option, IfSome}
 use Rattle.ctl_net.specs.declared.port.Sent.{Sent}
 use Rattle.ctl_net.specs.declared.port.Sent.TheVariants.{Done, Failed}
 use Rattle.tsl_stream.specs.declared.port.StreamPort.{StreamPort}
 use Rattle.tsl_stream.specs.Numbers.{dle, stx}
-use Rattle.tsl_stream.specs.Stream.{doubled, stream_text}
+use Rattle.tsl_stream.specs.Stream.{doubled}
 use Rattle.tsl_stream.specs.Items.{Packet, items, rest}
 use Rattle.tsl_stream.specs.Kept.{IsOpen}
 
@@ -35,7 +35,3 @@ HasSent written port packets =
 abbrev pub with_sent : Sent → List ℕ → List (List ℕ) → List (List ℕ)
 with_sent Done packet packets = packets ++ packet ∷ []
 with_sent Failed packet packets = packets
-
--- What is written for a packet: where half of a pair was left, a 00 first, so that its DLE begins nothing.
-abbrev pub sent_text : Bool → List ℕ → List ℕ
-sent_text half packet = (if half then 0 ∷ [] else []) ++ stream_text packet

@@ -1,7 +1,7 @@
 //! Half of a start or of a pair at the end of bytes that were written.
 ghost use Rattle.std.specs.Prelude.{◌≡◌, ◌==◌, ◌&&◌, not};
 ghost use Rattle.tsl_stream.specs.Numbers.{dle};
-ghost use Rattle.tsl_stream.specs.Half.{half_after};
+ghost use Rattle.tsl_stream.specs.WritingInside.{half_after};
 
 use crate::control::DLE;
 

@@ -6,7 +6,6 @@ use tsl_umd5::TslFault;
 pub enum StreamItem<'a> {
     /// A packet that `read_packet` accepts, with no byte of it doubled.
     Packet(&'a [u8]),
-    /// Why the bytes behind a start are no packet. A packet is as long as its own count says, so the fault is never
-    /// `WrongCount`.
+    /// Why the bytes behind a start are no packet. They are as many as their own count says.
     Bad(TslFault),
 }

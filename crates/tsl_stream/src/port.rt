@@ -66,7 +66,7 @@ impl<K: Sink> StreamPort<K> {
 }
 
 impl<K> StreamPort<K> {
-    ghost use Rattle.tsl_stream.specs.Port.{sent_text};
+    ghost use Rattle.tsl_stream.specs.WritingInside.{sent_text};
 
     // Makes what is to be written for a packet.
     fn spell(&mut self, packet: &[u8])

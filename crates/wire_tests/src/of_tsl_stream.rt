@@ -1,5 +1,7 @@
 //! Streams worked by hand, read as a whole and cut at each place, and the longest packet.
 
+mod port;
+
 use std::process::Abort;
 use std::slice::Iter;
 use std::test::Fail;

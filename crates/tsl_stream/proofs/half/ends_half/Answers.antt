@@ -1,7 +1,7 @@
 use Rattle.std.proofs.Common.{◌==◌, ◌&&◌, Bool, not, get_or, take, sym, ap, ◌∙◌, arith}
 use Rattle.std.proofs.lemmas.List.{take_more}
 use Rattle.tsl_stream.specs.Numbers.{dle}
-use Rattle.tsl_stream.specs.Half.{half_after}
+use Rattle.tsl_stream.specs.WritingInside.{half_after}
 use Rattle.tsl_stream.proofs.HalfLemmas.{half_after-push}
 use Rattle.tsl_stream.proofs.half.ends_half.Goals as goal
 

@@ -1,5 +1,5 @@
 use Rattle.std.proofs.Common.{◌≡◌, take}
-use Rattle.tsl_stream.specs.Half.{half_after}
+use Rattle.tsl_stream.specs.WritingInside.{half_after}
 use Rattle.tsl_stream.proofs.half.ends_half.Given as goal
 
 -- that of the bytes that were looked at

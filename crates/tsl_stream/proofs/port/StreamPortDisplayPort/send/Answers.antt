@@ -2,8 +2,9 @@ use Rattle.std.proofs.Common.{◌≡◌, ℕ, ◌≤◌, ◌<◌, Bool, false, L
 use Rattle.std.proofs.lemmas.List.{take_all, take_rest}
 use Rattle.ctl_io.specs.Sink.{appended}
 use Rattle.ctl_io.proofs.SinkLemmas.{appended-nil}
-use Rattle.tsl_stream.specs.Half.{half_after}
-use Rattle.tsl_stream.specs.Port.{HasPackets, sent_text}
+use Rattle.tsl_stream.specs.WritingInside.{half_after}
+use Rattle.tsl_stream.specs.Port.{HasPackets}
+use Rattle.tsl_stream.specs.WritingInside.{sent_text}
 use Rattle.tsl_stream.proofs.FeedLemmas.{within_rest}
 use Rattle.tsl_stream.proofs.HalfLemmas.{front_more, if_appended}
 use Rattle.tsl_stream.proofs.PortLemmas.{part_sent, whole_sent}

@@ -1,6 +1,6 @@
 use Rattle.std.proofs.Common.{◌≡◌, ◌≤◌, ◌-◌, length, take}
 use Rattle.ctl_io.specs.Sink.{appended}
-use Rattle.tsl_stream.specs.Port.{sent_text}
+use Rattle.tsl_stream.specs.WritingInside.{sent_text}
 use Rattle.tsl_stream.proofs.port.StreamPortDisplayPort.send.Given as goal
 
 -- A front of the packet's text was taken, and no write failed so far.
