@@ -4,3 +4,4 @@ pub mod Packet
 pub mod Reading
 pub mod ReadingInside
 pub mod Refusal
+pub mod Kind

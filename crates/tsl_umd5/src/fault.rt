@@ -1,5 +1,8 @@
 //! Why bytes are no packet.
 
+ghost use Rattle.std.specs.Prelude.{◌≡◌};
+ghost use Rattle.tsl_umd5.specs.Kind.{kind_name};
+
 use thiserror::Error;
 
 /// The first rule that bytes break, from the left to the right. The refusals and their order are this crate's
@@ -28,4 +31,21 @@ pub enum TslFault {
     /// The byte of a text at this place is not from 32 to 126.
     #[error("the byte at place {0} is no printable ASCII character")]
     NotAscii(usize),
+}
+
+impl TslFault {
+    /// The name of its kind, without the numbers.
+    pub fn kind_name(self) -> &'static str
+        ensures { result.now ≡ kind_name self }
+    {
+        match self {
+            TslFault::TooLong(_) => "TooLong",
+            TslFault::Short(_) => "Short",
+            TslFault::WrongCount(_, _) => "WrongCount",
+            TslFault::Version(_) => "Version",
+            TslFault::Flags(_) => "Flags",
+            TslFault::ReservedBits(_) => "ReservedBits",
+            TslFault::NotAscii(_) => "NotAscii",
+        }
+    }
 }
