@@ -22,6 +22,8 @@ use Rattle.panel_session.proofs.SessionRequests.{turn-of_session}
 use Rattle.record_replay.specs.Script.{Work, Read, Leave, Show, IsOfPlant, lines, worked, LinesSpell}
 use Rattle.record_replay.specs.Replay.{ReplayState, begun, behind_turn, behind_step, Advances, AllWork, IsReplay}
 use Rattle.record_replay.specs.StandInside.{IsSettled}
+use Rattle.record_replay.specs.Streamed.{packets_by}
+use Rattle.record_replay.specs.PortInside.{packets_at}
 use Rattle.record_replay.specs.Answered.{AnswersItems, AnswersItsPiece}
 use Rattle.record_replay.specs.Laws.{Action, Turned, Left, Polled, work_of, line_of, entries_by, history_of, IsSeated, piece_in, sent_in, pieces_of, sent_of, session_in, AreSessions, IsHistory}
 use Rattle.record_replay.proofs.WorksLemmas.{fits-run, settled-begun, settled-step}
@@ -32,14 +34,14 @@ use Rattle.record_replay.proofs.SessionsLemmas.{flat_map-push, session-append, s
 module _ (plant : PlantData) where
   -- Actions lead to a stand: their history to its state, and what each session did in them is what it has done, all its turns
   -- over.
-  record LeadTo (actions : List Action) (stand : ReplayState) : Type 0 where
-    legal : IsLegal step Fits (start plant) (history_of actions)
-    state_is : stand.state ≡ run step (start plant) (history_of actions)
-    each : (panel : ℕ) → IsPast plant panel (pieces_of panel actions) (session_in panel (history_of actions)) (sent_of panel actions) (stand.pasts panel)
-    settled : IsSettled plant stand
+  pub record LeadTo (actions : List Action) (stand : ReplayState) : Type 0 where
+    pub legal : IsLegal step Fits (start plant) (history_of actions)
+    pub state_is : stand.state ≡ run step (start plant) (history_of actions)
+    pub each : (panel : ℕ) → IsPast plant panel (pieces_of panel actions) (session_in panel (history_of actions)) (sent_of panel actions) (stand.pasts panel)
+    pub settled : IsSettled plant stand
 
   -- None leads to the start.
-  lead-begun : LeadTo [] (begun plant)
+  pub lead-begun : LeadTo [] (begun plant)
   lead-begun = record {
     legal = tt;
     state_is = refl;
@@ -77,14 +79,15 @@ module _ (plant : PlantData) where
         settled = settled;
       }
 
-  -- An action does a work that leads from a stand to the next with this line.
-  record Does (actions : List Action) (work : Work) (line : List ℕ) (next : ReplayState) : Type 0 where
-    action : Action
-    work_is : work_of action ≡ work
-    line_is : line ≡ line_of plant action
-    seated : IsSeated action
-    answer : AnswersItsPiece actions action
-    lead : LeadTo (actions ++ action ∷ []) next
+  -- An action does a work that leads from a stand to the next with this line, and has the work's packets.
+  pub record Does (actions : List Action) (work : Work) (line : List ℕ) (stand next : ReplayState) : Type 0 where
+    pub action : Action
+    pub work_is : work_of action ≡ work
+    pub line_is : line ≡ line_of plant action
+    pub packets_are : packets_at plant stand.state work ≡ packets_by plant action
+    pub seated : IsSeated action
+    pub answer : AnswersItsPiece actions action
+    pub lead : LeadTo (actions ++ action ∷ []) next
 
   -- A request that fits the plant fits behind actions.
   fits-behind : (actions : List Action) (request : Request) (stand : ReplayState) → LeadTo actions stand → FitsPlant plant request → Fits stand.state request
@@ -108,7 +111,7 @@ module _ (plant : PlantData) where
 
   -- A leave is an action,
   does-leave : (actions : List Action) (panel : ℕ) (line : List ℕ) (stand next : ReplayState) → LeadTo actions stand → panel < length plant.panels → Advances plant (Leave panel) stand line next
-      → Does actions (Leave panel) line next
+      → Does actions (Leave panel) line stand next
   does-leave actions panel line stand next lead has done =
       let leave = requests.Leave panel in
       let Leads : ReplayState → Type 0 = λ next. LeadTo (actions ++ Left panel ∷ []) next in
@@ -116,6 +119,7 @@ module _ (plant : PlantData) where
         action = Left panel;
         work_is = refl;
         line_is = done.0;
+        packets_are = refl;
         seated = tt;
         answer = tt;
         lead = subst Leads (sym done.1)
@@ -124,7 +128,7 @@ module _ (plant : PlantData) where
 
   -- so is a display poll,
   does-show : (actions : List Action) (screen : ℕ) (refresh : Bool) (line : List ℕ) (stand next : ReplayState) → LeadTo actions stand → has_screen plant screen ≡ true
-      → Advances plant (Show screen refresh) stand line next → Does actions (Show screen refresh) line next
+      → Advances plant (Show screen refresh) stand line next → Does actions (Show screen refresh) line stand next
   does-show actions screen refresh line stand next lead has done =
       let poll = requests.DisplayPoll screen refresh in
       let action : Action = Polled screen refresh (step stand.state poll).answers in
@@ -133,6 +137,7 @@ module _ (plant : PlantData) where
         action = action;
         work_is = refl;
         line_is = done.0;
+        packets_are = refl;
         seated = tt;
         answer = tt;
         lead = subst Leads (sym done.1)
@@ -141,7 +146,7 @@ module _ (plant : PlantData) where
 
   -- and so is a turn:
   does-turn : (actions : List Action) (panel : ℕ) (piece line : List ℕ) (stand next : ReplayState) → LeadTo actions stand → panel < length plant.panels → Advances plant (Read panel piece) stand line next
-      → Does actions (Read panel piece) line next
+      → Does actions (Read panel piece) line stand next
   does-turn actions panel piece line stand next lead has done =
       let by : All (IsBy panel) (entries_in done.0) = λ k d below. (done.3.seats k d below, stays-of_session _ (turn-of_session panel _ done.0 done.3.is_turn k d below)) in
       let action : Action = Turned panel piece (entries_in done.0) done.1 in
@@ -167,6 +172,7 @@ module _ (plant : PlantData) where
         action = action;
         work_is = refl;
         line_is = done.4;
+        packets_are = refl;
         seated = by;
         answer = subst Answers (past-bytes plant panel _ _ _ (stand.pasts panel) (lead.each panel)) (work_answers plant panel piece line stand next lead.settled has done);
         lead = subst Leads (sym done.5)
@@ -175,28 +181,28 @@ module _ (plant : PlantData) where
       }
 
   -- each work is done by an action.
-  does : (actions : List Action) (work : Work) (line : List ℕ) (stand next : ReplayState) → LeadTo actions stand → IsOfPlant plant work → Advances plant work stand line next
-      → Does actions work line next
+  pub does : (actions : List Action) (work : Work) (line : List ℕ) (stand next : ReplayState) → LeadTo actions stand → IsOfPlant plant work → Advances plant work stand line next
+      → Does actions work line stand next
   does actions (Read panel piece) line stand next lead has done = does-turn actions panel piece line stand next lead has done
   does actions (Leave panel) line stand next lead has done = does-leave actions panel line stand next lead has done
   does actions (Show screen refresh) line stand next lead has done = does-show actions screen refresh line stand next lead has done
 
   -- Behind such actions the session of each panel is one.
-  lead-sessions : (actions : List Action) (stand : ReplayState) → LeadTo actions stand → AreSessions plant actions
+  pub lead-sessions : (actions : List Action) (stand : ReplayState) → LeadTo actions stand → AreSessions plant actions
   lead-sessions actions stand lead panel = past-session plant panel _ _ _ (stand.pasts panel) (lead.each panel)
 
   -- Behind actions that made a history, more actions do works that write this output.
-  record DoesAll (actions : List Action) (works : List Work) (output : List ℕ) : Type 0 where
-    more : List Action
-    works_are : map work_of more ≡ works
-    shown : output ≡ flat_map (line_of plant) more
-    seated : All IsSeated more
-    legal : IsLegal step Fits (start plant) (history_of (actions ++ more))
-    each : (before after : List Action) → more ≡ before ++ after → AreSessions plant (actions ++ before)
-    answers : (before after : List Action) (action : Action) → more ≡ before ++ action ∷ after → AnswersItsPiece (actions ++ before) action
+  pub record DoesAll (actions : List Action) (works : List Work) (output : List ℕ) : Type 0 where
+    pub more : List Action
+    pub works_are : map work_of more ≡ works
+    pub shown : output ≡ flat_map (line_of plant) more
+    pub seated : All IsSeated more
+    pub legal : IsLegal step Fits (start plant) (history_of (actions ++ more))
+    pub each : (before after : List Action) → more ≡ before ++ after → AreSessions plant (actions ++ before)
+    pub answers : (before after : List Action) (action : Action) → more ≡ before ++ action ∷ after → AnswersItsPiece (actions ++ before) action
 
   -- No works are left,
-  does_none : (actions : List Action) (output : List ℕ) (stand : ReplayState) → LeadTo actions stand → output ≡ [] → DoesAll actions [] output
+  unfoldable pub does_none : (actions : List Action) (output : List ℕ) (stand : ReplayState) → LeadTo actions stand → output ≡ [] → DoesAll actions [] output
   does_none actions output stand lead none = record {
     more = [];
     works_are = refl;
@@ -216,7 +222,7 @@ module _ (plant : PlantData) where
       answers (first ∷ before) after action is = absurd cc
 
   -- or one is done before the others.
-  does_first : (actions : List Action) (work : Work) (works : List Work) (line rest output : List ℕ) (stand next : ReplayState) → LeadTo actions stand → (one : Does actions work line next)
+  unfoldable pub does_first : (actions : List Action) (work : Work) (works : List Work) (line rest output : List ℕ) (stand next : ReplayState) → LeadTo actions stand → (one : Does actions work line stand next)
       → DoesAll (actions ++ one.action ∷ []) works rest → output ≡ line ++ rest → DoesAll actions (work ∷ works) output
   does_first actions work works line rest output stand next lead one later is = record {
     more = one.action ∷ later.more;
@@ -247,12 +253,12 @@ module _ (plant : PlantData) where
           subst Behind (append_assoc actions (one.action ∷ []) before ∙ ap (λ (first : Action). actions ++ first ∷ before) head) (later.answers before after action tail)
 
   -- So all works are done by actions,
-  does_all : (works : List Work) (actions : List Action) (output : List ℕ) (stand last : ReplayState) → LeadTo actions stand → All (IsOfPlant plant) works
+  pub does_all : (works : List Work) (actions : List Action) (output : List ℕ) (stand last : ReplayState) → LeadTo actions stand → All (IsOfPlant plant) works
       → AllWork plant works stand output last → DoesAll actions works output
   does_all [] actions output stand last lead has done = does_none actions output stand lead done.0
   does_all (work ∷ works) actions output stand last lead has done =
       let Has : Work → Type 0 = IsOfPlant plant in
-      let one : Does actions work done.1 done.0 = does actions work done.1 stand done.0 lead (All-head Has work works has) done.3 in
+      let one : Does actions work done.1 stand done.0 = does actions work done.1 stand done.0 lead (All-head Has work works has) done.3 in
       does_first actions work works done.1 done.2 output stand done.0 lead one
       (does_all works (actions ++ one.action ∷ []) done.2 done.0 last one.lead (All-tail Has work works has) done.4) done.5
 

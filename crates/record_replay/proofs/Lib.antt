@@ -8,9 +8,12 @@ pub mod LineSpellsLemmas
 pub mod SpelledLines
 pub mod LinesSpellLemmas
 pub mod WorksLemmas
+pub mod SentLemmas
+pub mod MonitorLemmas
 pub mod IsReplayLemmas
 pub mod SessionsLemmas
 pub mod ActionsLemmas
+pub mod ActionsInParts
 pub mod ActionsOnce
 pub mod TiedReplayLemmas
 pub mod DigitsLemmas

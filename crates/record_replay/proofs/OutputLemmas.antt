@@ -9,7 +9,7 @@ use Rattle.ctl_io.proofs.SinkLemmas.{appended-appended}
 use Rattle.record_replay.specs.OutputInside.{IsWhole, IsCut, IsPut}
 
 -- a front of a text is one of the text with more behind it
-AppendsPart-more : (text more : List ℕ) (before now : Option (List ℕ)) → AppendsPart text before now → AppendsPart (text ++ more) before now
+pub AppendsPart-more : (text more : List ℕ) (before now : Option (List ℕ)) → AppendsPart text before now → AppendsPart (text ++ more) before now
 AppendsPart-more text more before now part = record {
   count = part.count;
   shorter = omega (arith, length-append text more, part.shorter);

@@ -1,19 +1,27 @@
--- What a script's replay gives to the sink.
-use Rattle.std.proofs.Common.{◌≡◌, ℕ, ◌^◌, ◌<◌, false, List, [], ◌∷◌, ◌++◌, length, Option, sym, ap, ◌∙◌, subst, arith}
+-- What a script's replay gives to the sink, and sends to the port.
+use Rattle.std.proofs.Common.{◌≡◌, ℕ, ◌⊎◌, inl, inr, ◌^◌, ◌<◌, Bool, true, false, List, [], ◌∷◌, ◌++◌, length, Option, sym, ap, ◌∙◌, subst, arith}
+use Rattle.std.specs.Bool.{OnTrue, OnFalse}
 use Rattle.std.specs.List.{AllByRecursion}
-use Rattle.std.proofs.lemmas.List.{append-nil, length-append, take-append-le}
+use Rattle.std.proofs.lemmas.List.{append-nil}
+use Rattle.std.proofs.lemmas.List.Concat.{flat_map-append}
 use Rattle.std.proofs.lemmas.List.Elements.{All-from_recursion}
 use Rattle.ctl_io.specs.Faults.{one_more}
-use Rattle.ctl_io.specs.Sink.{appended}
+use Rattle.ctl_io.specs.Sink.{appended, AppendsPart}
 use Rattle.plant_config.specs.Plant.{PlantData}
 use Rattle.record_replay.specs.declared.output.Output.{Output}
 use Rattle.record_replay.specs.declared.replayer.Replayer.{Replayer}
 use Rattle.record_replay.specs.OutputInside.{HasNothing, Puts, IsAllGiven, IsCutShort}
 use Rattle.record_replay.specs.Script.{Work, IsOfPlant, lines, worked, LinesSpell}
-use Rattle.record_replay.specs.Replay.{begun, AllWork}
-use Rattle.record_replay.specs.TiedReplay.{HasReplayed, HasReplayedFront}
+use Rattle.record_replay.specs.Replay.{ReplayState, begun, AllWork}
+use Rattle.record_replay.specs.Laws.{Action, line_of, IsHistory}
+use Rattle.record_replay.specs.TiedReplay.{IsTiedReplay, HasReplayed, HasReplayedFront}
+use Rattle.record_replay.specs.Streamed.{lines_in, sent_on, HasStreamed, HasStreamedFront, HasStoppedAtPort}
+use Rattle.record_replay.specs.PortInside.{SendsAll, SendsUntil, LeavesNone, LeavesPacket}
 use Rattle.record_replay.specs.ReplayerInside.{StandsAt, MayDo, DoesScript}
 use Rattle.record_replay.proofs.IsReplayLemmas.{of_plant}
+use Rattle.record_replay.proofs.ActionsInParts.{InParts, history_parts}
+use Rattle.record_replay.proofs.OutputLemmas.{AppendsPart-more}
+use Rattle.record_replay.proofs.SentLemmas.{sent_worked}
 use Rattle.record_replay.proofs.TiedReplayLemmas.{tied}
 use Rattle.record_replay.proofs.WorksLemmas.{AllWork-append, works_exist}
 
@@ -27,54 +35,150 @@ last_have : (P : Work → Type 0) (done left : List Work) → AllByRecursion P (
 last_have P [] left all = all
 last_have P (work ∷ done) left all = last_have P done left all.1
 
--- All that was put was given: the replay text, and the count of faults stayed.
-pub replayed : {K : Type 0} (written : K → Option (List ℕ)) (faults : K → ℕ) (plant : PlantData) (script : List ℕ) (replayer : Replayer) (sink now : K) (first last : Output K) → StandsAt plant replayer (begun plant) 0 → length script < 2 ^ 63
-    → (works : List Work) × LinesSpell plant (worked (lines script)) works → HasNothing written faults sink first → DoesScript replayer.plant.now script replayer last.failed (λ text. Puts written faults text first last)
-    → last.failed ≡ false → IsAllGiven written faults last now → HasReplayed plant script (written sink) (written now) × (faults now ≡ faults sink)
-replayed written faults plant script replayer sink now first last stands small spelled nothing does whole given =
-    let Does : PlantData → Type 0 = λ plant. DoesScript plant script replayer last.failed (λ text. Puts written faults text first last) in
+-- A script's replay, of which this was put and sent.
+pub record Came (plant : PlantData) (script : List ℕ) (Leaves : ReplayState → List Work → Type 0) (text : List ℕ) (packets : List (List ℕ)) : Type 0 where
+  pub rest : List ℕ
+  pub replay : IsTiedReplay plant script (text ++ rest)
+  pub actions : List Action
+  pub history : IsHistory plant script (text ++ rest) actions
+  pub mid : ReplayState
+  pub left : List Work
+  pub leaves : Leaves mid left
+  pub parts : InParts plant left mid text packets actions
+  pub whole : left ≡ [] → rest ≡ []
+
+-- No works write nothing.
+nothing_left : (plant : PlantData) (left : List Work) (mid last : ReplayState) (rest : List ℕ) → AllWork plant left mid rest last → left ≡ [] → rest ≡ []
+nothing_left plant left mid last rest all none = (subst (λ (left : List Work). AllWork plant left mid rest last) none all).0
+
+pub came : (plant : PlantData) (script : List ℕ) (replayer : Replayer) (Leaves : PlantData → ReplayState → List Work → Type 0) (IsPut : List ℕ → List (List ℕ) → Type 0) → StandsAt plant replayer (begun plant) 0 → length script < 2 ^ 63
+    → (works : List Work) × LinesSpell plant (worked (lines script)) works → DoesScript replayer.plant.now script replayer (Leaves replayer.plant.now) IsPut
+    → (text : List ℕ) × (packets : List (List ℕ)) × IsPut text packets × Came plant script (Leaves plant) text packets
+came plant script replayer Leaves IsPut stands small spelled does =
+    let Does : PlantData → Type 0 = λ plant. DoesScript plant script replayer (Leaves plant) IsPut in
     let done = subst Does stands.plant_is does (begun plant) 0 spelled.0 stands (omega (arith, small)) spelled.1 in
-    let all = given (written sink) (faults sink) done.0 (done.1.puts (written sink) (faults sink) [] nothing) in
-    let is : spelled.0 ≡ done.2.done = done.2.works_are ∙ ap (λ (left : List Work). done.2.done ++ left) (done.2.whole whole) ∙ append-nil done.2.done in (
+    let Has : Work → Type 0 = IsOfPlant plant in
+    let works = subst (LinesSpell plant (worked (lines script))) done.3.works_are spelled.1 in
+    let has = of_plant plant (worked (lines script)) (done.3.done ++ done.3.left) works in
+    let later = works_exist plant done.3.left done.3.next done.3.settled (All-from_recursion Has done.3.left (last_have Has done.3.done done.3.left has)) in
+    let made = history_parts plant script done.3.done done.3.left done.0 later.0 done.1 done.3.next later.1 works done.3.all_sent later.2 in (
+      done.0,
+      done.1,
+      done.2,
       record {
-        output = done.0;
-        replay = tied plant script done.0 stands.valid.is_plant (record {
-          works = spelled.0;
-          spelled = spelled.1;
-          last = done.2.next;
-          all_work = subst (λ (works : List Work). AllWork plant works (begun plant) done.0 done.2.next) (sym is) done.2.all_work;
+        rest = later.0;
+        replay = tied plant script (done.0 ++ later.0) stands.valid.is_plant (record {
+          works = done.3.done ++ done.3.left;
+          spelled = works;
+          last = later.1;
+          all_work = AllWork-append plant done.3.done done.3.left (begun plant) done.3.next later.1 done.0 later.0 (sent_worked plant done.3.done (begun plant) done.3.next done.0 done.1 done.3.all_sent) later.2;
         });
-        appends = all.0;
+        actions = made.0;
+        history = made.1;
+        mid = done.3.next;
+        left = done.3.left;
+        leaves = done.3.leaves;
+        parts = made.2;
+        whole = nothing_left plant done.3.left done.3.next later.1 later.0 later.2;
       },
-      all.1,
     )
 
--- A write failed: a shorter front of it, and the count rose by one.
-pub cut_short : {K : Type 0} (written : K → Option (List ℕ)) (faults : K → ℕ) (plant : PlantData) (script : List ℕ) (replayer : Replayer) (sink now : K) (first last : Output K) → StandsAt plant replayer (begun plant) 0 → length script < 2 ^ 63
-    → (works : List Work) × LinesSpell plant (worked (lines script)) works → HasNothing written faults sink first → DoesScript replayer.plant.now script replayer last.failed (λ text. Puts written faults text first last)
-    → IsCutShort written faults last now → HasReplayedFront plant script (written sink) (written now) × (faults now ≡ one_more (faults sink))
-cut_short written faults plant script replayer sink now first last stands small spelled nothing does cut =
-    let Does : PlantData → Type 0 = λ plant. DoesScript plant script replayer last.failed (λ text. Puts written faults text first last) in
-    let done = subst Does stands.plant_is does (begun plant) 0 spelled.0 stands (omega (arith, small)) spelled.1 in
-    let part = cut (written sink) (faults sink) done.0 (done.1.puts (written sink) (faults sink) [] nothing) in
-    let Has : Work → Type 0 = IsOfPlant plant in
-    let has = subst (AllByRecursion Has) done.2.works_are (of_plant plant (worked (lines script)) spelled.0 spelled.1) in
-    let later = works_exist plant done.2.left done.2.next done.2.settled (All-from_recursion Has done.2.left (last_have Has done.2.done done.2.left has)) in
-    let shorter = part.appends.shorter in (
-      record {
-        output = done.0 ++ later.0;
-        replay = tied plant script (done.0 ++ later.0) stands.valid.is_plant (record {
-          works = spelled.0;
-          spelled = spelled.1;
-          last = later.1;
-          all_work = subst (λ (works : List Work). AllWork plant works (begun plant) (done.0 ++ later.0) later.1) (sym done.2.works_are)
-              (AllWork-append plant done.2.done done.2.left (begun plant) done.2.next later.1 done.0 later.0 done.2.all_work later.2);
-        });
-        appends = record {
-          count = part.appends.count;
-          shorter = omega (arith, shorter, length-append done.0 later.0);
-          appends = part.appends.appends ∙ ap (appended (written sink)) (sym (take-append-le part.appends.count done.0 later.0 (omega (arith, shorter))));
-        };
-      },
-      part.count,
-    )
+-- All works were done: the whole text, and all packets.
+pub came_whole : (plant : PlantData) (script text : List ℕ) (packets : List (List ℕ)) (failed : Bool) (before now : Option (List ℕ)) (sent_before sent_now : Option (List (List ℕ))) → Came plant script (LeavesNone failed) text packets
+    → failed ≡ false → now ≡ appended before text → sent_now ≡ sent_on sent_before packets → HasStreamed plant script before now sent_before sent_now
+came_whole plant script text packets failed before now sent_before sent_now came on given sends =
+    let none = came.leaves on in
+    let text_is : text ++ came.rest ≡ text = ap (λ (rest : List ℕ). text ++ rest) (came.whole none) ∙ append-nil text in
+    let front_is : came.actions ≡ came.parts.front = came.parts.place ∙ ap (λ (later : List Action). came.parts.front ++ later) (came.parts.begins.none none) ∙ append-nil came.parts.front in
+    record {
+      output = text ++ came.rest;
+      replay = came.replay;
+      appends = given ∙ ap (appended before) (sym text_is);
+      actions = came.parts.front;
+      history = subst (IsHistory plant script (text ++ came.rest)) front_is came.history;
+      sends = sends ∙ ap (sent_on sent_before) came.parts.sent;
+    }
+
+-- A write failed: a front of the lines, and the packets of these.
+pub came_front : (plant : PlantData) (script text : List ℕ) (packets : List (List ℕ)) (Leaves : ReplayState → List Work → Type 0) (before now : Option (List ℕ)) (sent_before sent_now : Option (List (List ℕ))) → Came plant script Leaves text packets
+    → AppendsPart text before now → sent_now ≡ sent_on sent_before packets → HasStreamedFront plant script before now sent_before sent_now
+came_front plant script text packets Leaves before now sent_before sent_now came part sends = record {
+  output = text ++ came.rest;
+  replay = came.replay;
+  front = came.parts.front;
+  later = came.parts.later;
+  history = subst (IsHistory plant script (text ++ came.rest)) came.parts.place came.history;
+  appends = subst (λ (text : List ℕ). AppendsPart text before now) came.parts.shown part;
+  sends = sends ∙ ap (sent_on sent_before) came.parts.sent;
+}
+
+-- A send failed: the lines before, and their packets.
+pub came_to_port : (plant : PlantData) (script text : List ℕ) (packets : List (List ℕ)) (before now : Option (List ℕ)) (sent_before sent_now : Option (List (List ℕ))) → Came plant script (LeavesPacket plant) text packets
+    → now ≡ appended before text → sent_now ≡ sent_on sent_before packets → HasStoppedAtPort plant script before now sent_before sent_now
+came_to_port plant script text packets before now sent_before sent_now came given sends =
+    let waits = came.leaves in
+    let next = came.parts.begins.some waits.0 waits.1 waits.2 in
+    record {
+      output = text ++ came.rest;
+      replay = came.replay;
+      front = came.parts.front;
+      failed = next.0;
+      later = next.1;
+      history = subst (IsHistory plant script (text ++ came.rest)) (came.parts.place ∙ ap (λ (later : List Action). came.parts.front ++ later) next.2) came.history;
+      has_packet = λ none. waits.3 (next.3 ∙ none);
+      appends = given ∙ ap (appended before) came.parts.shown;
+      sends = sends ∙ ap (sent_on sent_before) came.parts.sent;
+    }
+
+module _ {K P : Type 0} (written : K → Option (List ℕ)) (faults : K → ℕ) (sent : P → Option (List (List ℕ))) (port_faults : P → ℕ) (plant : PlantData) (script : List ℕ) (replayer : Replayer) (sink now : K)
+    (first last : Output K) (port port_now : P) (stands : StandsAt plant replayer (begun plant) 0) (small : length script < 2 ^ 63) (spelled : (works : List Work) × LinesSpell plant (worked (lines script)) works)
+    (nothing : HasNothing written faults sink first) where
+  -- All that was put was given, and all packets were sent.
+  pub streamed : DoesScript replayer.plant.now script replayer (LeavesNone last.failed) (λ text packets. Puts written faults text first last × SendsAll sent port_faults packets port port_now)
+      → last.failed ≡ false → IsAllGiven written faults last now
+      → HasStreamed plant script (written sink) (written now) (sent port) (sent port_now) × (faults now ≡ faults sink) × (port_faults port_now ≡ port_faults port)
+  streamed does whole given =
+      let done = came plant script replayer (λ plant. LeavesNone last.failed) (λ text packets. Puts written faults text first last × SendsAll sent port_faults packets port port_now) stands small spelled does in
+      let all = given (written sink) (faults sink) done.0 (done.2.0.puts (written sink) (faults sink) [] nothing) in
+      (came_whole plant script done.0 done.1 last.failed (written sink) (written now) (sent port) (sent port_now) done.3 whole all.0 done.2.1.sends, all.1, done.2.1.count)
+
+  -- All that was put was given, and a send failed.
+  pub stopped : DoesScript replayer.plant.now script replayer (LeavesPacket replayer.plant.now) (λ text packets. Puts written faults text first last × SendsUntil sent port_faults packets port port_now)
+      → IsAllGiven written faults last now
+      → HasStoppedAtPort plant script (written sink) (written now) (sent port) (sent port_now) × (faults now ≡ faults sink) × (port_faults port_now ≡ one_more (port_faults port))
+  stopped does given =
+      let done = came plant script replayer (λ plant. LeavesPacket plant) (λ text packets. Puts written faults text first last × SendsUntil sent port_faults packets port port_now) stands small spelled does in
+      let all = given (written sink) (faults sink) done.0 (done.2.0.puts (written sink) (faults sink) [] nothing) in
+      (came_to_port plant script done.0 done.1 (written sink) (written now) (sent port) (sent port_now) done.3 all.0 done.2.1.sends, all.1, done.2.1.count)
+
+  -- A write failed, behind which a send may have failed too.
+  pub cut_short : (told : Bool) → OnTrue told (DoesScript replayer.plant.now script replayer (LeavesNone last.failed) (λ text packets. Puts written faults text first last × SendsAll sent port_faults packets port port_now))
+      → OnFalse told (DoesScript replayer.plant.now script replayer (LeavesPacket replayer.plant.now) (λ text packets. Puts written faults text first last × SendsUntil sent port_faults packets port port_now))
+      → IsCutShort written faults last now
+      → HasStreamedFront plant script (written sink) (written now) (sent port) (sent port_now) × (faults now ≡ one_more (faults sink))
+      × ((port_faults port_now ≡ port_faults port) ⊎ (port_faults port_now ≡ one_more (port_faults port)))
+  cut_short true does stops cut =
+      let done = came plant script replayer (λ plant. LeavesNone last.failed) (λ text packets. Puts written faults text first last × SendsAll sent port_faults packets port port_now) stands small spelled does in
+      let part = cut (written sink) (faults sink) done.0 (done.2.0.puts (written sink) (faults sink) [] nothing) in
+      (came_front plant script done.0 done.1 _ (written sink) (written now) (sent port) (sent port_now) done.3 part.appends done.2.1.sends, part.count, inl done.2.1.count)
+  cut_short false does stops cut =
+      let done = came plant script replayer (λ plant. LeavesPacket plant) (λ text packets. Puts written faults text first last × SendsUntil sent port_faults packets port port_now) stands small spelled stops in
+      let part = cut (written sink) (faults sink) done.0 (done.2.0.puts (written sink) (faults sink) [] nothing) in
+      (came_front plant script done.0 done.1 _ (written sink) (written now) (sent port) (sent port_now) done.3 part.appends done.2.1.sends, part.count, inr done.2.1.count)
+
+-- What was streamed was replayed, whole
+pub streamed_whole : (plant : PlantData) (script : List ℕ) (before now : Option (List ℕ)) (sent_before sent_now : Option (List (List ℕ))) → HasStreamed plant script before now sent_before sent_now → HasReplayed plant script before now
+streamed_whole plant script before now sent_before sent_now streamed = record { output = streamed.output; replay = streamed.replay; appends = streamed.appends }
+
+-- or a front of it.
+pub streamed_front : (plant : PlantData) (script : List ℕ) (before now : Option (List ℕ)) (sent_before sent_now : Option (List (List ℕ))) → HasStreamedFront plant script before now sent_before sent_now → HasReplayedFront plant script before now
+streamed_front plant script before now sent_before sent_now streamed = record {
+  output = streamed.output;
+  replay = streamed.replay;
+  appends = subst (λ (text : List ℕ). AppendsPart text before now) (sym (streamed.history.shown ∙ flat_map-append (line_of plant) streamed.front streamed.later))
+      (AppendsPart-more (lines_in plant streamed.front) (lines_in plant streamed.later) before now streamed.appends);
+}
+
+-- No count rises that stays at 0.
+pub never_rises : 0 ≡ one_more 0 → ⊥
+never_rises is = omega (arith, is)

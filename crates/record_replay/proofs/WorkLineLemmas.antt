@@ -6,8 +6,9 @@ use Rattle.record_replay.specs.declared.replayer.Replayer.{Replayer}
 use Rattle.record_replay.specs.LineInside.{IsBad}
 use Rattle.record_replay.specs.FirstInside.{IsFirst, BeginsWithTurn}
 use Rattle.record_replay.specs.Script.{Work, Read, is_skipped, worked, LineSpells, LinesSpell}
-use Rattle.record_replay.specs.Replay.{ReplayState, AllWork}
-use Rattle.record_replay.specs.ReplayerInside.{StandsAt, MayDo, HasDone, HasDoneLine, DoesWork, DoesLine, need_of}
+use Rattle.record_replay.specs.Replay.{ReplayState}
+use Rattle.record_replay.specs.PortInside.{packets_at, AllSent}
+use Rattle.record_replay.specs.ReplayerInside.{StandsAt, MayDo, HasDone, HasDoneLine, DoesWork, DoesLine, HasPacket, LineHasPacket, need_of}
 use Rattle.record_replay.proofs.LineSpellsLemmas.{one_work}
 use Rattle.record_replay.proofs.NeedLemmas.{need_within}
 use Rattle.record_replay.proofs.LinesSpellLemmas.{worked-cons}
@@ -59,18 +60,19 @@ works_bad plant line works bad spelled = bad_one plant line works bad.1 (subst (
 
 -- The work of a line was done.
 pub line_done : (plant : PlantData) (line : List ℕ) (work : Work) (works : List Work) (stand : ReplayState) (used : ℕ) (after : Replayer) (text : List ℕ) → works ≡ work ∷ [] → need_of work ≤ length line
-    → HasDone plant work stand used after text → HasDoneLine plant line works stand used after text
+    → HasDone plant work stand used after text → HasDoneLine plant line works stand used after text (packets_at plant stand.state work)
 line_done plant line work works stand used after text is within done = record {
   next = done.next;
-  all_work = subst (λ (works : List Work). AllWork plant works stand text done.next) (sym is) (done.next, text, [], done.works, (refl, refl), sym (append-nil text));
+  all_sent = subst (λ (works : List Work). AllSent plant works stand text (packets_at plant stand.state work) done.next) (sym is)
+      (done.next, text, [], [], done.works, (refl, refl, refl), sym (append-nil text), sym (append-nil (packets_at plant stand.state work)));
   stands = stands_later plant after done.next (used + need_of work) (used + length line) (omega (arith, within)) done.stands;
 }
 
 -- A line was skipped.
-pub line_skipped : (plant : PlantData) (line : List ℕ) (works : List Work) (stand : ReplayState) (used : ℕ) (replayer : Replayer) → works ≡ [] → StandsAt plant replayer stand used → HasDoneLine plant line works stand used replayer []
+pub line_skipped : (plant : PlantData) (line : List ℕ) (works : List Work) (stand : ReplayState) (used : ℕ) (replayer : Replayer) → works ≡ [] → StandsAt plant replayer stand used → HasDoneLine plant line works stand used replayer [] []
 line_skipped plant line works stand used replayer is stands = record {
   next = stand;
-  all_work = subst (λ (works : List Work). AllWork plant works stand [] stand) (sym is) (refl, refl);
+  all_sent = subst (λ (works : List Work). AllSent plant works stand [] [] stand) (sym is) (refl, refl, refl);
   stands = stands_later plant replayer stand used (used + length line) (omega arith) stands;
 }
 
@@ -79,17 +81,22 @@ pub may_less : (need more : ℕ) (plant : PlantData) (replayer : Replayer) → n
 may_less need more plant replayer within may = record { stand = may.stand; used = may.used; stands = may.stands; within = omega (arith, within, may.within) }
 
 -- The work that a line spells was done, and so the line's.
-pub does_line : (plant : PlantData) (line : List ℕ) (work : Work) (before after : Replayer) (IsPut : List ℕ → Type 0) → is_skipped line ≡ false → LineSpells plant line work → DoesWork plant work before after IsPut
+pub does_line : (plant : PlantData) (line : List ℕ) (work : Work) (before after : Replayer) (IsPut : List ℕ → List (List ℕ) → Type 0) → is_skipped line ≡ false → LineSpells plant line work → DoesWork plant work before after IsPut
     → DoesLine plant line before after IsPut
 does_line plant line work before after IsPut unskipped spells does stand used works stands within spelled =
     let need = need_within plant line work spells in
     let done = does stand used stands (omega (arith, within, need)) in
-    (done.0, done.1, line_done plant line work works stand used after done.0 (works_one plant line work works unskipped spells spelled) need done.2)
+    (done.0, packets_at plant stand.state work, done.1, line_done plant line work works stand used after done.0 (works_one plant line work works unskipped spells spelled) need done.2)
 
 -- A line that is skipped has no work.
-pub does_nothing : (plant : PlantData) (line : List ℕ) (replayer : Replayer) (IsPut : List ℕ → Type 0) → is_skipped line ≡ true → IsPut [] → DoesLine plant line replayer replayer IsPut
+pub does_nothing : (plant : PlantData) (line : List ℕ) (replayer : Replayer) (IsPut : List ℕ → List (List ℕ) → Type 0) → is_skipped line ≡ true → IsPut [] [] → DoesLine plant line replayer replayer IsPut
 does_nothing plant line replayer IsPut skipped put stand used works stands within spelled =
-    ([], put, line_skipped plant line works stand used replayer (works_none plant line works skipped spelled) stands)
+    ([], [], put, line_skipped plant line works stand used replayer (works_none plant line works skipped spelled) stands)
+
+-- A line has a packet if its work has one.
+pub line_has : (plant : PlantData) (line : List ℕ) (work : Work) (before : Replayer) → is_skipped line ≡ false → LineSpells plant line work → HasPacket plant work before → LineHasPacket plant line before
+line_has plant line work before unskipped spells has stand used works stands spelled =
+    (work, [], works_one plant line work works unskipped spells spelled, has stand used stands)
 
 -- The first line of a text is a turn with these bytes, which were lent. It may be done,
 pub first_may : (plant : PlantData) (replayer : Replayer) (text piece lent behind : List ℕ) (panel : ℕ) → BeginsWithTurn plant text panel piece behind → lent ≡ piece → MayDo (length text) plant replayer
@@ -99,7 +106,7 @@ first_may plant replayer text piece lent behind panel turn is may =
     may_less (need_of (Read panel lent)) (length text) plant replayer (omega (arith, turn.1.within, need_within plant turn.0 (Read panel lent) work)) may
 
 -- and once it was, the line's work is done.
-pub first_done : (plant : PlantData) (text piece lent behind : List ℕ) (panel : ℕ) (before after : Replayer) (IsPut : List ℕ → Type 0) → BeginsWithTurn plant text panel piece behind → lent ≡ piece
+pub first_done : (plant : PlantData) (text piece lent behind : List ℕ) (panel : ℕ) (before after : Replayer) (IsPut : List ℕ → List (List ℕ) → Type 0) → BeginsWithTurn plant text panel piece behind → lent ≡ piece
     → DoesWork plant (Read panel lent) before after IsPut → (line : List ℕ) × IsFirst text line behind × DoesLine plant line before after IsPut
 first_done plant text piece lent behind panel before after IsPut turn is does =
     let work = subst (λ (piece : List ℕ). LineSpells plant turn.0 (Read panel piece)) (sym is) turn.2.1 in

@@ -1,17 +1,15 @@
 -- What a script makes of the plant and the sessions.
-use Rattle.std.proofs.Common.{◌≡◌, ℕ, ◌+◌, ◌^◌, ◌≤◌, ◌<◌, Bool, false, List, [], ◌∷◌, ◌++◌, length, Option, refl, sym, ap, ◌∙◌, subst, arith}
+use Rattle.std.proofs.Common.{◌≡◌, ℕ, ◌+◌, ◌^◌, ◌≤◌, ◌<◌, List, [], ◌∷◌, ◌++◌, length, refl, sym, ap, ◌∙◌, subst, arith}
 use Rattle.std.proofs.lemmas.List.{append_assoc}
 use Rattle.plant_config.specs.Plant.{PlantData}
 use Rattle.record_replay.specs.declared.replayer.Replayer.{Replayer}
-use Rattle.record_replay.specs.declared.output.Output.{Output}
-use Rattle.record_replay.specs.OutputInside.{Puts}
-use Rattle.record_replay.specs.OutputLaws.{Puts-more}
 use Rattle.record_replay.specs.Script.{Work, lines, worked, LinesSpell}
 use Rattle.record_replay.specs.Replay.{ReplayState}
-use Rattle.record_replay.specs.ReplayerInside.{MayDo, DoesLine, IsOnTheWay, PlaysOn, DoesScript}
+use Rattle.record_replay.specs.PortInside.{LeavesPacket}
+use Rattle.record_replay.specs.ReplayerInside.{MayDo, DoesLine, LineHasPacket, IsOnTheWay, PlaysOn, DoesScript}
 use Rattle.record_replay.proofs.LinesSpellLemmas.{worked-append}
 use Rattle.record_replay.proofs.WorkLineLemmas.{no_works}
-use Rattle.record_replay.proofs.WorksLemmas.{AllWork-append}
+use Rattle.record_replay.proofs.SentLemmas.{AllSent-append}
 
 -- Lines that spell works do so in two parts.
 record InParts (plant : PlantData) (front later : List (List ℕ)) (works : List Work) : Type 0 where
@@ -41,7 +39,7 @@ first_line plant rest line after left is spelled =
     (subst (λ (all : List (List ℕ)). LinesSpell plant all left) (ap worked is ∙ worked-append (line ∷ []) (lines after)) spelled)
 
 -- A script begins.
-pub begins : (plant : PlantData) (script : List ℕ) (replayer : Replayer) (IsPut : List ℕ → Type 0) → IsPut [] → PlaysOn plant script script replayer replayer IsPut
+pub begins : (plant : PlantData) (script : List ℕ) (replayer : Replayer) (IsPut : List ℕ → List (List ℕ) → Type 0) → IsPut [] [] → PlaysOn plant script script replayer replayer IsPut
 begins plant script replayer IsPut put stand used works stands within spelled = record {
   done = [];
   left = works;
@@ -49,15 +47,16 @@ begins plant script replayer IsPut put stand used works stands within spelled = 
   spelled = spelled;
   next = stand;
   text = [];
+  packets = [];
   put = put;
-  all_work = (refl, refl);
+  all_sent = (refl, refl, refl);
   used = used;
   stands = stands;
   within = omega arith;
 }
 
 -- The lines that are left may be done.
-pub rest_may : (plant : PlantData) (works : List Work) (stand : ReplayState) (all : ℕ) (rest : List ℕ) (now : Replayer) (IsPut : List ℕ → Type 0) → all < 2 ^ 63
+pub rest_may : (plant : PlantData) (works : List Work) (stand : ReplayState) (all : ℕ) (rest : List ℕ) (now : Replayer) (IsPut : List ℕ → List (List ℕ) → Type 0) → all < 2 ^ 63
     → IsOnTheWay plant works stand all rest now IsPut → MayDo (length rest) plant now
 rest_may plant works stand all rest now IsPut small way = record { stand = way.next; used = way.used; stands = way.stands; within = omega (arith, way.within, small) }
 
@@ -66,11 +65,14 @@ pub first_spelled : (plant : PlantData) (text line behind : List ℕ) → lines 
     → (works : List Work) × LinesSpell plant (worked (line ∷ [])) works
 first_spelled plant text line behind is spelled = let parts = first_line plant text line behind spelled.0 is spelled.1 in (parts.done, parts.front_spelled)
 
+-- What was put before a line, and by it, is put as a whole.
+abbrev pub PutOn : (Far Here Put : List ℕ → List (List ℕ) → Type 0) → Type 0
+PutOn Far Here Put = (text more : List ℕ) (packets others : List (List ℕ)) → Far text packets → Here more others → Put (text ++ more) (packets ++ others)
+
 -- A line more was done.
-pub goes_on : {K : Type 0} (written : K → Option (List ℕ)) (faults : K → ℕ) (plant : PlantData) (script rest line after : List ℕ) (before now then : Replayer) (first mid last : Output K) → lines rest ≡ line ∷ lines after
-    → length line + length after ≤ length rest → PlaysOn plant script rest before now (λ text. Puts written faults text first mid) → DoesLine plant line now then (λ text. Puts written faults text mid last)
-    → PlaysOn plant script after before then (λ text. Puts written faults text first last)
-goes_on written faults plant script rest line after before now then first mid last is shorter way does stand used works stands within spelled =
+pub goes_on : (plant : PlantData) (script rest line after : List ℕ) (before now then : Replayer) (Far Here Put : List ℕ → List (List ℕ) → Type 0) → PutOn Far Here Put → lines rest ≡ line ∷ lines after
+    → length line + length after ≤ length rest → PlaysOn plant script rest before now Far → DoesLine plant line now then Here → PlaysOn plant script after before then Put
+goes_on plant script rest line after before now then Far Here Put on is shorter way does stand used works stands within spelled =
     let so_far = way stand used works stands within spelled in
     let parts = first_line plant rest line after so_far.left is so_far.spelled in
     let done = does so_far.next so_far.used parts.done so_far.stands (omega (arith, so_far.within, within, shorter)) parts.front_spelled in
@@ -79,28 +81,56 @@ goes_on written faults plant script rest line after before now then first mid la
       left = parts.left;
       works_are = so_far.works_are ∙ ap (λ (left : List Work). so_far.done ++ left) parts.works_are ∙ sym (append_assoc so_far.done parts.done parts.left);
       spelled = parts.later_spelled;
-      next = done.2.next;
+      next = done.3.next;
       text = so_far.text ++ done.0;
-      put = Puts-more written faults so_far.text done.0 first mid last so_far.put done.1;
-      all_work = AllWork-append plant so_far.done parts.done stand so_far.next done.2.next so_far.text done.0 so_far.all_work done.2.all_work;
+      packets = so_far.packets ++ done.1;
+      put = on so_far.text done.0 so_far.packets done.1 so_far.put done.2;
+      all_sent = AllSent-append plant so_far.done parts.done stand so_far.next done.3.next so_far.text done.0 so_far.packets done.1 so_far.all_sent done.3.all_sent;
       used = so_far.used + length line;
-      stands = done.2.stands;
+      stands = done.3.stands;
       within = omega (arith, so_far.within, shorter);
     }
 
--- All lines were done, or the output failed.
-pub script_done : (plant : PlantData) (script rest : List ℕ) (before now : Replayer) (failed : Bool) (IsPut : List ℕ → Type 0) → PlaysOn plant script rest before now IsPut → (failed ≡ false → rest ≡ []) → DoesScript plant script before failed IsPut
-script_done plant script rest before now failed IsPut way over stand used works stands within spelled =
+-- What was done of a script, by what is left of it.
+pub script_done : (plant : PlantData) (script rest : List ℕ) (before now : Replayer) (Leaves : ReplayState → List Work → Type 0) (IsPut : List ℕ → List (List ℕ) → Type 0) → PlaysOn plant script rest before now IsPut
+    → ((stand : ReplayState) (left : List Work) → LinesSpell plant (worked (lines rest)) left → Leaves stand left) → DoesScript plant script before Leaves IsPut
+script_done plant script rest before now Leaves IsPut way leaves stand used works stands within spelled =
     let so_far = way stand used works stands within spelled in (
       so_far.text,
+      so_far.packets,
       so_far.put,
       record {
         done = so_far.done;
         left = so_far.left;
         works_are = so_far.works_are;
         next = so_far.next;
-        all_work = so_far.all_work;
+        all_sent = so_far.all_sent;
         settled = so_far.stands.settled;
-        whole = λ on. no_works plant so_far.left (subst (λ (rest : List ℕ). LinesSpell plant (worked (lines rest)) so_far.left) (over on) so_far.spelled);
+        leaves = leaves so_far.next so_far.left so_far.spelled;
+      },
+    )
+
+-- Nothing is left of a script of which no bytes are left.
+pub leaves_none : (plant : PlantData) (rest : List ℕ) (left : List Work) → rest ≡ [] → LinesSpell plant (worked (lines rest)) left → left ≡ []
+leaves_none plant rest left is spelled = no_works plant left (subst (λ (rest : List ℕ). LinesSpell plant (worked (lines rest)) left) is spelled)
+
+-- A script stops at a line whose packet wasn't sent.
+pub script_stops : (plant : PlantData) (script rest line after : List ℕ) (before now : Replayer) (Far Put : List ℕ → List (List ℕ) → Type 0) → ((text : List ℕ) (packets : List (List ℕ)) → Far text packets → Put text packets)
+    → lines rest ≡ line ∷ lines after → PlaysOn plant script rest before now Far → LineHasPacket plant line now → DoesScript plant script before (LeavesPacket plant) Put
+script_stops plant script rest line after before now Far Put on is way has stand used works stands within spelled =
+    let so_far = way stand used works stands within spelled in
+    let parts = first_line plant rest line after so_far.left is so_far.spelled in
+    let packet = has so_far.next so_far.used parts.done so_far.stands parts.front_spelled in (
+      so_far.text,
+      so_far.packets,
+      on so_far.text so_far.packets so_far.put,
+      record {
+        done = so_far.done;
+        left = so_far.left;
+        works_are = so_far.works_are;
+        next = so_far.next;
+        all_sent = so_far.all_sent;
+        settled = so_far.stands.settled;
+        leaves = (packet.0, packet.1 ++ parts.left, parts.works_are ∙ ap (λ (works : List Work). works ++ parts.left) packet.2, packet.3);
       },
     )

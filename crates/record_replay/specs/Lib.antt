@@ -16,5 +16,9 @@ pub mod StandInside
 pub mod ReplayerInside
 pub mod Laws
 pub mod TiedReplay
+pub mod Streamed
+pub mod PortInside
+pub mod Monitor
+pub mod MonitorInside
 pub mod Answered
 pub mod ScriptLaws

@@ -89,3 +89,10 @@ turn_head panel = codes "< " ++ decimal panel ++ codes " "
 abbrev pub turn_end : Bool → List ℕ
 turn_end true = line_feed ∷ []
 turn_end false = codes "-" ++ line_feed ∷ []
+
+-- the output line of a display poll of a screen, with this behind the screen, and how it begins
+abbrev pub screen_head : ℕ → List ℕ
+screen_head screen = codes "* " ++ decimal screen ++ codes " "
+
+abbrev pub screen_line : ℕ → List ℕ → List ℕ
+screen_line screen text = codes "* " ++ decimal screen ++ codes " " ++ text ++ line_feed ∷ []

@@ -1,5 +1,5 @@
 -- How the plant and the sessions of a replay stand, and what works make of them.
-use Rattle.std.specs.Prelude.{◌≡◌, ℕ, ◌+◌, ◌*◌, ◌^◌, ◌<◌, ◌≤◌, zero, suc, ◌==◌, ◌||◌, if◌then◌else◌, Bool, false, List, [], ◌∷◌, ◌++◌, length, slice_index_or}
+use Rattle.std.specs.Prelude.{◌≡◌, ◌≢◌, ℕ, ◌+◌, ◌*◌, ◌^◌, ◌<◌, ◌≤◌, zero, suc, ◌==◌, ◌||◌, if◌then◌else◌, Bool, List, [], ◌∷◌, ◌++◌, length, slice_index_or}
 use Rattle.dle_framing.specs.Numbers.{etx, ack_byte, nak_byte}
 use Rattle.plant_config.specs.Plant.{PlantData}
 use Rattle.plant_core.specs.Answer.{room_of}
@@ -10,7 +10,8 @@ use Rattle.panel_session.specs.SoFar.{Progress, nothing_yet}
 use Rattle.panel_session.specs.Turns.{bytes_of}
 use Rattle.record_replay.specs.declared.replayer.Replayer.{Replayer}
 use Rattle.record_replay.specs.Script.{Work, Read, Leave, Show, lines, worked, LinesSpell}
-use Rattle.record_replay.specs.Replay.{ReplayState, Advances, AllWork}
+use Rattle.record_replay.specs.Replay.{ReplayState, Advances}
+use Rattle.record_replay.specs.PortInside.{packets_at, AllSent, LeavesPacket}
 use Rattle.record_replay.specs.StandInside.{IsSettled}
 
 -- The session at the place of each panel stands for what the panel's session has done.
@@ -76,46 +77,61 @@ pub record HasDone (plant : PlantData) (work : Work) (stand : ReplayState) (used
   pub works : Advances plant work stand text next
   pub stands : StandsAt plant after next (used + need_of work)
 
--- So it is from wherever the replayer may have stood, with one text for all.
-abbrev pub DoesWork : PlantData → Work → Replayer → Replayer → (List ℕ → Type 0) → Type 0
+-- So it is from wherever the replayer may have stood, with one text for all, and with the work's packets.
+abbrev pub DoesWork : PlantData → Work → Replayer → Replayer
+    → (List ℕ → List (List ℕ) → Type 0) → Type 0
 DoesWork plant work before after IsPut =
     (stand : ReplayState) (used : ℕ) → StandsAt plant before stand used
     → used + need_of work < 2 ^ 63
-    → (text : List ℕ) × IsPut text × HasDone plant work stand used after text
+    → (text : List ℕ) × IsPut text (packets_at plant stand.state work)
+    × HasDone plant work stand used after text
 
 -- The works of one line were done, none where it is skipped.
 pub record HasDoneLine (plant : PlantData) (line : List ℕ) (works : List Work) (stand : ReplayState)
-    (used : ℕ) (after : Replayer) (text : List ℕ) : Type 0 where
+    (used : ℕ) (after : Replayer) (text : List ℕ) (packets : List (List ℕ)) : Type 0 where
   pub next : ReplayState
-  pub all_work : AllWork plant works stand text next
+  pub all_sent : AllSent plant works stand text packets next
   pub stands : StandsAt plant after next (used + length line)
 
-abbrev pub DoesLine : PlantData → List ℕ → Replayer → Replayer → (List ℕ → Type 0)
-    → Type 0
+abbrev pub DoesLine : PlantData → List ℕ → Replayer → Replayer
+    → (List ℕ → List (List ℕ) → Type 0) → Type 0
 DoesLine plant line before after IsPut =
     (stand : ReplayState) (used : ℕ) (works : List Work) → StandsAt plant before stand used
     → used + length line < 2 ^ 63
     → LinesSpell plant (worked (line ∷ [])) works
-    → (text : List ℕ) × IsPut text × HasDoneLine plant line works stand used after text
+    → (text : List ℕ) × (packets : List (List ℕ)) × IsPut text packets
+    × HasDoneLine plant line works stand used after text packets
 
--- Some of the works of a script were done, with this text, and this is left of the script, whose lines spell the others.
+-- The work of a line has a packet, wherever the replayer may have stood.
+abbrev pub HasPacket : PlantData → Work → Replayer → Type 0
+HasPacket plant work before = (stand : ReplayState) (used : ℕ) → StandsAt plant before stand used
+    → packets_at plant stand.state work ≢ []
+
+abbrev pub LineHasPacket : PlantData → List ℕ → Replayer → Type 0
+LineHasPacket plant line before =
+    (stand : ReplayState) (used : ℕ) (works : List Work) → StandsAt plant before stand used
+    → LinesSpell plant (worked (line ∷ [])) works → LeavesPacket plant stand works
+
+-- Some of the works of a script were done, with this text and these packets, and this is left of the script, whose lines spell
+-- the others.
 pub record IsOnTheWay (plant : PlantData) (works : List Work) (stand : ReplayState) (all : ℕ)
-    (rest : List ℕ) (now : Replayer) (IsPut : List ℕ → Type 0) : Type 0 where
+    (rest : List ℕ) (now : Replayer) (IsPut : List ℕ → List (List ℕ) → Type 0) : Type 0 where
   pub done : List Work
   pub left : List Work
   pub works_are : works ≡ done ++ left
   pub spelled : LinesSpell plant (worked (lines rest)) left
   pub next : ReplayState
   pub text : List ℕ
-  pub put : IsPut text
-  pub all_work : AllWork plant done stand text next
+  pub packets : List (List ℕ)
+  pub put : IsPut text packets
+  pub all_sent : AllSent plant done stand text packets next
   pub used : ℕ
   pub stands : StandsAt plant now next used
   pub within : used + length rest ≤ all
 
 -- So it is from wherever the replayer may have stood.
 abbrev pub PlaysOn : PlantData → List ℕ → List ℕ → Replayer → Replayer
-    → (List ℕ → Type 0) → Type 0
+    → (List ℕ → List (List ℕ) → Type 0) → Type 0
 PlaysOn plant script rest before now IsPut =
     (stand : ReplayState) (used : ℕ) (works : List Work) → StandsAt plant before stand used
     → used + length script < 2 ^ 63
@@ -124,19 +140,21 @@ PlaysOn plant script rest before now IsPut =
 
 -- The works of a script were done, all of them or a front, behind which the others may still be done.
 pub record HasDoneScript (plant : PlantData) (works : List Work) (stand : ReplayState)
-    (failed : Bool) (text : List ℕ) : Type 0 where
+    (Leaves : ReplayState → List Work → Type 0) (text : List ℕ) (packets : List (List ℕ))
+    : Type 0 where
   pub done : List Work
   pub left : List Work
   pub works_are : works ≡ done ++ left
   pub next : ReplayState
-  pub all_work : AllWork plant done stand text next
+  pub all_sent : AllSent plant done stand text packets next
   pub settled : IsSettled plant next
-  pub whole : failed ≡ false → left ≡ []
+  pub leaves : Leaves next left
 
-abbrev pub DoesScript : PlantData → List ℕ → Replayer → Bool → (List ℕ → Type 0)
-    → Type 0
-DoesScript plant script before failed IsPut =
+abbrev pub DoesScript : PlantData → List ℕ → Replayer → (ReplayState → List Work → Type 0)
+    → (List ℕ → List (List ℕ) → Type 0) → Type 0
+DoesScript plant script before Leaves IsPut =
     (stand : ReplayState) (used : ℕ) (works : List Work) → StandsAt plant before stand used
     → used + length script < 2 ^ 63
     → LinesSpell plant (worked (lines script)) works
-    → (text : List ℕ) × IsPut text × HasDoneScript plant works stand failed text
+    → (text : List ℕ) × (packets : List (List ℕ)) × IsPut text packets
+    × HasDoneScript plant works stand Leaves text packets

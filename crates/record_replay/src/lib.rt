@@ -1,6 +1,6 @@
 //! Replays: scripts of what panels sent, replayed on one plant by one thread. A script's lines are all read before
 //! the first is worked, so a script with a bad line writes nothing. What is written is the script's one replay
-//! text.
+//! text, and what its displays are told may be sent to a port.
 #![tactic(auto)]
 
 mod check;
@@ -9,6 +9,8 @@ mod drain;
 mod first;
 mod laws;
 mod line;
+mod monitor;
+mod no_port;
 mod number;
 mod output;
 mod pairs;
@@ -17,7 +19,10 @@ mod replayer;
 mod room;
 mod script;
 mod show;
+mod streamed;
 mod take;
 
 pub use laws::{lines_answer_items, no_tie_carries_two_sources, one_history, one_item, one_replay};
+pub use monitor::{MonitorFault, monitor_stream};
 pub use replay::{ReplayFault, replay_script};
+pub use streamed::{StreamedFault, replay_script_to};

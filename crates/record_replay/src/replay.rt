@@ -1,18 +1,14 @@
 //! A script's lines are all read, and then their works are done.
 
-ghost use Rattle.std.specs.Prelude.{◌≡◌, ◌≢◌, Err, ℕ, OnOk, IsErrOf};
+ghost use Rattle.std.specs.Prelude.{◌≡◌, Err, ℕ, OnOk, IsErrOf};
 ghost use Rattle.ctl_io.specs.Faults.{count_after};
 ghost use Rattle.record_replay.specs.declared.replay.ReplayFault.TheVariants.{NoMemory};
 ghost use Rattle.record_replay.specs.Script.{IsFirstBad};
-ghost use Rattle.record_replay.specs.LineInside.{HasWorks};
 ghost use Rattle.record_replay.specs.Replay.{output_failed};
 ghost use Rattle.record_replay.specs.TiedReplay.{HasReplayed, HasReplayedFront};
 
-use crate::check::check_lines;
-use crate::digits::Digits;
-use crate::output::Output;
-use crate::replayer::Replayer;
-use crate::room::Room;
+use crate::no_port::NoPort;
+use crate::streamed::{StreamedFault, replay_script_to};
 use ctl_io::Sink;
 use plant_config::Plant;
 use plant_names::Names;
@@ -39,6 +35,7 @@ impl From<AllocError> for ReplayFault {
 /// Does the works of a script's lines in order on one plant, from its start, with one session a panel, and writes an output
 /// line for each. The names are those of the plant, by which takes are read. All memory is taken before the first line is
 /// worked.
+#[tactic(auto, using(crate::proofs::ReplayScriptLemmas::streamed_whole, crate::proofs::ReplayScriptLemmas::streamed_front, crate::proofs::ReplayScriptLemmas::never_rises))]
 pub fn replay_script<K: Sink>(
     alloc: Global,
     plant: &Plant,
@@ -61,40 +58,12 @@ pub fn replay_script<K: Sink>(
     // The output's count of faults rose by one at a fault of the output, and else stayed.
     ensures count { K.faults out.new ≡ count_after (output_failed result) (K.faults out.old) }
 {
-    let mut digits = Digits::new(alloc)?;
-    if let Some(number) = check_lines(&mut digits, plant, names, script) {
-        return Err(ReplayFault::BadLine(number));
-    }
-    replay_lines(alloc, plant, names, &mut digits, script, out)
-}
-
-// So where each line has a form, with the plant's names.
-fn replay_lines<K: Sink>(
-    alloc: Global,
-    plant: &Plant,
-    names: &Names,
-    digits: &mut Digits,
-    script: &[u8],
-    out: &mut K,
-) -> Result<(), ReplayFault>
-    requires names { names.now ≡ plant.now }
-    requires form { HasWorks plant.now script.now }
-    ensures ok { OnOk result
-        (HasReplayed plant.now script.now (K.written out.old) (K.written out.new)) }
-    ensures no_bad_line { (number : ℕ) → result ≢ Err (ReplayFault.BadLine number) }
-    ensures output_fault { IsErrOf result ReplayFault.OutputFault
-        → HasReplayedFront plant.now script.now (K.written out.old) (K.written out.new) }
-    ensures no_memory { IsErrOf result ReplayFault.NoMemory
-        → K.written out.new ≡ K.written out.old }
-    ensures count { K.faults out.new ≡ count_after (output_failed result) (K.faults out.old) }
-{
-    let mut replayer = Replayer::start(alloc, plant, names)?;
-    let mut room = Room::new(alloc)?;
-    let mut output = Output::new(&mut room, out);
-    replayer.work(script, names, digits, &mut output);
-    if output.finish() {
-        Ok(())
-    } else {
-        Err(ReplayFault::OutputFault)
+    match replay_script_to(alloc, plant, names, script, out, &mut NoPort) {
+        Ok(()) => Ok(()),
+        Err(StreamedFault::NoMemory) => Err(ReplayFault::NoMemory),
+        Err(StreamedFault::BadLine(number)) => Err(ReplayFault::BadLine(number)),
+        Err(StreamedFault::OutputFault) => Err(ReplayFault::OutputFault),
+        // No send of this port fails.
+        Err(StreamedFault::PortFault) => unreachable!(),
     }
 }

@@ -1,13 +1,20 @@
-//! The output line of a display poll.
+//! What a display poll tells: its packet and its output line.
 
-ghost use Rattle.std.specs.Prelude.{◌≡◌, ◌≤◌, length, IfOk};
+ghost use Rattle.std.specs.Prelude.{◌≡◌, ◌≢◌, ◌≤◌, true, [], ◌∷◌, length, IfOk};
+ghost use Rattle.std.specs.Bool.{OnTrue, OnFalse};
+ghost use Rattle.hex.specs.Hex.{encode_upper};
+ghost use Rattle.tsl_umd5.specs.Packet.{IsPacketText};
+ghost use Rattle.plant_config.specs.Screens.{has_screen};
 ghost use Rattle.plant_core.specs.Displays.{lamp_limit};
 ghost use Rattle.panel_session.specs.DisplayPacket.{longest_packet, packet_of, AreLamps};
-ghost use Rattle.record_replay.specs.OutputInside.{Puts};
-ghost use Rattle.record_replay.specs.Replay.{polled_text, show_line};
+ghost use Rattle.record_replay.specs.OutputInside.{Puts, screen_head, screen_line};
+ghost use Rattle.record_replay.specs.Replay.{show_line};
+ghost use Rattle.record_replay.specs.Streamed.{TakesLamps, packets_told};
+ghost use Rattle.record_replay.specs.PortInside.{SendsAll, SendsUntil};
 
 use crate::drain::Drain;
 use crate::output::Output;
+use ctl_net::{DisplayPort, Sent};
 use itoa::Buffer;
 use panel_session::display_packet;
 use plant_config::Plant;
@@ -47,7 +54,8 @@ impl PacketRoom {
     fn write(&mut self, plant: &Plant, screen: u16, lamps: &[Answer])
         requires lamps { AreLamps plant.now lamps.now }
         requires few { length lamps.now ≤ lamp_limit }
-        ensures { self.new ≡ packet_of plant.now screen lamps.now }
+        ensures packet { self.new ≡ packet_of plant.now screen lamps.now }
+        ensures read { IsPacketText self.new }
     {
         self.bytes.clear();
         display_packet(plant, screen, lamps, &mut self.bytes);
@@ -62,43 +70,78 @@ impl PacketRoom {
     }
 }
 
-// Puts the output line of a display poll of a screen that was answered so.
-pub(crate) fn put_show_line<K: Drain>(
+// SendsAll the packet of a display poll of a screen that was answered so, if it has one, and puts its output line. Where the send
+// fails nothing is put, and the answer is no.
+pub(crate) fn tell_show<K: Drain, P: DisplayPort>(
     plant: &Plant,
     screen: u16,
     answers: &[Answer],
     packet: &mut PacketRoom,
     out: &mut Output<'_, K>,
-)
+    port: &mut P,
+) -> bool
+    requires screen { has_screen plant.now screen ≡ true }
     requires lamps { AreLamps plant.now answers.now }
     requires few { length answers.now ≤ lamp_limit }
-    ensures { Puts K.written K.faults (show_line plant.now screen answers.now) out.old out.new }
+    requires takes { TakesLamps plant.now P.takes }
+    ensures told { OnTrue result
+        (Puts K.written K.faults (show_line plant.now screen answers.now) out.old out.new
+        × SendsAll P.packets P.faults (packets_told plant.now screen answers.now)
+        port.old port.new) }
+    ensures failed { OnFalse result (Puts K.written K.faults [] out.old out.new
+        × SendsUntil P.packets P.faults [] port.old port.new
+        × (packets_told plant.now screen answers.now ≢ [])) }
+{
+    match answers {
+        [] => put_word(screen, b"quiet", out),
+        [Answer::Finished, ..] => put_word(screen, b"finished", out),
+        _ => {
+            packet.write(plant, screen, answers);
+            return tell_packet(screen, packet.bytes(), out, port);
+        }
+    }
+    true
+}
+
+// Puts the output line of a display poll that was answered without lamps.
+fn put_word<K: Drain>(screen: u16, word: &[u8], out: &mut Output<'_, K>)
+    requires { length word.now ≤ 65536 }
+    ensures { Puts K.written K.faults (screen_line screen word.now) out.old out.new }
+{
+    put_head(screen, out);
+    out.put(word);
+    out.put(b"\n");
+}
+
+// SendsAll a packet, and puts its output line.
+fn tell_packet<K: Drain, P: DisplayPort>(
+    screen: u16,
+    packet: &[u8],
+    out: &mut Output<'_, K>,
+    port: &mut P,
+) -> bool
+    requires few { length packet.now ≤ longest_packet }
+    requires takes { P.takes packet.now }
+    ensures told { OnTrue result
+        (Puts K.written K.faults (screen_line screen (encode_upper packet.now)) out.old out.new
+        × SendsAll P.packets P.faults (packet.now ∷ []) port.old port.new) }
+    ensures failed { OnFalse result (Puts K.written K.faults [] out.old out.new
+        × SendsUntil P.packets P.faults [] port.old port.new) }
+{
+    if let Sent::Failed = port.send(packet) {
+        return false;
+    }
+    put_head(screen, out);
+    out.put_hex(packet);
+    out.put(b"\n");
+    true
+}
+
+// Puts how the output line of a display poll begins.
+fn put_head<K: Drain>(screen: u16, out: &mut Output<'_, K>)
+    ensures { Puts K.written K.faults (screen_head screen) out.old out.new }
 {
     out.put(b"* ");
     out.put(Buffer::new().format(screen).as_bytes());
     out.put(b" ");
-    put_polled(plant, screen, answers, packet, out);
-    out.put(b"\n");
-}
-
-// Puts what stands behind the screen.
-fn put_polled<K: Drain>(
-    plant: &Plant,
-    screen: u16,
-    answers: &[Answer],
-    packet: &mut PacketRoom,
-    out: &mut Output<'_, K>,
-)
-    requires lamps { AreLamps plant.now answers.now }
-    requires few { length answers.now ≤ lamp_limit }
-    ensures { Puts K.written K.faults (polled_text plant.now screen answers.now) out.old out.new }
-{
-    match answers {
-        [] => out.put(b"quiet"),
-        [Answer::Finished, ..] => out.put(b"finished"),
-        _ => {
-            packet.write(plant, screen, answers);
-            out.put_hex(packet.bytes());
-        }
-    }
 }

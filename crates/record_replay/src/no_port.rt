@@ -1,0 +1,24 @@
+//! A port where nobody listens, for a replay that is only written.
+
+ghost use Rattle.std.specs.Prelude.{None};
+
+use ctl_net::{DisplayPort, Sent};
+
+/// Takes every packet and keeps none, so that a replay to it costs nothing.
+#[derive(Clone, Copy)]
+pub(crate) struct NoPort;
+
+impl DisplayPort for NoPort {
+    ghost takes = { λ _. Unit {0} };
+
+    ghost packets = { λ _. None };
+
+    ghost faults = { λ _. 0 };
+
+    #[inline(always)]
+    fn send(&mut self, _: &[u8]) -> Sent {
+        Sent::Done
+    }
+
+    fn pause(&mut self) {}
+}

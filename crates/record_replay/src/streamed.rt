@@ -1,0 +1,123 @@
+//! A replay whose display polls are sent to a port.
+
+ghost use Rattle.std.specs.Prelude.{◌≡◌, ◌≢◌, Err, ℕ, OnOk, IsErrOf};
+ghost use Rattle.ctl_io.specs.Faults.{count_after};
+ghost use Rattle.record_replay.specs.declared.streamed.StreamedFault.TheVariants.{NoMemory};
+ghost use Rattle.record_replay.specs.Script.{IsFirstBad};
+ghost use Rattle.record_replay.specs.LineInside.{HasWorks};
+ghost use Rattle.record_replay.specs.Streamed.{HasStreamed, HasStreamedFront, HasStoppedAtPort};
+ghost use Rattle.record_replay.specs.Streamed.{TakesLamps, StaysBoth};
+ghost use Rattle.record_replay.specs.Streamed.{stream_failed, PortCounts};
+
+use crate::check::check_lines;
+use crate::digits::Digits;
+use crate::output::Output;
+use crate::replayer::Replayer;
+use crate::room::Room;
+use ctl_io::Sink;
+use ctl_net::DisplayPort;
+use plant_config::Plant;
+use plant_names::Names;
+use std::alloc::{AllocError, Global};
+
+/// Why a replay that was sent to a port ended early.
+#[derive(Clone, Copy, Debug, PartialEq, Eq)]
+pub enum StreamedFault {
+    NoMemory,
+    /// The line of this number, counted from 1, is the first that has no form.
+    BadLine(u64),
+    /// A write of the output failed.
+    OutputFault,
+    /// A send of the port failed.
+    PortFault,
+}
+
+impl From<AllocError> for StreamedFault {
+    ghost from_gives = { λ _ fault. fault ≡ NoMemory };
+
+    fn from(_: AllocError) -> Self {
+        StreamedFault::NoMemory
+    }
+}
+
+/// `replay_script`, with the port sent what the displays are told: before the output line of each display poll that was
+/// answered by lamps, the packet of these. The first send that fails ends the replay, once the lines before are written.
+pub fn replay_script_to<K: Sink, P: DisplayPort>(
+    alloc: Global,
+    plant: &Plant,
+    names: &Names,
+    script: &[u8],
+    out: &mut K,
+    port: &mut P,
+) -> Result<(), StreamedFault>
+    requires names { names.now ≡ plant.now }
+    requires takes { TakesLamps plant.now P.takes }
+    ensures ok { OnOk result (HasStreamed plant.now script.now
+        (K.written out.old) (K.written out.new) (P.packets port.old) (P.packets port.new)) }
+    ensures bad_line { (number : ℕ) → result ≡ Err (StreamedFault.BadLine number)
+        → IsFirstBad plant.now script.now number }
+    ensures output_fault { IsErrOf result StreamedFault.OutputFault
+        → HasStreamedFront plant.now script.now
+        (K.written out.old) (K.written out.new) (P.packets port.old) (P.packets port.new) }
+    ensures port_fault { IsErrOf result StreamedFault.PortFault
+        → HasStoppedAtPort plant.now script.now
+        (K.written out.old) (K.written out.new) (P.packets port.old) (P.packets port.new) }
+    // Nothing was written or sent at a bad line, and where memory ran out.
+    ensures same { (number : ℕ) → result ≡ Err (StreamedFault.BadLine number)
+        → StaysBoth (K.written out.old) (K.written out.new)
+        (P.packets port.old) (P.packets port.new) }
+    ensures no_memory { IsErrOf result StreamedFault.NoMemory
+        → StaysBoth (K.written out.old) (K.written out.new)
+        (P.packets port.old) (P.packets port.new) }
+    // The counts of faults tell which of the two failed.
+    ensures count { K.faults out.new ≡ count_after (stream_failed result) (K.faults out.old) }
+    ensures port_count { PortCounts result (P.faults port.old) (P.faults port.new) }
+{
+    let mut digits = Digits::new(alloc)?;
+    if let Some(number) = check_lines(&mut digits, plant, names, script) {
+        return Err(StreamedFault::BadLine(number));
+    }
+    replay_lines(alloc, plant, names, &mut digits, script, out, port)
+}
+
+// So where each line has a form, with the plant's names.
+fn replay_lines<K: Sink, P: DisplayPort>(
+    alloc: Global,
+    plant: &Plant,
+    names: &Names,
+    digits: &mut Digits,
+    script: &[u8],
+    out: &mut K,
+    port: &mut P,
+) -> Result<(), StreamedFault>
+    requires names { names.now ≡ plant.now }
+    requires form { HasWorks plant.now script.now }
+    requires takes { TakesLamps plant.now P.takes }
+    ensures ok { OnOk result (HasStreamed plant.now script.now
+        (K.written out.old) (K.written out.new) (P.packets port.old) (P.packets port.new)) }
+    ensures no_bad_line { (number : ℕ) → result ≢ Err (StreamedFault.BadLine number) }
+    ensures output_fault { IsErrOf result StreamedFault.OutputFault
+        → HasStreamedFront plant.now script.now
+        (K.written out.old) (K.written out.new) (P.packets port.old) (P.packets port.new) }
+    ensures port_fault { IsErrOf result StreamedFault.PortFault
+        → HasStoppedAtPort plant.now script.now
+        (K.written out.old) (K.written out.new) (P.packets port.old) (P.packets port.new) }
+    ensures no_memory { IsErrOf result StreamedFault.NoMemory
+        → StaysBoth (K.written out.old) (K.written out.new)
+        (P.packets port.old) (P.packets port.new) }
+    ensures count { K.faults out.new ≡ count_after (stream_failed result) (K.faults out.old) }
+    ensures port_count { PortCounts result (P.faults port.old) (P.faults port.new) }
+{
+    let mut replayer = Replayer::start(alloc, plant, names)?;
+    let mut room = Room::new(alloc)?;
+    let mut output = Output::new(&mut room, out);
+    let sent = replayer.work(script, names, digits, &mut output, port);
+    if !output.finish() {
+        return Err(StreamedFault::OutputFault);
+    }
+    if sent {
+        Ok(())
+    } else {
+        Err(StreamedFault::PortFault)
+    }
+}
