@@ -1,5 +1,7 @@
 //! Scripts, and what they give.
 
+mod streams;
+
 use crate::studio::STUDIO;
 use ctl_io::MemSink;
 use plant_config::Plant;
