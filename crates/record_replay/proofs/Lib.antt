@@ -12,6 +12,7 @@ pub mod SentLemmas
 pub mod MonitorLemmas
 pub mod IsReplayLemmas
 pub mod SessionsLemmas
+pub mod StartLemmas
 pub mod ActionsLemmas
 pub mod ActionsInParts
 pub mod ActionsOnce
