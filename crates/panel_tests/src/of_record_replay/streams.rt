@@ -10,7 +10,8 @@ use std::alloc::{AllocError, Global};
 use std::test::Fail;
 
 // Two displays, then one, then nothing new, and the end.
-const SCRIPT: &[u8] = b"show 0\ntake 0 0 0\tD0\tCAM3\ntake 0 0 0\tD2\tCAM3\nshow 0\nshow 0\nleave 0\n\
+const SCRIPT: &[u8] =
+    b"show 0\ntake 0 0 0\tD0\tCAM3\ntake 0 0 0\tD2\tCAM3\nshow 0\nshow 0\nleave 0\n\
 leave 1\nshow 0\n";
 
 const TOLD: &[u8] = b"* 0 1000000000000100C00000000200C0000000\n\
