@@ -12,4 +12,4 @@ mod words;
 pub use laws::{puts_change_one_number, values_are_put_as_they_stand};
 pub use number_map::NumberMap;
 pub use number_set::{MAX_NUMBERS, NumberSet};
-pub use small_set::{MAX_SMALL_NUMBERS, SmallSet};
+pub use small_set::SmallSet;

@@ -108,6 +108,7 @@ impl NumberSet {
     pub fn is_empty(&self) -> bool
         ensures { IsTrue result ↔ (self.now ≡ empty) }
     {
+        // kit: of `self.top[0] == 0` it isn't proved, since a word is known to fit 64 bits only in a body that reads it.
         self.lowest().is_none()
     }
 

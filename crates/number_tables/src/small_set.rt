@@ -7,9 +7,6 @@ ghost use Rattle.number_tables.specs.Numbers.{lowest, small_limit};
 use crate::words::{clear_bit, lowest_bit, set_bit};
 use std::marker::Model;
 
-/// How many small numbers there are: the members of a small set are 0 to 1,023.
-pub const MAX_SMALL_NUMBERS: u32 = 1_024;
-
 /// A set of numbers below 1,024, which takes no memory of its own.
 #[derive(Debug, Drop)]
 pub struct SmallSet {
