@@ -1,5 +1,5 @@
 -- Each fault of a document, of its keys or of its data, is at a place in it.
-use Rattle.std.proofs.Common.{◌≡◌, ◌⊎◌, ℕ, pos, ◌<◌, ◌≤◌, Bool, true, false, cond, List, [], ◌∷◌, ◌++◌, map, take, length, sum_by, Option, Some, None, IsSomeAnd, Err, refl, inl, inr, subst}
+use Rattle.std.proofs.Common.{◌≡◌, ◌⊎◌, ℕ, pos, ◌<◌, ◌≤◌, Bool, true, false, cond, List, [], ◌∷◌, ◌++◌, map, take, length, sum_by, Option, Some, None, IsSomeAnd, Ok, Err, refl, inl, inr, subst}
 use Rattle.std.specs.List.{AllByRecursion}
 use Rattle.std.specs.Option.{option_map_or}
 use Rattle.std.specs.Result.{ForErr}
@@ -16,6 +16,7 @@ use Rattle.plant_file.specs.declared.fault.PlantFault.{PlantFault}
 use Rattle.plant_file.specs.declared.fault.PlantFault.TheVariants.{NotToml}
 use Rattle.plant_file.specs.Format.{level_keys}
 use Rattle.plant_file.specs.Document.{section_entries}
+use Rattle.plant_file.specs.DataOfText.{document_answer}
 use Rattle.plant_file.specs.FirstFault.{first_fault}
 use Rattle.plant_file.specs.KeyFaults.{place, sections_faults}
 use Rattle.plant_file.specs.Limits.{all_sources_limit, all_destinations_limit}
@@ -28,7 +29,7 @@ use Rattle.plant_file.proofs.FaultPlaces.{AreAt, none_at, one_at, append_at, num
 use Rattle.plant_file.proofs.DocumentPlaces.{sections_at}
 use Rattle.plant_rules.specs.Rules.{key_if, rule_faults, sum_faults, twice_faults}
 use Rattle.plant_rules.specs.Links.{switch_unknown, unknown_faults, not_local_faults, no_pool_faults}
-use Rattle.plant_rules.specs.PlantFile.{data_faults, file_of, file_of_text}
+use Rattle.plant_rules.specs.PlantFile.{data_faults, file_of, file_in, file_of_text}
 use Rattle.plant_rules.proofs.FileOf.{file_of-Err}
 
 -- What a rule names are keys of its section.
@@ -113,16 +114,16 @@ document_at document fault is =
     first_at (sections_faults document) (data_faults (data_of document)) fault (sections_at document) (data_at document) (file_of-Err document fault is)
 
 -- the document of a text, where it is one
-parsed_at : (parsed : Option Members) (fault : PlantFault) → option_map_or file_of parsed (Err NotToml) ≡ Err fault →
+parsed_at : (parsed : Option Members) (fault : PlantFault) → file_in (option_map_or (λ document. Ok document) parsed (Err NotToml)) ≡ Err fault →
     (fault ≡ NotToml) ⊎ IsSomeAnd parsed (λ document. IsSomeAnd (place_of fault) (IsIn document))
 parsed_at None fault is = inl (cc)
 parsed_at (Some document) fault is = inr (document_at document fault is)
 
-text_at : (utf8 : Bool) (parsed : Option Members) (fault : PlantFault) → cond utf8 (option_map_or file_of parsed (Err NotToml)) (Err NotToml) ≡ Err fault →
+text_at : (utf8 : Bool) (parsed : Option Members) (fault : PlantFault) → file_in (cond utf8 (option_map_or (λ document. Ok document) parsed (Err NotToml)) (Err NotToml)) ≡ Err fault →
     (fault ≡ NotToml) ⊎ IsSomeAnd parsed (λ document. IsSomeAnd (place_of fault) (IsIn document))
 text_at true parsed fault is = parsed_at parsed fault is
 text_at false parsed fault is = inl (cc)
 
 pub IsFaultOf-file_of_text : (text : List ℕ) → ForErr (file_of_text text) (IsFaultOf text)
-unfolding file_of_text
+unfolding file_of_text document_answer
 IsFaultOf-file_of_text text fault is = text_at (is_utf8 text) (parse_document text) fault is

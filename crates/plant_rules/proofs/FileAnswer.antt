@@ -1,16 +1,12 @@
 -- What a text says, by what its sections say: the same without a fault of the data, and the first such fault otherwise.
-use Rattle.std.proofs.Common.{◌≡◌, ℕ, List, [], ◌∷◌, ◌++◌, ◌∙◌, Bool, true, false, cond, Option, Some, None, Result, Ok, Err, refl, sym, ap, inl, inr}
-use Rattle.std.specs.Option.{option_map_or}
-use Rattle.std.specs.Str.{is_utf8}
+use Rattle.std.proofs.Common.{◌≡◌, ℕ, List, [], ◌∷◌, ◌++◌, ◌∙◌, Some, None, Result, Ok, Err, refl, sym, ap, inl, inr}
 use Rattle.toml.specs.Data.{Members}
-use Rattle.toml.specs.Parse.{parse_document}
 use Rattle.plant_file.specs.declared.fault.PlantFault.{PlantFault}
-use Rattle.plant_file.specs.declared.fault.PlantFault.TheVariants.{NotToml}
 use Rattle.plant_file.specs.FirstFault.{first_fault, unless_fault, Answers}
 use Rattle.plant_file.specs.KeyFaults.{sections_faults}
 use Rattle.plant_file.specs.FileData.{FileData}
 use Rattle.plant_file.specs.Reading.{data_of}
-use Rattle.plant_rules.specs.PlantFile.{data_faults, file_of, file_of_text}
+use Rattle.plant_rules.specs.PlantFile.{data_faults, file_of, file_in, file_of_text}
 use Rattle.plant_file.specs.Ranges.{AreInRange}
 use Rattle.plant_rules.specs.IsFile.{IsFile}
 use Rattle.plant_file.specs.DataOfText.{document_answer, sections_in, data_of_text}
@@ -31,19 +27,13 @@ checked-file_of : (document : Members) → file_of document ≡ checked (section
 unfolding file_of
 checked-file_of document = checked-faults (data_of document) (sections_faults document)
 
-checked-parsed : (parsed : Option Members) → option_map_or file_of parsed (Err NotToml) ≡ checked (sections_in (option_map_or (λ document. Ok document) parsed (Err NotToml)))
-checked-parsed None = refl
-checked-parsed (Some document) = checked-file_of document
-
-checked-text : (utf8 : Bool) (parsed : Option Members) →
-    cond utf8 (option_map_or file_of parsed (Err NotToml)) (Err NotToml)
-    ≡ checked (sections_in (cond utf8 (option_map_or (λ document. Ok document) parsed (Err NotToml)) (Err NotToml)))
-checked-text true parsed = checked-parsed parsed
-checked-text false parsed = refl
+checked-file_in : (document : Result Members PlantFault) → file_in document ≡ checked (sections_in document)
+checked-file_in (Ok document) = checked-file_of document
+checked-file_in (Err fault) = refl
 
 pub checked-file_of_text : (text : List ℕ) → file_of_text text ≡ checked (data_of_text text)
-unfolding file_of_text document_answer
-checked-file_of_text text = checked-text (is_utf8 text) (parse_document text)
+unfolding file_of_text
+checked-file_of_text text = checked-file_in (document_answer text)
 
 -- a fault of the sections is one of the text
 pub sections-fail : (text : List ℕ) (fault : PlantFault) → Answers (Err fault) (data_of_text text) → Answers (Err fault) (file_of_text text)

@@ -6,6 +6,7 @@ use Rattle.toml.proofs.OnLiterals.{toml_on_literals}
 use Rattle.plant_file.specs.declared.fault.PlantFault.TheVariants.{NotToml}
 use Rattle.plant_file.specs.FileData.{FileData}
 use Rattle.plant_file.specs.declared.entries.Server.{Server}
+use Rattle.plant_file.specs.DataOfText.{document_answer}
 use Rattle.plant_file.specs.Reading.{names_of, source_letter, destination_letter}
 use Rattle.plant_rules.specs.PlantFile.{file_of, file_of_text}
 use Rattle.plant_rules.proofs.FileSamples.{file_on_literals, tables, n, remote, pool, bench, house, bus_with}
@@ -64,9 +65,9 @@ remote_with_pool = (_, refl)
 
 -- Bytes that are no UTF-8, and a text that is no document.
 no_utf8 : file_of_text (255 ∷ []) ≡ Err NotToml
-unfolding file_on_literals is_utf8 chars file_of_text
+unfolding file_on_literals is_utf8 chars document_answer file_of_text
 no_utf8 = refl
 
 no_document : file_of_text (codes "title") ≡ Err NotToml
-unfolding file_on_literals is_utf8 chars toml_on_literals file_of_text
+unfolding file_on_literals is_utf8 chars toml_on_literals document_answer file_of_text
 no_document = refl

@@ -1,19 +1,18 @@
 -- Data without a fault are a plant file: no two entries are the same, and each names what the plant has.
-use Rattle.std.proofs.Common.{◌≡◌, ℕ, List, [], map, All, MatchOption, Option, Some, None, false, true, Bool, cond, Err, subst}
+use Rattle.std.proofs.Common.{◌≡◌, ℕ, List, [], map, All, MatchOption, Option, Some, None, false, true, Result, Ok, Err, subst}
 use Rattle.std.proofs.lemmas.Bool.{eqb-false}
-use Rattle.std.specs.Option.{option_map_or}
 use Rattle.std.specs.Result.{ForOk}
-use Rattle.std.specs.Str.{is_utf8}
 use Rattle.toml.specs.Data.{Members}
-use Rattle.toml.specs.Parse.{parse_document}
 use Rattle.plant_file.specs.declared.fault.Section.{Section}
 use Rattle.plant_file.specs.declared.fault.Field.{Field}
 use Rattle.plant_file.specs.declared.fault.Section.TheVariants as sections
 use Rattle.plant_file.specs.declared.fault.Field.TheVariants as fields
-use Rattle.plant_file.specs.declared.fault.PlantFault.TheVariants.{NotToml, Twice, NoSuchThing, NoPool, NotLocal}
+use Rattle.plant_file.specs.declared.fault.PlantFault.{PlantFault}
+use Rattle.plant_file.specs.declared.fault.PlantFault.TheVariants.{Twice, NoSuchThing, NoPool, NotLocal}
 use Rattle.plant_file.specs.Limits.{all_sources_limit, all_destinations_limit}
 use Rattle.plant_file.specs.KeyFaults.{place, sections_faults}
 use Rattle.plant_file.specs.Reading.{data_of}
+use Rattle.plant_file.specs.DataOfText.{document_answer}
 use Rattle.plant_file.specs.FileData.{LevelData, FileData}
 use Rattle.plant_file.specs.declared.entries.RemoteEntry.{RemoteEntry}
 use Rattle.plant_file.specs.declared.entries.PoolEntry.{PoolEntry}
@@ -22,7 +21,7 @@ use Rattle.plant_file.specs.declared.entries.SwitchEntry.{SwitchEntry}
 use Rattle.plant_file.specs.declared.entries.BusEntry.{BusEntry}
 use Rattle.plant_rules.specs.Rules.{sum_faults, twice_faults, rule_faults, level_key, remote_key, pool_key, output_key, bus_key, root_key, display_key, panel_key, level_twice, device_twice, twice_at}
 use Rattle.plant_rules.specs.Links.{unknown_faults, not_local_faults, no_pool_faults, remote_unknown, pool_unknown, device_unknown, bus_unknown, switch_unknown, destination_unknown, is_remote, has_pool, main_level}
-use Rattle.plant_rules.specs.PlantFile.{data_faults, file_of, file_of_text}
+use Rattle.plant_rules.specs.PlantFile.{data_faults, file_of, file_in, file_of_text}
 use Rattle.plant_file.specs.Ranges.{AreInRange}
 use Rattle.plant_rules.specs.IsFile.{AllDiffer, IsLinkedRemote, IsLinkedPool, IsLinkedDevice, IsLinkedSwitch, IsLinkedBus, IsMainDestination, IsFile}
 use Rattle.plant_rules.proofs.LinkRules.{root_unknown, display_unknown, remote_remote, device_remote, remote_unpooled}
@@ -163,14 +162,10 @@ IsFile-file_of document file is =
     let parts = append_none (sections_faults document) (data_faults (data_of document)) known.1 in
     subst IsFile known.0 (IsFile-from_none (data_of document) (AreInRange-data_of document parts.0) parts.1)
 
-parsed_is : (parsed : Option Members) → ForOk (option_map_or file_of parsed (Err NotToml)) IsFile
-parsed_is None file is = cc
-parsed_is (Some document) file is = IsFile-file_of document file is
-
-text_is : (utf8 : Bool) (parsed : Option Members) → ForOk (cond utf8 (option_map_or file_of parsed (Err NotToml)) (Err NotToml)) IsFile
-text_is true parsed file is = parsed_is parsed file is
-text_is false parsed file is = cc
+IsFile-file_in : (document : Result Members PlantFault) → ForOk (file_in document) IsFile
+IsFile-file_in (Ok document) file is = IsFile-file_of document file is
+IsFile-file_in (Err fault) file is = cc
 
 pub IsFile-file_of_text : (text : List ℕ) → ForOk (file_of_text text) IsFile
 unfolding file_of_text
-IsFile-file_of_text text file is = text_is (is_utf8 text) (parse_document text) file is
+IsFile-file_of_text text file is = IsFile-file_in (document_answer text) file is

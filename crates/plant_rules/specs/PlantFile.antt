@@ -1,15 +1,12 @@
 -- The plant of a text: the plain data of its document, or the first fault in the order of the checks.
-use Rattle.std.specs.Prelude.{ℕ, List, ◌++◌, if◌then◌else◌, Result, Err}
-use Rattle.std.specs.Option.{option_map_or}
-use Rattle.std.specs.Str.{is_utf8}
+use Rattle.std.specs.Prelude.{ℕ, List, ◌++◌, Result, Ok, Err}
 use Rattle.toml.specs.Data.{Members}
-use Rattle.toml.specs.Parse.{parse_document}
 use Rattle.plant_file.specs.declared.fault.PlantFault.{PlantFault}
-use Rattle.plant_file.specs.declared.fault.PlantFault.TheVariants.{NotToml}
 use Rattle.plant_file.specs.FirstFault.{first_fault, unless_fault}
 use Rattle.plant_file.specs.KeyFaults.{sections_faults}
 use Rattle.plant_file.specs.FileData.{FileData}
 use Rattle.plant_file.specs.Reading.{data_of}
+use Rattle.plant_file.specs.DataOfText.{document_answer}
 use Rattle.plant_rules.specs.Rules.{sum_faults, twice_faults}
 use Rattle.plant_rules.specs.Links.{unknown_faults, not_local_faults, no_pool_faults}
 
@@ -27,7 +24,11 @@ faults_of document = sections_faults document ++ data_faults (data_of document)
 unfoldable pub file_of : Members → Result FileData PlantFault
 file_of document = unless_fault (data_of document) (first_fault (faults_of document))
 
--- The plant of a text. A text that isn't UTF-8 is no TOML document.
+-- the plant of a text's document, or why the text has none
+abbrev pub file_in : Result Members PlantFault → Result FileData PlantFault
+file_in (Ok document) = file_of document
+file_in (Err fault) = Err fault
+
+-- the plant of a text
 unfoldable pub file_of_text : List ℕ → Result FileData PlantFault
-file_of_text text =
-    if is_utf8 text then option_map_or file_of (parse_document text) (Err NotToml) else Err NotToml
+file_of_text text = file_in (document_answer text)
