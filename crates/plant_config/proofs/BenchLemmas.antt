@@ -10,7 +10,7 @@ use Rattle.std.proofs.lemmas.Map.Made.{IsDistinct-from_AllPairs, IsDistinct-from
 use Rattle.std.proofs.lemmas.List.Elements.{All-cons, All-nil}
 use Rattle.std.proofs.lemmas.List.FromFn.{length-range_with_len, get_or-range_with_len, length-map-range_with_len, get_or-map-range_with_len}
 use Rattle.std.proofs.lemmas.Option.{slice_get-map, slice_get_read, slice_get_past}
-use Rattle.plant_file.specs.Reading.{default_name, source_letter, destination_letter}
+use Rattle.plant_file.specs.Reading.{default_name, source_letter, destination_letter, default_server}
 use Rattle.plant_file.specs.Ranges.{IsName, IsServer}
 use Rattle.plant_config.specs.declared.records.Source.{Source}
 use Rattle.plant_config.specs.IsPlant.{AllPlaced, IsSource, IsLevel, IsPanel, AreTold, AreNamed, AreLinked, IsPlant}
@@ -30,7 +30,7 @@ AllPlaced-map make IsSo count are place = rw (slice_get-map make (range_with_len
           rw none tt
     ])
 
-All-map : {X : Type 0} (make : ℕ → X) (IsSo : X → Type 0) (count : ℕ) → ((number : ℕ) → number < count → IsSo (make number)) → All IsSo (map make (range_with_len 0 count))
+pub All-map : {X : Type 0} (make : ℕ → X) (IsSo : X → Type 0) (count : ℕ) → ((number : ℕ) → number < count → IsSo (make number)) → All IsSo (map make (range_with_len 0 count))
 All-map make IsSo count are place given within =
     let below : place < count = omega (arith, length-map-range_with_len make 0 count) in
     subst IsSo (sym (get_or-map-range_with_len make 0 count place place given below (omega arith))) (are place below)
@@ -49,11 +49,10 @@ named = record {
   told = told;
 }
 
-server : IsServer bench.server
-unfolding bench
+pub server : IsServer default_server
 server = record {
-  listen = IsWords-is_words 1 64 bench.server.listen refl;
-  display = IsWords-is_words 1 64 bench.server.display refl;
+  listen = IsWords-is_words 1 64 default_server.listen refl;
+  display = IsWords-is_words 1 64 default_server.display refl;
   idle_ms = (omega arith, omega arith);
   idle_limit = (omega arith, omega arith);
   turns = (omega arith, omega arith);
@@ -62,7 +61,7 @@ server = record {
   brightness = (omega arith, omega arith);
 }
 
-none_twice : {X : Type 0} {eq : X → X → Bool} → ((x y : X) → Decides (eq x y) (x ≡ y)) → IsDistinct eq []
+pub none_twice : {X : Type 0} {eq : X → X → Bool} → ((x y : X) → Decides (eq x y) (x ≡ y)) → IsDistinct eq []
 none_twice same = IsDistinct-from_AllPairs same [] (λ i j given before within. absurd (omega arith))
 
 panels : All IsPanel bench.panels

@@ -19,6 +19,8 @@ pub mod PlantOfFile
 mod Words
 mod DefaultNames
 pub mod BenchLemmas
+mod DrillParts
+pub mod DrillLemmas
 pub mod OriginLemmas
 mod LevelsLemmas
 pub mod PartsLemmas

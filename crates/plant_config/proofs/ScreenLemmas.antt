@@ -1,5 +1,5 @@
 -- The screens that displays are on: the one list that rises and has those.
-use Rattle.std.proofs.Common.{◌≡◌, ◌≢◌, ℕ, zero, suc, ◌+◌, ◌<◌, ◌≤◌, ◌==◌, Bool, true, false, cond, List, [], ◌∷◌, All, map, filter, length, get_or, Result, Ok, Err, refl, sym, ap, subst, ◌∙◌, inl, inr, arith}
+use Rattle.std.proofs.Common.{◌≡◌, ◌≢◌, ℕ, zero, suc, ◌+◌, ◌<◌, ◌≤◌, ◌==◌, Bool, true, false, cond, List, [], ◌∷◌, All, map, filter, length, get_or, Some, None, Result, Ok, Err, refl, sym, ap, subst, ◌∙◌, inl, inr, arith}
 use Rattle.std.specs.Prelude.{◌||◌, ◌&&◌}
 use Rattle.std.specs.List.{list_any, range_with_len, Contains}
 use Rattle.std.specs.List.Sorted.{IsStrictlyIncreasing, IsStrictlySortedBy}
@@ -17,7 +17,7 @@ use Rattle.plant_config.specs.declared.records.Display.{Display}
 use Rattle.plant_config.specs.Limits.{last_screen}
 use Rattle.plant_config.specs.Plant.{PlantData}
 use Rattle.plant_config.specs.IsPlant.{IsDisplay, IsPlant}
-use Rattle.plant_config.specs.Screens.{is_screen_among, screens_among, ScreensAreOfDisplays}
+use Rattle.plant_config.specs.Screens.{is_screen_among, has_screen, screen_of, screens_among, ScreensAreOfDisplays}
 use Rattle.plant_config.specs.DisplaysInside.{IsOnScreen}
 
 same_answers : (a b : Bool) → (a ≡ true → b ≡ true) → (b ≡ true → a ≡ true) → a ≡ b
@@ -144,6 +144,37 @@ search_is numbers number (Err i) missed = sym (list_any_none (λ other. other ==
       | inl low ↦ let less = missed.1 k low in absurd (omega (arith, at, less))
       | inr high ↦ let more = missed.2 k high below in absurd (omega (arith, at, more))
     ])))
+
+-- A screen that a plant has is below 65,535.
+pub screen_within_plant : (plant : PlantData) (screen : ℕ) → IsPlant plant → has_screen plant screen ≡ true → screen ≤ last_screen
+screen_within_plant plant screen is has =
+    let within = All-weaker (IsDisplay plant) IsOnScreen (λ display on. on.screen.1) plant.displays is.linked.displays.1 in
+    let low = screen_within plant.displays within screen (Contains-among (own plant.displays within) screen (among-screens plant.displays screen ∙ has)) in
+    omega (arith, low)
+
+-- No number past those is one.
+pub no_screen_past : (plant : PlantData) (screen : ℕ) → IsPlant plant → last_screen < screen → screen_of plant screen ≡ None
+no_screen_past plant screen is past =
+    ap (λ one. cond one (Some screen) None)
+    (elim (has_screen plant screen) as (λ has. has_screen plant screen ≡ has → has ≡ false) [
+      | true ↦ λ has. let low = screen_within_plant plant screen is has in absurd (omega (arith, low, past))
+      | false ↦ λ has. refl
+    ] refl)
+
+-- what a look-up of a number says
+pub screen_of-Some : (plant : PlantData) (number screen : ℕ) → Some screen ≡ screen_of plant number → (screen ≡ number) × (has_screen plant number ≡ true)
+screen_of-Some plant number screen is =
+    elim (has_screen plant number) as (λ has. has_screen plant number ≡ has → Some screen ≡ cond has (Some number) None → (screen ≡ number) × (has_screen plant number ≡ true)) [
+      | true ↦ λ has same. let e : screen ≡ number = cc in (e, has)
+      | false ↦ λ has same. cc
+    ] refl is
+
+pub screen_of-None : (plant : PlantData) (number : ℕ) → None ≡ screen_of plant number → has_screen plant number ≡ false
+screen_of-None plant number is =
+    elim (has_screen plant number) as (λ has. None ≡ cond has (Some number) None → has ≡ false) [
+      | true ↦ λ same. cc
+      | false ↦ λ same. refl
+    ] is
 
 pub screens_are_of_displays : (plant : PlantData) → IsPlant plant → ScreensAreOfDisplays plant
 screens_are_of_displays plant is =

@@ -1,6 +1,7 @@
 -- The definitions computed by hand, on a plant of two levels and at each limit. Of the two levels, level 0 has sources 0
 -- and 1 and destinations 0 to 2, and level 1 the two sources and the one destination behind them.
 use Rattle.std.proofs.Common.{◌≡◌, ◌<◌, [], ◌∷◌, codes, length, true, false, Some, None, refl, arith}
+use Rattle.plant_file.specs.Reading.{default_name, source_letter, destination_letter}
 use Rattle.plant_config.specs.declared.records.Level.{Level}
 use Rattle.plant_config.specs.Limits.{all_levels_limit, all_sources_limit, all_destinations_limit, panel_limit}
 use Rattle.plant_config.specs.Plant.{PlantData, destinations_of, sources_of}
@@ -8,6 +9,7 @@ use Rattle.plant_config.specs.IsPlant.{IsLevel, IsPanel, IsPlant, IsRemote, IsMa
 use Rattle.plant_config.specs.Sites.{dest_at, source_at, point_of, source_number_of}
 use Rattle.plant_config.specs.Sources.{origin_of, pool_of, source_name_of, dest_name_of}
 use Rattle.plant_config.specs.Bench.{bench}
+use Rattle.plant_config.specs.DrillPlant.{drill_plant, local_sources, remote_sources, matrix_dest_names, drill_panels}
 
 abbrev two_levels : PlantData
 two_levels = record bench {
@@ -108,6 +110,30 @@ no_switch_of_level_0 is = let h : 0 < 0 = is.other in omega (arith, h)
 
 no_switch_past_all : ¬ IsSwitch two_levels 4
 no_switch_past_all is = is.other
+
+-- The plant of the drill with two panels. Its sources 448 to 511 are those from 192 on of matrix 1.
+abbrev drill : PlantData
+drill = drill_plant 2
+
+drill_sources : (source_at drill 0 0 255 ≡ Some 255) × (source_at drill 1 0 192 ≡ Some 448) × (source_at drill 1 0 256 ≡ None)
+unfolding drill_plant
+drill_sources = (refl, refl, refl)
+
+drill_origins : (origin_of drill 447 ≡ Some 447) × (origin_of drill 448 ≡ Some 0) × (origin_of drill 511 ≡ Some 63) × (origin_of drill 512 ≡ None)
+unfolding drill_plant local_sources remote_sources
+drill_origins = (refl, refl, refl, refl)
+
+drill_pools : (pool_of drill 447 ≡ None) × (pool_of drill 448 ≡ Some 0)
+unfolding drill_plant local_sources remote_sources
+drill_pools = (refl, refl)
+
+drill_names : (source_name_of drill 448 ≡ Some (default_name source_letter 192)) × (dest_name_of drill 256 ≡ Some (default_name destination_letter 0))
+unfolding drill_plant local_sources remote_sources matrix_dest_names
+drill_names = (refl, refl)
+
+drill_masters : drill.panels ≡ record { device = 1; port = 9000; master = true } ∷ record { device = 2; port = 9001; master = false } ∷ []
+unfolding drill_plant drill_panels
+drill_masters = refl
 
 -- A level at each of its limits, and one past each of them.
 abbrev greatest : Level

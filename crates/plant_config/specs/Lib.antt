@@ -11,6 +11,7 @@ pub mod LevelsInside
 pub mod PartsInside
 pub mod PlantInside
 pub mod Bench
+pub mod DrillPlant
 pub mod PlantOfFile
 pub mod OfFileInside
 pub mod PlantOfText

@@ -1,5 +1,5 @@
 -- The screens of a plant, which are those that its displays are on.
-use Rattle.std.specs.Prelude.{◌≡◌, ◌↔◌, ℕ, ◌+◌, ◌==◌, Bool, true, List, filter}
+use Rattle.std.specs.Prelude.{◌≡◌, ◌↔◌, ℕ, ◌+◌, ◌==◌, Bool, true, if◌then◌else◌, List, filter, Option, Some, None}
 use Rattle.std.specs.List.{range_with_len, list_any, Contains}
 use Rattle.std.specs.List.Sorted.{IsStrictlyIncreasing}
 use Rattle.plant_config.specs.declared.records.Display.{Display}
@@ -14,6 +14,10 @@ is_screen_among displays screen =
 -- whether a plant has a screen: some display is on it
 abbrev pub has_screen : PlantData → ℕ → Bool
 has_screen plant = is_screen_among plant.displays
+
+-- the screen of a number, `None` where the plant has none of it
+abbrev pub screen_of : PlantData → ℕ → Option ℕ
+screen_of plant number = if has_screen plant number then Some number else None
 
 -- the numbers of the screens that these displays are on, ascending, each once
 unfoldable pub screens_among : List Display → List ℕ

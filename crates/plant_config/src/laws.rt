@@ -1,6 +1,6 @@
 //! What is true of the limits and the numbers of every plant, not only of one that a program has.
 
-ghost use Rattle.std.specs.Prelude.{◌≡◌};
+ghost use Rattle.std.specs.Prelude.{◌≡◌, ℕ, ◌≤◌};
 ghost use Rattle.plant_config.specs.Limits as limits;
 ghost use Rattle.plant_config.specs.Plant.{PlantData, dest_numbers, source_numbers};
 ghost use Rattle.plant_config.specs.IsPlant.{IsPlant};
@@ -8,6 +8,7 @@ ghost use Rattle.plant_config.specs.Sites.{LeadBothWays};
 ghost use Rattle.plant_config.specs.Origins.{OriginsAreLocal, PoolsLeadAcross, BusesDiffer};
 ghost use Rattle.plant_config.specs.Screens.{ScreensAreOfDisplays};
 ghost use Rattle.plant_config.specs.Bench.{bench, bench_file};
+ghost use Rattle.plant_config.specs.DrillPlant.{drill_plant, drill_panel_limit};
 ghost use Rattle.plant_config.specs.PlantOfFile.{plant_of_file};
 
 use crate::limits::{LEVELS_OF_A_MATRIX, MATRICES, MAX_DESTINATIONS, MAX_SOURCES};
@@ -23,6 +24,12 @@ pub fn limits_are_those_of_the_profile()
 /// The bench plant is within its limits, in order and numbered.
 pub fn the_bench_is_a_plant()
     ensures { IsPlant bench }
+{}
+
+/// The plant of the drill is within its limits, in order and numbered, whatever its panels are.
+pub fn drills_are_plants()
+    ensures { (panels : ℕ) → 1 ≤ panels → panels ≤ drill_panel_limit
+        → IsPlant (drill_plant panels) }
 {}
 
 /// The bench plant is that of its file.

@@ -3,6 +3,7 @@
 #![tactic(auto)]
 
 mod displays;
+mod drill;
 mod laws;
 mod levels;
 mod limits;
@@ -14,9 +15,9 @@ mod readers;
 mod records;
 
 pub use laws::{
-    buses_differ, dests_are_numbered, limits_are_those_of_the_profile, origins_are_local,
-    pools_lead_across, screens_are_of_displays, sources_are_numbered, the_bench_is_a_plant,
-    the_bench_is_in_its_file,
+    buses_differ, dests_are_numbered, drills_are_plants, limits_are_those_of_the_profile,
+    origins_are_local, pools_lead_across, screens_are_of_displays, sources_are_numbered,
+    the_bench_is_a_plant, the_bench_is_in_its_file,
 };
 pub use limits::{LEVELS_OF_A_MATRIX, MATRICES, MAX_DESTINATIONS, MAX_SOURCES};
 pub use numbers::{BusId, DestId, DeviceId, DisplayId, Number, PanelNo, PoolId, SourceId, TieNo};

@@ -4,7 +4,7 @@ ghost use Rattle.std.specs.Prelude.{◌≡◌, ◌<◌, true, length, slice_get,
 ghost use Rattle.plant_file.specs.Ranges.{IsName};
 ghost use Rattle.plant_config.specs.Plant.{destinations_of, sources_of};
 ghost use Rattle.plant_config.specs.IsPlant.{IsPlant, is_local};
-ghost use Rattle.plant_config.specs.Screens.{screens_of, has_screen};
+ghost use Rattle.plant_config.specs.Screens.{screens_of, has_screen, screen_of};
 ghost use Rattle.plant_config.specs.Sources.{origin_of, pool_of, source_name_of, dest_name_of};
 
 use crate::numbers::{DestId, PoolId, SourceId};
@@ -107,6 +107,21 @@ impl Plant {
         ensures plant { IsPlant self.now }
     {
         self.parts.service.displays.has_screen(screen)
+    }
+
+    /// The screen of a number, `None` where no display is on it.
+    #[tactic(auto, using(crate::proofs::ScreenLemmas::no_screen_past))]
+    pub fn screen(&self, number: u64) -> Option<u16>
+        ensures screen { result ≡ screen_of self.now number }
+        ensures plant { IsPlant self.now }
+    {
+        let displays = &self.parts.service.displays;
+        let screen = u16::try_from(number).ok()?;
+        if displays.has_screen(screen) {
+            Some(screen)
+        } else {
+            None
+        }
     }
 
     /// How many sources the plant has in all.
