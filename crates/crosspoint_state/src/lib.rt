@@ -1,5 +1,6 @@
-//! What each destination carries: a source, and the tie that brings it there. The definition `applied` makes a list of changes
-//! as one, and laws say what it does. All memory is taken at the start, and no call looks at a destination that it isn't given.
+//! What each destination carries: a source, and the tie that brings it there. Under each local source stand the destinations
+//! that carry its picture, so that these are found without a look at the others. The definition `applied` makes a list of
+//! changes as one, and laws say what it does. All memory is taken at the start.
 #![tactic(auto)]
 
 mod crosspoints;

@@ -60,6 +60,7 @@ fn append(bytes: &[u8], out: &mut Vec<u8>)
 {
     let empty = Vec::new(*out.allocator());
     let mut whole = replace(out, empty);
+    // kit: `whole.extend_from_slice(bytes)` doesn't say that no memory is taken; so each byte is pushed into the room.
     for byte in bytes {
         whole.push_reserved(*byte);
     }

@@ -70,6 +70,8 @@ impl Framer {
             → Feeds text piece.now result.0 (option_map shown result.1) }
     {
         let (used, item) = self.take_item(piece);
+        // kit: with the item bound over the arms of one `match`, `Item::Good(())` among them, and returned behind it, the
+        // clause on the lender is lost; so each arm returns, and `with_data` makes the item.
         match item {
             Some(item) => (used, Some(self.with_data(item))),
             None => (used, None),

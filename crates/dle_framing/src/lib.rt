@@ -11,6 +11,7 @@ mod framer;
 mod front;
 mod item;
 mod laws;
+// kit: `mod feed_all` is refused beside the function of this name.
 mod pieces;
 mod place;
 mod plain;

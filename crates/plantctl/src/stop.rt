@@ -62,7 +62,7 @@ pub(crate) enum Stop<'a> {
     /// The plant file has this fault.
     PlantRefused(String),
     PlantTooLong,
-    /// The line of this number, count_after from 1, has no form.
+    /// The line of this number, counted from 1, has no form.
     LineRefused(u64),
     ScriptTooLong,
     /// The audit of traces had this verdict, by which they aren't confirmed.

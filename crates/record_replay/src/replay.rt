@@ -18,7 +18,7 @@ use std::alloc::{AllocError, Global};
 #[derive(Clone, Copy, Debug, PartialEq, Eq)]
 pub enum ReplayFault {
     NoMemory,
-    /// The line of this number, count_after from 1, is the first that has no form.
+    /// The line of this number, counted from 1, is the first that has no form.
     BadLine(u64),
     /// A write of the output failed.
     OutputFault,

@@ -70,7 +70,7 @@ impl PacketRoom {
     }
 }
 
-// SendsAll the packet of a display poll of a screen that was answered so, if it has one, and puts its output line. Where the send
+// Sends the packet of a display poll of a screen that was answered so, if it has one, and puts its output line. Where the send
 // fails nothing is put, and the answer is no.
 pub(crate) fn tell_show<K: Drain, P: DisplayPort>(
     plant: &Plant,
@@ -113,7 +113,7 @@ fn put_word<K: Drain>(screen: u16, word: &[u8], out: &mut Output<'_, K>)
     out.put(b"\n");
 }
 
-// SendsAll a packet, and puts its output line.
+// Sends a packet, and puts its output line. Where the send fails nothing is put, and the answer is no.
 fn tell_packet<K: Drain, P: DisplayPort>(
     screen: u16,
     packet: &[u8],

@@ -1,6 +1,7 @@
 //! The ties that bring remote sources to destinations. A list of changes is planned first, by whether the ties are enough
 //! for all of it at once, and then made: a source that comes already shares its tie, and another one takes the lowest free.
-//! All memory is taken at the start, and no call looks at a destination that it isn't given.
+//! How many destinations each source feeds, the pools that aren't enough and the free ties are kept beside the crosspoints, so
+//! that neither call looks through the plant. All memory is taken at the start.
 #![tactic(auto)]
 
 mod commit;
