@@ -2,7 +2,7 @@
 use Rattle.std.specs.Prelude.{◌||◌, nat_lt, ◌≡◌, ℕ, ◌<◌, ◌≤◌, ◌^◌, ◌==◌, if◌then◌else◌, List, [], ◌∷◌, ◌++◌, length, slice_index, All, Option, Some, None, IfSome, MatchBool, false, ◌+◌}
 use Rattle.std.specs.Option.{option_map, unwrap_or}
 use mathlib.Core.List.{IsPrefix}
-use Rattle.history_lock.specs.declared.told.Told.{Told}
+use Rattle.told_value.specs.declared.told.Told.{Told}
 use Rattle.atomic_table.specs.Table.{Me, Step}
 use Rattle.history_lock.specs.declared.entry.Entry.{Entry}
 use Rattle.history_lock.specs.declared.view.Desk.{Desk}

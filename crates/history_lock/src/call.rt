@@ -14,11 +14,11 @@ use crate::machine::Machine;
 use crate::out_box::OutBox;
 use crate::rule::{Place, Top};
 use crate::seat::Seat;
-use crate::told::Told;
 use crate::turns::{answer, enter, queue, seize, take_turn};
 use crate::view::Start;
 use std::sync::Wait;
 use std::sync::atomic::AtomicU64;
+use told_value::Told;
 
 /// One call, at a seat's place.
 fn call_at<M: Machine, R: Wait>(

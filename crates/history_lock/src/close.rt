@@ -14,8 +14,8 @@ use crate::machine::Machine;
 use crate::rule::{LockTable, Place, Top};
 use crate::seat::{Closed, Past, Seat};
 use crate::steps::{look, take_seat};
-use crate::told::Told;
 use crate::view::Desk;
+use told_value::Told;
 
 /// The place of a seat, to which others are joined.
 fn begin<M: Machine>(seat: Seat<M>) -> Place<M>

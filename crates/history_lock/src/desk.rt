@@ -5,8 +5,8 @@ ghost use Rattle.history_lock.specs.Plays.{IsAsked};
 
 use crate::machine::Machine;
 use crate::out_box::OutBox;
-use crate::told::Told;
 use crate::view::Desk;
+use told_value::Told;
 
 /// Works a request.
 pub fn work<M: Machine>(

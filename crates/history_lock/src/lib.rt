@@ -18,7 +18,6 @@ mod plays;
 mod rule;
 mod seat;
 mod steps;
-mod told;
 mod turns;
 mod view;
 mod waiting;

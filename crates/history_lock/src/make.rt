@@ -11,11 +11,11 @@ use crate::machine::Machine;
 use crate::plays::NewSeat;
 use crate::rule::{LockTable, Place, Top};
 use crate::seat::Seat;
-use crate::told::Told;
 use crate::view::{Desk, Start};
 use atomic_table::Table;
 use std::alloc::{AllocError, Global};
 use std::sync::atomic::AtomicU64;
+use told_value::Told;
 
 /// A table with the machine, and the place of the maker of its seats.
 fn lay<M: Machine + Drop>(

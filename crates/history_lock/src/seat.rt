@@ -2,9 +2,9 @@
 
 use crate::machine::Machine;
 use crate::rule::Place;
-use crate::told::Told;
 use crate::view::Start;
 use std::marker::Model;
+use told_value::Told;
 
 /// A caller's place at a lock, under a number of its own. It has no bytes. Contracts see what was seen through it.
 #[derive(Drop)]

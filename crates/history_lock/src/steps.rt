@@ -15,8 +15,8 @@ use crate::plays::{
     TryTicket,
 };
 use crate::rule::{Place, Top};
-use crate::told::Told;
 use crate::view::Start;
+use told_value::Told;
 
 pub fn read_ticket<M: Machine>(top: &Top<M>, place: &mut Place<M>) -> u64
     requires at { IsAt top.now.table_id place.old }

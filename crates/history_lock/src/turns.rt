@@ -13,11 +13,11 @@ use crate::machine::Machine;
 use crate::out_box::OutBox;
 use crate::rule::{Place, Top};
 use crate::steps::{await_turn, end_turn, read_serving, read_ticket, take_ticket, try_ticket};
-use crate::told::Told;
 use crate::view::Start;
 use crate::waiting::{wait, wake};
 use std::sync::Wait;
 use std::sync::atomic::AtomicU64;
+use told_value::Told;
 
 /// Takes the next ticket in order, `None` where there are no more.
 fn line_up<M: Machine, R: Wait>(rt: &R, top: &Top<M>, place: &mut Place<M>) -> Option<u64>

@@ -2,8 +2,8 @@
 //! Word 0 is `serving`, the length of the history, and word 1 is `ticket`. The one slot has the machine.
 
 use crate::entry::Entry;
-use crate::told::Told;
 use std::collections::LinkedList;
+use told_value::Told;
 
 /// What a lock is told once.
 #[derive(Drop)]
@@ -16,6 +16,7 @@ pub struct Start<M> {
 #[derive(Drop)]
 pub struct Desk<M, Q> {
     pub machine: M,
+    // kit: `then` of a `Play` sees no argument of its call, as what was asked; so that lies in the slot too.
     pub asked: Option<Told<Q>>,
 }
 
@@ -37,6 +38,7 @@ pub struct Former<Q, A> {
 /// What a seat knows. No value of it is made.
 pub struct View<M, Q, A> {
     /// The machine that the lock was made with. A view that was joined to another has none.
+    // kit: `spent` of a `Join` is one constant and no `λ v. ..`, and there is no machine to put into it; so `M` is optional.
     pub first: Option<M>,
     /// The numbers under which it makes entries: one in a seat, none in a note.
     pub numbers: LinkedList<u32>,

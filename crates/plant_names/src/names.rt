@@ -18,7 +18,7 @@ use crate::paged::Paged;
 use plant_config::{DestId, Level, Plant, SourceId};
 use std::alloc::{AllocError, Global};
 use std::marker::Model;
-use std::snapshot::Snapshot;
+use told_value::Told;
 
 // The commands of pages.
 const SOURCE_PAGE: u8 = 106;
@@ -28,7 +28,7 @@ const DEST_PAGE: u8 = 107;
 /// The names of a plant's sources and destinations, with an index of those of each level. A contract sees it as the plant.
 #[derive(Drop)]
 pub struct Names {
-    plant: Snapshot<Plant>,
+    plant: Told<Plant>,
     // One place for each level of each matrix that a plant may have.
     levels: Vec<Option<LevelNames>>,
     // The lowest level of each matrix that a plant may have.
@@ -54,7 +54,7 @@ impl Names {
         let levels = levels_of(alloc, plant)?;
         let lowest = lowest_of(alloc, plant)?;
         Ok(Names {
-            plant: Snapshot::of(plant),
+            plant: Told::of(plant),
             levels,
             lowest,
         })

@@ -8,5 +8,6 @@ mod of_line_text;
 mod of_number_tables;
 mod of_swp08_messages;
 mod of_tap_lists;
+mod of_told_value;
 mod of_tsl_stream;
 mod of_tsl_umd5;

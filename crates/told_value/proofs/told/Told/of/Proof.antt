@@ -33,10 +33,10 @@ use denote.Triple.Entry.{on_entry, alive}
 use denote.Triple.Spec.{Meets, triple_of}
 use denote.Triple.Table.{entered}
 use denote.Triple.Walked.{says, Stays, stay_dropped, walk_of, ends_at, Goes-dropped, walk_Meets}
-use Rattle.history_lock.specs.contracts.told.Told.of.{ended, clauses}
-use Rattle.history_lock.specs.contracts.told.Told.of.Key.{name as #self}
-use Rattle.history_lock.proofs.told.Told.of.Statement as stated
-use Rattle.history_lock.proofs.told.Told.of.Code as code
+use Rattle.told_value.specs.contracts.told.Told.of.{ended, clauses}
+use Rattle.told_value.specs.contracts.told.Told.of.Key.{name as #self}
+use Rattle.told_value.proofs.told.Told.of.Statement as stated
+use Rattle.told_value.proofs.told.Told.of.Code as code
 
 module _ (Y : RattleType) where
   abbrev R : RattleType
