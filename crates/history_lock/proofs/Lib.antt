@@ -11,3 +11,4 @@ pub mod Comes
 pub mod Joins
 pub mod Meetings
 pub mod Closings
+pub mod Shares

@@ -10,3 +10,4 @@ pub mod Calls
 pub mod CallsInside
 pub mod Closing
 pub mod ClosingInside
+pub mod Shares

@@ -2,6 +2,7 @@
 
 ghost use Rattle.history_lock.specs.Laws.{FrontsAreLegal, RequestsFixAnswers};
 ghost use Rattle.history_lock.specs.Laws.{RunsCompose, StepsStayLegal};
+ghost use Rattle.history_lock.specs.Shares.{SeatsShareHistory};
 
 use crate::machine::Machine;
 
@@ -23,4 +24,9 @@ pub fn runs_compose<M: Machine>()
 /// Two legal histories in which the same seats asked the same are the same.
 pub fn requests_fix_answers<M: Machine>()
     ensures { RequestsFixAnswers M.step M.Fits }
+{}
+
+/// Each entry of the history of a closed lock is an own entry of exactly one seat, at its position.
+pub fn seats_share_history<M: Machine>()
+    ensures { SeatsShareHistory M M.Request M.Answer }
 {}

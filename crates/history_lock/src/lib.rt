@@ -24,7 +24,9 @@ mod waiting;
 
 pub use entry::Entry;
 pub use fault::{CallFault, TryFault};
-pub use laws::{fronts_are_legal, requests_fix_answers, runs_compose, steps_stay_legal};
+pub use laws::{
+    fronts_are_legal, requests_fix_answers, runs_compose, seats_share_history, steps_stay_legal,
+};
 pub use lock::HistoryLock;
 pub use machine::Machine;
 pub use out_box::OutBox;
