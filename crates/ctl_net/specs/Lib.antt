@@ -11,3 +11,6 @@ pub mod InputInside
 pub mod Acceptor
 pub mod MemAcceptor
 pub mod MemAcceptorInside
+pub mod Net
+pub mod MemNet
+pub mod MemNetInside

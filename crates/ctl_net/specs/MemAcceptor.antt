@@ -1,5 +1,5 @@
 -- What an acceptor in memory holds, and what it answers.
-use Rattle.std.specs.Prelude.{ℕ, ◌+◌, ◌-◌, ◌==◌, Bool, List, [], ◌∷◌, ◌++◌, length, map, drop, slice_get, Option, Some, None, if◌then◌else◌}
+use Rattle.std.specs.Prelude.{◌≡◌, ℕ, ◌+◌, ◌-◌, ◌==◌, Bool, List, [], ◌∷◌, ◌++◌, length, map, drop, min, slice_get, Option, Some, None, if◌then◌else◌}
 use Rattle.std.specs.List.{AllByRecursion}
 use Rattle.ctl_io.specs.Calls.{Calls, next_fails, called, uncalled}
 use Rattle.ctl_io.specs.Custody.{Custody}
@@ -86,3 +86,15 @@ links_of acceptor = record { out = acceptor.out; back = Some (map end_of accepto
 -- No call was made of the links.
 abbrev pub AreNewLinks : List LinkState → Type 0
 AreNewLinks links = AllByRecursion IsNewLink links
+
+-- the acceptor with at most so many sessions left
+abbrev pub at_most : ℕ → AcceptorState → AcceptorState
+at_most sessions acceptor = record acceptor { sessions = min acceptor.sessions sessions }
+
+-- No call was made of the acceptor.
+pub record IsNewAcceptor (acceptor : AcceptorState) : Type 0 where
+  pub none_out : acceptor.out ≡ 0
+  pub none_back : acceptor.back ≡ []
+  pub unasked : acceptor.calls.made ≡ 0
+  pub no_faults : acceptor.calls.faults ≡ 0
+  pub none_faulty : acceptor.done_faults ≡ 0

@@ -1,5 +1,5 @@
 -- The fields of an acceptor in memory.
-use Rattle.std.specs.Prelude.{◌+◌, ◌≤◌, length, vec_capacity}
+use Rattle.std.specs.Prelude.{◌+◌, ◌^◌, ◌≤◌, length, vec_capacity}
 use Rattle.ctl_net.specs.MemAcceptor.{AcceptorState, AreNewLinks}
 use Rattle.ctl_net.specs.declared.memory.mem_acceptor.MemAcceptor.TheInside.{Inside}
 
@@ -21,7 +21,9 @@ abbrev pub RoomForBack : Inside → Type 0
 RoomForBack acceptor =
     acceptor.objects + acceptor.out + length acceptor.back.items ≤ vec_capacity acceptor.back
 
--- What is still to be handed out is new, and there is room for all that may still be given back.
+-- What is still to be handed out is new, there is room for all that may still be given back, and there aren't too many
+-- sessions.
 pub record BackHasRoom (acceptor : Inside) : Type 0 where
   pub new_links : AreNewLinks acceptor.waiting.items
   pub room : RoomForBack acceptor
+  pub few : acceptor.sessions ≤ 2 ^ 63

@@ -1,6 +1,6 @@
 //! Acceptors, which hand out the links of a panel's sessions one after another.
 
-ghost use Rattle.std.specs.Prelude.{◌≡◌, ◌<◌, ℕ};
+ghost use Rattle.std.specs.Prelude.{◌≡◌, ◌^◌, ◌<◌, ◌≤◌, ℕ};
 ghost use Rattle.ctl_io.specs.Custody.{Custody, returned};
 ghost use Rattle.ctl_io.specs.Faults.{count_after};
 ghost use Rattle.ctl_net.specs.Acceptor.{LinkEnd, link_end, is_faulty_link};
@@ -21,7 +21,7 @@ pub enum Next<L> {
 pub trait Acceptor: Send {
     type L: Link;
 
-    /// How many sessions are left.
+    /// How many sessions are left, at most 2^63.
     ghost sessions: { Self → ℕ };
 
     /// The links that were handed out and taken back.
@@ -38,6 +38,7 @@ pub trait Acceptor: Send {
         ensures new { IfOne result (λ link.
             IsFresh (link_end (Self.L.written link) (Self.L.faults link) (Self.L.read_half link))) }
         ensures sessions { Uses result (sessions self.old) (sessions self.new) }
+        ensures bound { sessions self.old ≤ 2 ^ 63 }
         ensures lent { links self.new ≡ link_lent result (links self.old) }
         ensures count { next_faults self.new
             ≡ count_after (next_failed result) (next_faults self.old) }

@@ -2,10 +2,12 @@
 //! again.
 
 mod link_answer;
+mod std_net;
 mod tcp_acceptor;
 mod tcp_link;
 mod udp_port;
 
+pub use std_net::StdNet;
 pub use tcp_acceptor::TcpAcceptor;
 pub use tcp_link::TcpLink;
 pub use udp_port::UdpPort;

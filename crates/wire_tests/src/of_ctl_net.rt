@@ -3,5 +3,6 @@
 mod acceptors;
 mod answers;
 mod gates;
+mod nets;
 mod ports;
 mod sockets;

@@ -1,15 +1,19 @@
 //! An acceptor in memory.
 
-ghost use Rattle.std.specs.Prelude.{◌≡◌, ◌<◌, IfNone, IfOk, drop, slice_get};
+ghost use Rattle.std.specs.Prelude.{◌≡◌, ◌^◌, ◌<◌, ◌≤◌, IfOk};
 ghost use Rattle.ctl_net.specs.Acceptor.{IfOne};
 ghost use Rattle.ctl_net.specs.MemLink.{IsNewLink};
 ghost use Rattle.ctl_net.specs.MemAcceptor.{unasked, AreNewLinks, next_answer, without_link};
-ghost use Rattle.ctl_net.specs.MemAcceptor.{after_next, after_done, links_of};
+ghost use Rattle.ctl_net.specs.MemAcceptor.{after_next, after_done, at_most, links_of};
 
+use crate::memory::queue::take_front;
 use crate::{Acceptor, MemLink, Next};
 use ctl_io::{CallCount, FaultCount};
 use std::alloc::{AllocError, Global};
 use std::marker::Model;
+
+// The most sessions of an acceptor. No vector of links is longer.
+const MAX_SESSIONS: usize = 1 << 63;
 
 /// An acceptor in memory. It hands out its links in their order, and what is given back isn't handed out again.
 #[derive(Debug, Drop)]
@@ -51,6 +55,9 @@ impl MemAcceptor {
             acceptor ≡ unasked links.items objects failing.items) }
     {
         let sessions = links.len();
+        if sessions > MAX_SESSIONS {
+            return Err(AllocError);
+        }
         Ok(MemAcceptor {
             waiting: links,
             sessions,
@@ -68,6 +75,7 @@ impl MemAcceptor {
         ensures answer { result ≡ next_answer self.old }
         ensures after { self.new ≡ after_next result self.old }
         ensures new { IfOne result IsNewLink }
+        ensures bound { self.old.sessions ≤ 2 ^ 63 }
     {
         let next = self.first();
         self.calls.count(matches!(&next, Next::Failed));
@@ -86,6 +94,13 @@ impl MemAcceptor {
         self.back.push_reserved(link);
     }
 
+    /// Leaves at most so many sessions.
+    pub fn lower(&mut self, sessions: u32)
+        ensures { self.new ≡ at_most sessions self.old }
+    {
+        self.sessions = self.sessions.min(sessions as usize);
+    }
+
     /// The links that were given back, in order.
     pub fn back(&self) -> &[MemLink]
         ensures { result.now ≡ self.now.back }
@@ -100,11 +115,26 @@ impl MemAcceptor {
         self.sessions
     }
 
+    /// How often the next link couldn't be handed out. The count stands still at its type's end.
+    pub fn next_faults(&self) -> u64
+        ensures { result ≡ self.now.calls.faults }
+    {
+        self.calls.faults()
+    }
+
+    /// How often a link with faults was given back. The count stands still at its type's end.
+    pub fn done_faults(&self) -> u64
+        ensures { result ≡ self.now.done_faults }
+    {
+        self.done_faults.count()
+    }
+
     // Looks for the next link, without counting the call.
     fn first(&mut self) -> Next<MemLink>
         ensures answer { result ≡ next_answer self.old }
         ensures after { self.new ≡ without_link result self.old }
         ensures new { IfOne result IsNewLink }
+        ensures bound { self.old.sessions ≤ 2 ^ 63 }
     {
         if self.calls.next_fails() {
             return Next::Failed;
@@ -145,16 +175,4 @@ impl Acceptor for MemAcceptor {
     fn done(&mut self, link: MemLink) {
         self.take(link);
     }
-}
-
-// Takes out the first link.
-fn take_front(links: &mut Vec<MemLink>) -> Option<MemLink>
-    ensures found { result ≡ slice_get links.old.items 0 }
-    ensures rest { links.new.items ≡ drop 1 links.old.items }
-    ensures none { IfNone result (links.new.items ≡ links.old.items) }
-{
-    if links.is_empty() {
-        return None;
-    }
-    Some(links.remove(0))
 }

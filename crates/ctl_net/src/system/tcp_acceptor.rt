@@ -37,6 +37,20 @@ impl<T: OpenListener> TcpAcceptor<T> {
             done_faults: FaultCount::new(),
         }
     }
+
+    /// How often the next link couldn't be handed out. The count stands still at its type's end.
+    pub fn next_faults(&self) -> u64
+        ensures { result ≡ self.now.next_faults }
+    {
+        self.next_faults.count()
+    }
+
+    /// How often a link with faults was given back. The count stands still at its type's end.
+    pub fn done_faults(&self) -> u64
+        ensures { result ≡ self.now.done_faults }
+    {
+        self.done_faults.count()
+    }
 }
 
 impl<T: OpenListener + Send> Acceptor for TcpAcceptor<T>

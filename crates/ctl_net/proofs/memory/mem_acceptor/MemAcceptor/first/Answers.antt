@@ -8,6 +8,7 @@ pub invariant_of-self : goal.invariant_of-self
 invariant_of-self c = record {
   new_links = subst AreNewLinks (sym c.take_front.ensures.rest) (others_new c.self.inside.waiting.items c.self.invariant.new_links);
   room = search rules;
+  few = search rules;
 }
 
 pub returns-in-Some-clause-new : goal.returns-in-Some-clause-new

@@ -1,0 +1,70 @@
+-- What a net opens, hands out and takes back.
+use Rattle.std.specs.Prelude.{◌≡◌, ℕ, Bool, true, false, ◌||◌, List, [], ◌∷◌, ◌++◌, Option, Some, None, IfSome}
+use Rattle.std.specs.Option.{option_map}
+use Rattle.ctl_io.specs.Custody.{Custody, lent}
+use Rattle.ctl_io.specs.Faults.{is_faulty}
+use Rattle.ctl_net.specs.Acceptor.{LinkEnd}
+use Rattle.ctl_net.specs.Port.{IsSomePacket}
+use Rattle.ctl_net.specs.declared.opening.Opening.{Opening}
+
+-- What an acceptor shows when it is given back: its panel's number, how many sessions are left, the links that it handed out
+-- and took back, and its counts of faults.
+pub record AcceptorEnd : Type 0 where
+  pub panel : ℕ
+  pub sessions : ℕ
+  pub links : Custody LinkEnd
+  pub next_faults : ℕ
+  pub done_faults : ℕ
+
+abbrev pub acceptor_end : ℕ → ℕ → Custody LinkEnd → ℕ → ℕ → AcceptorEnd
+acceptor_end panel sessions links next_faults done_faults = record {
+  panel = panel;
+  sessions = sessions;
+  links = links;
+  next_faults = next_faults;
+  done_faults = done_faults;
+}
+
+-- what a display port shows when it is given back: the packets that were sent, and its count of faults
+pub record PortEnd : Type 0 where
+  pub packets : Option (List (List ℕ))
+  pub faults : ℕ
+
+abbrev pub port_end : Option (List (List ℕ)) → ℕ → PortEnd
+port_end packets faults = record { packets = packets; faults = faults }
+
+-- whether an acceptor with these counts of faults met one
+abbrev pub ends_faulty : ℕ → ℕ → Bool
+ends_faulty next_faults done_faults = is_faulty next_faults || is_faulty done_faults
+
+-- An acceptor has handed out nothing and taken nothing back, and no call of it has failed.
+pub record IsFreshAcceptor (links : Custody LinkEnd) (next_faults done_faults : ℕ) : Type 0 where
+  pub none_out : links.out ≡ 0
+  pub none_back : IfSome links.back (λ all. all ≡ [])
+  pub next_count : next_faults ≡ 0
+  pub done_count : done_faults ≡ 0
+
+-- No packet was sent to a port, and no call of it has failed.
+pub record IsFreshPort (packets : Option (List (List ℕ))) (faults : ℕ) : Type 0 where
+  pub none : IfSome packets (λ all. all ≡ [])
+  pub count : faults ≡ 0
+
+-- Each packet that isn't empty is one that is taken.
+abbrev pub TakesAll : (List ℕ → Type 0) → Type 0
+TakesAll takes = (packet : List ℕ) → IsSomePacket packet → takes packet
+
+-- whether an opening was refused
+abbrev pub is_refused : {A : Type 0} → Option A → Bool
+is_refused (Some one) = false
+is_refused None = true
+
+-- the openings that are shown after this one, which is among them where it wasn't refused
+abbrev pub opened : {A : Type 0} → Option A → Opening → Option (List Opening)
+    → Option (List Opening)
+opened (Some one) opening shown = option_map (λ all. all ++ opening ∷ []) shown
+opened None opening shown = shown
+
+-- the custody of a kind after an opening of that kind
+abbrev pub opening_lent : {A Shown : Type 0} → Option A → Custody Shown → Custody Shown
+opening_lent (Some one) custody = lent custody
+opening_lent None custody = custody
