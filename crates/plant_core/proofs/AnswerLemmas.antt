@@ -7,7 +7,8 @@ use Rattle.std.proofs.lemmas.List.FromFn.{length-map-range_with_len, get_or-map-
 use Rattle.std.proofs.lemmas.List.Elements.{All-nil, All-push}
 use Rattle.swp08_messages.specs.declared.point.Point.{Point}
 use Rattle.swp08_messages.specs.declared.message.Message.TheVariants.{Interrogate, Connect, Tally, Connected, ProtectAsk, ProtectConnect, ProtectDisconnect, ProtectTally, ProtectConnected, ProtectDisconnected, DumpAsk, Store, Stored, Go, GoDone, EntryAsk}
-use Rattle.swp08_messages.specs.declared.go_status.GoStatus.TheVariants.{Made, Cleared, Empty}
+use Rattle.swp08_messages.specs.declared.go_status.GoStatus.{GoStatus}
+use Rattle.swp08_messages.specs.declared.go_status.GoStatus.TheVariants.{Made, Cleared}
 use Rattle.swp08_messages.specs.Field.{devices, salvos, indexes, HasRoom}
 use Rattle.swp08_messages.specs.Row.{protect_told}
 use Rattle.swp08_messages.specs.Text.{IsPoint, IsSource, InRange}
@@ -34,13 +35,13 @@ use Rattle.plant_core.specs.declared.answer.Answer.TheVariants.{Say}
 use Rattle.plant_core.specs.State.{State, IsValid, Fits, standing, owner_at, device_of, is_master}
 use Rattle.plant_core.specs.Connects.{says, says_nothing, change_of, connected}
 use Rattle.plant_core.specs.Protecting.{owner_told, with_owners, protected, unprotected}
-use Rattle.plant_core.specs.Salvos.{stored_in, taken_whole, cleared, message_place, no_place, told_place, entry_told, entry_answer}
+use Rattle.plant_core.specs.Salvos.{stored_in, gone, message_place, no_place, told_place, entry_told, entry_answer}
 use Rattle.plant_core.specs.Step.{step, dest_of, dest_count, dumped_at, told_source, told_owner, notice_of}
 use Rattle.plant_core.proofs.Validity.{device-within}
 use Rattle.plant_core.proofs.CountLemmas.{room_within, dest_count_within}
 use Rattle.plant_core.specs.Answer.{IsSayable}
 use Rattle.plant_core.proofs.Shows.{display_polled-sayable}
-use Rattle.plant_core.proofs.Outcomes.{by_made, by_taken}
+use Rattle.plant_core.proofs.Outcomes.{by_made, by_gone}
 
 -- a source has a number in its level that can be spelled, and so has each destination's place
 number-IsSource : (plant : PlantData) (source : Option ℕ) → IsPlant plant → IsSource (option_and_then (source_number_of plant) source)
@@ -155,14 +156,12 @@ sayable-stored state at source salvo (Some change) fits =
       | false ↦ All-nil IsSayable
     ]
 
-sayable-cleared : (state : State) (salvo : ℕ) (group : Group) → salvo < salvos → All IsSayable (cleared state salvo group).answers
-sayable-cleared state salvo [] few = All-one (Say (GoDone Empty salvo)) (tt, (few, tt))
-sayable-cleared state salvo (entry ∷ entries) few = All-one (Say (GoDone Cleared salvo)) (tt, (few, tt))
-
-sayable-whole : (state : State) (panel salvo : ℕ) (group : Group) → salvo < salvos → All IsSayable (taken_whole state panel salvo group).answers
-sayable-whole state panel salvo group few =
-    by_taken (λ (stepped : Stepped State Answer). All IsSayable stepped.answers) state panel salvo group
-    (λ may. All-one (Say (GoDone Made salvo)) (tt, (few, tt))) (λ status. All-one (Say (GoDone status salvo)) (tt, (few, tt)))
+sayable-gone : (state : State) (panel : ℕ) (clear : Bool) (salvo : ℕ) → salvo < salvos → All IsSayable (gone state panel clear salvo).answers
+sayable-gone state panel clear salvo few =
+    by_gone (λ (stepped : Stepped State Answer). All IsSayable stepped.answers) state panel clear salvo (λ may. told Made) (λ cleared. told Cleared) told
+  where
+    told : (status : GoStatus) → All IsSayable (Say (GoDone status salvo) ∷ [])
+    told status = All-one (Say (GoDone status salvo)) (tt, (few, tt))
 
 sayable-entry : (plant : PlantData) (group : Group) (salvo index : ℕ) (entry : Option Change) → IsPlant plant → salvo < salvos → index < indexes → InRange (entry_told plant group salvo index entry)
 sayable-entry plant group salvo index None is few within =
@@ -194,8 +193,7 @@ All-sayable state (Told panel item (DumpAsk matrix level)) valid fits =
     subst IsSayable (sym (get_or-map-range_with_len told 0 (dest_count state.plant matrix level) k k other within (omega arith)))
     (point, standing-IsSource state at valid.is_plant)
 All-sayable state (Told panel item (Store at source salvo)) valid fits = sayable-stored state at source salvo (change_of state.plant at source) fits.1.1
-All-sayable state (Told panel item (Go true salvo)) valid fits = sayable-cleared state salvo (group_of state.groups salvo) fits.1.1.1.0
-All-sayable state (Told panel item (Go false salvo)) valid fits = sayable-whole state panel salvo (group_of state.groups salvo) fits.1.1.1.0
+All-sayable state (Told panel item (Go clear salvo)) valid fits = sayable-gone state panel clear salvo fits.1.1.1.0
 All-sayable state (Told panel item (EntryAsk salvo index)) valid fits =
     All-one (Say (entry_answer state salvo index)) (sayable-entry state.plant (group_of state.groups salvo) salvo index (slice_get (group_of state.groups salvo) index) valid.is_plant fits.1.1.0 fits.1.1.1.0)
 All-sayable state (Told panel item message) valid fits = All-nil IsSayable

@@ -9,7 +9,7 @@ use Rattle.swp08_messages.specs.declared.point.Point.{Point}
 use Rattle.swp08_messages.specs.declared.message.Message.TheVariants.{Interrogate, Connect, ProtectAsk, ProtectConnect, ProtectDisconnect, ProtectTally, ProtectConnected, ProtectDisconnected, DumpAsk, Store, Stored, Go, EntryAsk}
 use Rattle.std.specs.FinMap as finite
 use Rattle.protects.specs.Owners.{allows, may_lift, taken, lifted}
-use Rattle.salvo_groups.specs.Groups.{Group, group_of, may_store, with_store}
+use Rattle.salvo_groups.specs.Groups.{group_of, may_store, with_store}
 use Rattle.plant_config.specs.declared.records.Change.{Change}
 use Rattle.plant_config.specs.declared.records.Level.{Level}
 use Rattle.plant_config.specs.Plant.{PlantData}
@@ -24,11 +24,11 @@ use Rattle.plant_core.specs.declared.answer.Answer.{Answer}
 use Rattle.plant_core.specs.State.{State, Fits, device_of, is_master}
 use Rattle.plant_core.specs.Connects.{says, says_nothing, change_of, connected}
 use Rattle.plant_core.specs.Protecting.{owner_told, with_owners, protected, unprotected}
-use Rattle.plant_core.specs.Salvos.{stored_in, taken_whole, cleared}
+use Rattle.plant_core.specs.Salvos.{stored_in, gone}
 use Rattle.plant_core.specs.Step.{step, dest_of, dest_count, dumped_at, notice_of}
 use Rattle.plant_core.specs.Answer.{IsAnswerCount, room_of}
 use Rattle.plant_core.proofs.Shows.{display_polled-few}
-use Rattle.plant_core.proofs.Outcomes.{by_made, by_taken}
+use Rattle.plant_core.proofs.Outcomes.{by_made, by_gone}
 
 -- no level has more destinations
 pub room_within : (plant : PlantData) → IsPlant plant → room_of plant ≤ 1024
@@ -85,13 +85,9 @@ stored-few state at source salvo None = omega arith
 stored-few state at source salvo (Some change) =
     elim (may_store (group_of state.groups salvo) change) as (λ b. length (cond b (says (record state { groups = with_store state.groups salvo change }) (Stored at source salvo)) (says_nothing state)).answers ≤ 1) [ true ↦ omega arith | false ↦ omega arith ]
 
-cleared-one : (state : State) (salvo : ℕ) (group : Group) → length (cleared state salvo group).answers ≡ 1
-cleared-one state salvo [] = refl
-cleared-one state salvo (entry ∷ entries) = refl
-
-whole-one : (state : State) (panel salvo : ℕ) (group : Group) → length (taken_whole state panel salvo group).answers ≡ 1
-whole-one state panel salvo group =
-    by_taken (λ (stepped : Stepped State Answer). length stepped.answers ≡ 1) state panel salvo group (λ may. refl) (λ status. refl)
+gone-one : (state : State) (panel : ℕ) (clear : Bool) (salvo : ℕ) → length (gone state panel clear salvo).answers ≡ 1
+gone-one state panel clear salvo =
+    by_gone (λ (stepped : Stepped State Answer). length stepped.answers ≡ 1) state panel clear salvo (λ may. refl) (λ cleared. refl) (λ status. refl)
 
 few-notices : (state : State) (notice : Option (ℕ × Sort)) → length (notice_of state notice) ≤ 1
 few-notices state None = omega arith
@@ -106,8 +102,7 @@ answer_count state (Told panel item (ProtectDisconnect at device)) fits = unprot
 answer_count state (Told panel item (DumpAsk matrix level)) fits =
     length-map-range_with_len (λ dest. dumped_at state (record { matrix = matrix; level = level; dest = dest })) 0 (dest_count state.plant matrix level)
 answer_count state (Told panel item (Store at source salvo)) fits = stored-few state at source salvo (change_of state.plant at source)
-answer_count state (Told panel item (Go true salvo)) fits = cleared-one state salvo (group_of state.groups salvo)
-answer_count state (Told panel item (Go false salvo)) fits = whole-one state panel salvo (group_of state.groups salvo)
+answer_count state (Told panel item (Go clear salvo)) fits = gone-one state panel clear salvo
 answer_count state (Told panel item (EntryAsk salvo index)) fits = refl
 answer_count state (Told panel item message) fits = let not = fits.1.0 in absurd cc
 answer_count state (Poll panel item turn) fits = few-notices state (next (board_of state.boards panel))

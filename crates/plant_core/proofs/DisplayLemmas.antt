@@ -18,9 +18,8 @@ use Rattle.change_boards.specs.Board.{Board}
 use Rattle.change_boards.specs.Shown.{Shown, is_same, differs, with_shown}
 use Rattle.plant_core.specs.declared.answer.Answer.{Answer}
 use Rattle.plant_core.specs.declared.answer.Answer.TheVariants.{Lamp}
-use Rattle.plant_core.specs.State.{State, AreCrosspoints}
-use Rattle.plant_core.specs.Displays.{value_of, all_shown}
-use Rattle.plant_core.specs.DisplaysInside.{differing_of, shown_all, lamps_of}
+use Rattle.plant_core.specs.State.{AreCrosspoints}
+use Rattle.plant_core.specs.Displays.{differing_of, shown_all, lamps_of}
 use Rattle.plant_core.proofs.Validity.{IsCrosspoint-below}
 
 -- each destination that isn't parked carries a source of the plant
@@ -100,11 +99,6 @@ Leads-one values shown items display rest new_shown new_items few apart now told
 pub length-one : (shown new_shown : Shown) (display : ℕ) (value : Value) → new_shown ≡ cond (differs shown display value) (with_shown shown display value) shown → length new_shown ≡ length shown
 length-one shown new_shown display value now =
     ap length now ∙ elim (differs shown display value) as (λ b. length (cond b (with_shown shown display value) shown) ≡ length shown) [ true ↦ length-set shown display (Some value) | false ↦ refl ]
-
--- what was shown is the same by the state and by the values alone
-pub all_shown-are : (displays : List ℕ) (state : State) (before : Shown) → all_shown state displays before ≡ shown_all (value_of state) displays before
-all_shown-are [] state before = refl
-all_shown-are (display ∷ displays) state before = all_shown-are displays state (with_shown before display (value_of state display))
 
 -- that all have left is told by a test
 pub left-is : (all_left : Bool) (boards : List Board) → (IsTrue all_left ↔ All (λ board. IsTrue board.left) boards) → all_left ≡ list_all (λ (board : Board). board.left) boards

@@ -16,8 +16,7 @@ use Rattle.plant_core.specs.declared.answer.Answer.TheVariants.{Lamp, Finished}
 use Rattle.plant_core.specs.declared.request.Request.TheVariants.{DisplayPoll}
 use Rattle.plant_core.specs.State.{State, IsValid}
 use Rattle.plant_core.specs.Displays as displays
-use Rattle.plant_core.specs.Displays.{lamp_limit, value_of, differing, refreshed, is_finished, told_displays, taken_first, all_shown}
-use Rattle.plant_core.specs.DisplaysInside.{differing_of, shown_all}
+use Rattle.plant_core.specs.Displays.{lamp_limit, value_of, differing_of, differing, is_finished, told_displays, taken_first, shown_all}
 use Rattle.plant_core.specs.Step.{step}
 use Rattle.plant_core.specs.Laws.{after}
 use Rattle.plant_core.specs.DisplayLaws.{NoneDiffers, IsNoLamp, IsOfLit, lamps_among, lamps_for, polls_of_screen}
@@ -25,7 +24,7 @@ use Rattle.plant_core.proofs.Changes.{source_same}
 use Rattle.plant_core.proofs.StepValidity.{IsValid-step}
 use Rattle.plant_core.proofs.Shows.{display_polled-is}
 use Rattle.plant_core.proofs.ScreenLemmas.{displays-below, displays-once}
-use Rattle.plant_core.proofs.DisplayLemmas.{all_shown-are, differing-others}
+use Rattle.plant_core.proofs.DisplayLemmas.{differing-others}
 
 -- a display that was shown its value doesn't differ
 beq-itself : (b : Bool) → beq b b ≡ true
@@ -96,7 +95,7 @@ rest-differs (first ∷ list) values (suc n) shown count once long below =
 -- what a poll leaves: the state in which those that it took were shown their values
 pub taken-state : (state : State) (list : List ℕ) → (told_displays state list).state ≡ record state { shown = shown_all (value_of state) list state.shown }
 taken-state state [] = refl
-taken-state state (display ∷ list) = ap (λ (shown : Shown). record state { shown = shown }) (all_shown-are (display ∷ list) state state.shown)
+taken-state state (display ∷ list) = refl
 
 pub taken-rest : (state : State) (screen : ℕ) → IsValid state → differing (taken_first state screen).state screen ≡ drop lamp_limit (differing state screen)
 taken-rest state screen valid =

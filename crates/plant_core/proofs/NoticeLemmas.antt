@@ -22,10 +22,10 @@ use Rattle.plant_core.specs.State.{State, IsValid, device_of, is_master}
 use Rattle.plant_core.specs.Noticed.{marked_for_others}
 use Rattle.plant_core.specs.Connects.{says, change_of, changed, connected}
 use Rattle.plant_core.specs.Protecting.{owner_told, has_same_owner, with_owners, protected, unprotected}
-use Rattle.plant_core.specs.Salvos.{emptied, moved, all_changed, taken_whole, cleared}
+use Rattle.plant_core.specs.Salvos.{emptied, moved, all_changed}
 use Rattle.plant_core.specs.Step.{step, dest_of}
 use Rattle.plant_core.specs.NoticeLaws.{IsHeard, IsOfOne, SourceChanged, OwnerChanged, AreHeardByAll}
-use Rattle.plant_core.proofs.Outcomes.{by_made, by_taken}
+use Rattle.plant_core.proofs.Outcomes.{by_made, by_gone}
 use Rattle.plant_core.proofs.Changes.{same_source, applied-idle, get-one_other, not_moved, is_moved}
 use Rattle.plant_core.proofs.Noticed.{is_among, others-IsHeard, marked_heard, marked_gone, marked_others, marked_stays_left}
 use Rattle.plant_core.proofs.OwnerLemmas.{taken_other, lifted_other}
@@ -130,15 +130,7 @@ heard-whole state salvo valid =
     among dest moves true is = is
     among dest moves false is = absurd (moves (not_moved state.plant state.crosspoints (group_of state.groups salvo) dest (valid.groups.each salvo).distinct is))
 
-whole-heard : (state : State) (panel salvo : ℕ) (group : Group) → group_of state.groups salvo ≡ group → IsValid state → AreHeardByAll state (taken_whole state panel salvo group).state
-whole-heard state panel salvo group h valid =
-    by_taken (λ (stepped : Stepped State Answer). AreHeardByAll state stepped.state) state panel salvo group
-    (λ may. subst (λ (g : Group). AreHeardByAll state (emptied (all_changed state g) salvo)) h (heard-whole state salvo valid)) (λ status. unheard state state refl refl)
-
 pub go-heard : (state : State) (panel item salvo : ℕ) (clear : Bool) → IsValid state → AreHeardByAll state (step state (Told panel item (Go clear salvo))).state
-go-heard state panel item salvo true valid = of_group (group_of state.groups salvo)
-  where
-    of_group : (group : Group) → AreHeardByAll state (cleared state salvo group).state
-    of_group [] = unheard state state refl refl
-    of_group (entry ∷ entries) = unheard state (emptied state salvo) refl refl
-go-heard state panel item salvo false valid = whole-heard state panel salvo (group_of state.groups salvo) refl valid
+go-heard state panel item salvo clear valid =
+    by_gone (λ (stepped : Stepped State Answer). AreHeardByAll state stepped.state) state panel clear salvo
+    (λ may. heard-whole state salvo valid) (λ cleared. unheard state (emptied state salvo) refl refl) (λ status. unheard state state refl refl)

@@ -9,7 +9,7 @@ use Rattle.plant_config.specs.declared.records.Change.{Change}
 use Rattle.plant_config.specs.Plant.{destinations_of}
 use Rattle.crosspoint_state.specs.Crosspoints.{is_idle}
 use Rattle.protects.specs.Owners.{allows, may_lift, taken as taken_owner, lifted}
-use Rattle.salvo_groups.specs.Groups.{Group, group_of}
+use Rattle.salvo_groups.specs.Groups.{group_of}
 use Rattle.change_boards.specs.declared.sort.Sort.{Sort}
 use Rattle.change_boards.specs.declared.sort.Sort.TheVariants.{Source, Protect}
 use Rattle.std.specs.FinMap as finite
@@ -26,13 +26,13 @@ use Rattle.plant_core.specs.State.{State, IsValid, device_of, is_master}
 use Rattle.plant_core.specs.Noticed.{marked_for_others}
 use Rattle.plant_core.specs.Connects.{says, change_of, connected}
 use Rattle.plant_core.specs.Protecting.{owner_told, has_same_owner, with_owners, protected, unprotected}
-use Rattle.plant_core.specs.Salvos.{moved, taken_whole}
+use Rattle.plant_core.specs.Salvos.{moved, gone}
 use Rattle.plant_core.specs.Step.{step, dest_of, notice_of}
 use Rattle.plant_core.specs.Laws.{after}
 use Rattle.plant_core.specs.NoticeLaws.{answers_of, notices_of, polls_of}
-use Rattle.plant_core.proofs.Outcomes.{by_made, by_taken}
+use Rattle.plant_core.proofs.Outcomes.{by_made, by_gone}
 use Rattle.plant_core.proofs.Noticed.{others-IsHeard, marked_stays_left}
-use Rattle.plant_core.proofs.QuietLemmas.{store-quiet, clear-quiet}
+use Rattle.plant_core.proofs.QuietLemmas.{store-quiet}
 use Rattle.plant_core.proofs.Shows.{display_polled-is}
 use Rattle.plant_core.proofs.StepValidity.{IsValid-step}
 use Rattle.plant_core.proofs.TellLemmas.{empty_has, poll-nothing}
@@ -139,10 +139,10 @@ module _ (state : State) (panel : ℕ) (left : has_left state.boards panel ≡ t
         | false ↦ left
       ]
 
-  whole_left : (p salvo : ℕ) (group : Group) → has_left (taken_whole state p salvo group).state.boards panel ≡ true
-  whole_left p salvo group =
-      by_taken (λ (stepped : Stepped State Answer). has_left stepped.state.boards panel ≡ true) state p salvo group
-      (λ may. marked_stays_left (moved state.crosspoints group) state.boards panel ∙ left) (λ status. left)
+  go_left : (p : ℕ) (clear : Bool) (salvo : ℕ) → has_left (gone state p clear salvo).state.boards panel ≡ true
+  go_left p clear salvo =
+      by_gone (λ (stepped : Stepped State Answer). has_left stepped.state.boards panel ≡ true) state p clear salvo
+      (λ may. marked_stays_left (moved state.crosspoints (group_of state.groups salvo)) state.boards panel ∙ left) (λ cleared. left) (λ status. left)
 
   told_left : (p item : ℕ) (message : Message) → has_left (step state (Told p item message)).state.boards panel ≡ true
   told_left p item (Interrogate at) = left
@@ -150,8 +150,7 @@ module _ (state : State) (panel : ℕ) (left : has_left state.boards panel ≡ t
   told_left p item (ProtectConnect at device) = protect_left p at (dest_of state at)
   told_left p item (ProtectDisconnect at device) = lift_left p at (dest_of state at)
   told_left p item (Store at source salvo) = ap (λ (b : List Board). has_left b panel) (store-quiet state at source salvo (change_of state.plant at source)) ∙ left
-  told_left p item (Go true salvo) = ap (λ (b : List Board). has_left b panel) (clear-quiet state salvo (group_of state.groups salvo)) ∙ left
-  told_left p item (Go false salvo) = whole_left p salvo (group_of state.groups salvo)
+  told_left p item (Go clear salvo) = go_left p clear salvo
   told_left p item message = left
 
 left-step : (state : State) (panel : ℕ) (request : Request) → has_left state.boards panel ≡ true → has_left (step state request).state.boards panel ≡ true

@@ -19,14 +19,14 @@ use Rattle.plant_core.specs.declared.answer.Answer.{Answer}
 use Rattle.plant_core.specs.State.{State, device_of, is_master, start}
 use Rattle.plant_core.specs.Connects.{says, says_nothing, change_of, connected}
 use Rattle.plant_core.specs.Protecting.{owner_told, with_owners, protected, unprotected}
-use Rattle.plant_core.specs.Salvos.{stored_in, taken_whole, cleared, gone}
+use Rattle.plant_core.specs.Salvos.{stored_in, gone}
 use Rattle.plant_core.specs.Step.{step, dest_of}
 use Rattle.plant_core.specs.ProtectLaws.{HasOwner, IsOfOtherDevice, IsOfNoMaster}
-use Rattle.plant_core.proofs.Outcomes.{by_made, by_taken, made-permitted}
+use Rattle.plant_core.proofs.Outcomes.{by_made, by_gone, made-permitted}
 use Rattle.plant_core.proofs.Changes.{kept-allows, permitted-apart, get-one_other, get-applied_other}
 use Rattle.plant_core.proofs.OwnerLemmas.{has-owner, taken_other, lifted_other}
 use Rattle.plant_core.proofs.Shows.{display_polled-is}
-use Rattle.plant_core.proofs.StepLeaves.{protected-leaves, unprotected-leaves, stored-leaves, cleared-leaves}
+use Rattle.plant_core.proofs.StepLeaves.{protected-leaves, unprotected-leaves, stored-leaves}
 
 -- the source of a destination that another device protects stays
 module _ (state : State) (panel dest device : ℕ) (owned : finite.get state.owners dest ≡ Some device) (other : device ≢ device_of state.plant panel) where
@@ -37,10 +37,11 @@ module _ (state : State) (panel dest device : ℕ) (owned : finite.get state.own
       (λ may.
       get-one_other state.plant state.crosspoints change dest (λ same. permitted-apart (change ∷ []) state.owners (device_of state.plant panel) dest device owned other (made-permitted state panel change may) 0 change (omega arith) (sym same))) refl
 
-  source-whole : (salvo : ℕ) (group : Group) → finite.get (taken_whole state panel salvo group).state.crosspoints dest ≡ finite.get state.crosspoints dest
-  source-whole salvo group =
-      by_taken (λ (stepped : Stepped State Answer). finite.get stepped.state.crosspoints dest ≡ finite.get state.crosspoints dest) state panel salvo group
-      (λ may. get-applied_other state.plant state.crosspoints group dest (permitted-apart group state.owners (device_of state.plant panel) dest device owned other may.permitted)) (λ status. refl)
+  source-gone : (clear : Bool) (salvo : ℕ) → finite.get (gone state panel clear salvo).state.crosspoints dest ≡ finite.get state.crosspoints dest
+  source-gone clear salvo =
+      let group : Group = group_of state.groups salvo in
+      by_gone (λ (stepped : Stepped State Answer). finite.get stepped.state.crosspoints dest ≡ finite.get state.crosspoints dest) state panel clear salvo
+      (λ may. get-applied_other state.plant state.crosspoints group dest (permitted-apart group state.owners (device_of state.plant panel) dest device owned other may.permitted)) (λ cleared. refl) (λ status. refl)
 
   source-told : (item : ℕ) (message : Message) → finite.get (step state (Told panel item message)).state.crosspoints dest ≡ finite.get state.crosspoints dest
   source-told item (Interrogate at) = refl
@@ -48,8 +49,7 @@ module _ (state : State) (panel dest device : ℕ) (owned : finite.get state.own
   source-told item (ProtectConnect at named) = ap (λ x. finite.get x dest) (protected-leaves state panel at (dest_of state at)).crosspoints
   source-told item (ProtectDisconnect at named) = ap (λ x. finite.get x dest) (unprotected-leaves state panel at (dest_of state at)).crosspoints
   source-told item (Store at source salvo) = ap (λ x. finite.get x dest) (stored-leaves state at source salvo (change_of state.plant at source)).crosspoints
-  source-told item (Go true salvo) = ap (λ x. finite.get x dest) (cleared-leaves state salvo (group_of state.groups salvo)).crosspoints
-  source-told item (Go false salvo) = source-whole salvo (group_of state.groups salvo)
+  source-told item (Go clear salvo) = source-gone clear salvo
   source-told item message = refl
 
   -- and so does its owner, if the panel is no master
@@ -97,15 +97,9 @@ stored-owners state at source salvo (Some change) =
       | false ↦ refl
     ]
 
-pub gone-owners : (state : State) (panel : ℕ) (clear : Bool) (salvo : ℕ) (group : Group) → group_of state.groups salvo ≡ group → (gone state panel clear salvo).state.owners ≡ state.owners
-gone-owners state panel true salvo group h = ap (λ (g : Group). (cleared state salvo g).state.owners) h ∙ of_group group
-  where
-    of_group : (group : Group) → (cleared state salvo group).state.owners ≡ state.owners
-    of_group [] = refl
-    of_group (entry ∷ entries) = refl
-gone-owners state panel false salvo group h =
-    ap (λ (g : Group). (taken_whole state panel salvo g).state.owners) h
-    ∙ by_taken (λ (stepped : Stepped State Answer). stepped.state.owners ≡ state.owners) state panel salvo group (λ may. refl) (λ status. refl)
+pub gone-owners : (state : State) (panel : ℕ) (clear : Bool) (salvo : ℕ) → (gone state panel clear salvo).state.owners ≡ state.owners
+gone-owners state panel clear salvo =
+    by_gone (λ (stepped : Stepped State Answer). stepped.state.owners ≡ state.owners) state panel clear salvo (λ may. refl) (λ cleared. refl) (λ status. refl)
 
 pub sources-stay : (state : State) (request : Request) (dest device : ℕ) → finite.get state.owners dest ≡ Some device → IsOfOtherDevice state request device →
     finite.get (step state request).state.crosspoints dest ≡ finite.get state.crosspoints dest
@@ -121,7 +115,7 @@ owners-stay state (Told panel item (Connect at source)) dest device owned other 
 owners-stay state (Told panel item (ProtectConnect at named)) dest device owned other mere = owner-protect state panel dest device owned other at (dest_of state at)
 owners-stay state (Told panel item (ProtectDisconnect at named)) dest device owned other mere = owner-lift state panel dest device owned other mere at (dest_of state at)
 owners-stay state (Told panel item (Store at source salvo)) dest device owned other mere = ap (λ o. finite.get o dest) (stored-owners state at source salvo (change_of state.plant at source)) ∙ owned
-owners-stay state (Told panel item (Go clear salvo)) dest device owned other mere = ap (λ o. finite.get o dest) (gone-owners state panel clear salvo (group_of state.groups salvo) refl) ∙ owned
+owners-stay state (Told panel item (Go clear salvo)) dest device owned other mere = ap (λ o. finite.get o dest) (gone-owners state panel clear salvo) ∙ owned
 owners-stay state (Told panel item message) dest device owned other mere = owned
 owners-stay state (Poll panel item turn) dest device owned other mere = owned
 owners-stay state (Leave panel) dest device owned other mere = owned

@@ -1,5 +1,5 @@
 -- What changes neither a source nor an owner gives no notice.
-use Rattle.std.proofs.Common.{◌≡◌, ℕ, nat_eq, Bool, true, false, cond, ◌||◌, List, [], ◌∷◌, Option, Some, None, refl, sym, ap, subst, ◌∙◌, eq-eqb}
+use Rattle.std.proofs.Common.{◌≡◌, ℕ, nat_eq, Bool, true, false, cond, ◌||◌, List, [], ◌∷◌, Option, Some, None, refl, sym, ap, ◌∙◌, eq-eqb}
 use Rattle.std.proofs.lemmas.Bool.{both_ways}
 use Rattle.std.specs.Option.{option_eq}
 use Rattle.std.specs.FinMap as finite
@@ -7,7 +7,7 @@ use Rattle.swp08_messages.specs.declared.point.Point.{Point}
 use Rattle.swp08_messages.specs.declared.message.Message.{Message}
 use Rattle.swp08_messages.specs.declared.message.Message.TheVariants.{Interrogate, Connect, ProtectConnect, ProtectDisconnect, ProtectTally, ProtectConnected, ProtectDisconnected, Store, Stored, Go}
 use Rattle.plant_config.specs.declared.records.Change.{Change}
-use Rattle.crosspoint_state.specs.Crosspoints.{source_of, is_idle, NamesOnce}
+use Rattle.crosspoint_state.specs.Crosspoints.{source_of, is_idle}
 use Rattle.crosspoint_state.specs.Applied.{applied}
 use Rattle.protects.specs.Owners.{Owners, allows, may_lift, taken, lifted}
 use Rattle.salvo_groups.specs.Groups.{Group, group_of, may_store, with_store}
@@ -19,11 +19,11 @@ use Rattle.plant_core.specs.State.{State, IsValid, device_of, is_master}
 use Rattle.plant_core.specs.Noticed.{marked_for_others, all_marked}
 use Rattle.plant_core.specs.Connects.{says, says_nothing, change_of, connected}
 use Rattle.plant_core.specs.Protecting.{owner_told, has_same_owner, with_owners, protected, unprotected}
-use Rattle.plant_core.specs.Salvos.{stored_in, moved, taken_whole, cleared}
+use Rattle.plant_core.specs.Salvos.{stored_in, moved, gone}
 use Rattle.plant_core.specs.Step.{step, dest_of}
 use Rattle.plant_core.specs.Laws.{CarryAsBefore}
 use Rattle.plant_core.specs.NoticeLaws.{OwnedAsBefore}
-use Rattle.plant_core.proofs.Outcomes.{by_made, by_taken}
+use Rattle.plant_core.proofs.Outcomes.{by_made, by_gone}
 use Rattle.plant_core.proofs.Changes.{source_same, source_of-one, source-idle, is_moved}
 use Rattle.plant_core.proofs.Noticed.{is_among}
 
@@ -71,24 +71,20 @@ store-quiet state at source salvo (Some change) =
       | false ↦ refl
     ]
 
-pub clear-quiet : (state : State) (salvo : ℕ) (group : Group) → (cleared state salvo group).state.boards ≡ state.boards
-clear-quiet state salvo [] = refl
-clear-quiet state salvo (entry ∷ entries) = refl
-
 -- a list in which nothing is is empty
 none_among : (dests : List ℕ) → ((d : ℕ) → is_among dests d ≡ true → ⊥) → dests ≡ []
 none_among [] none = refl
 none_among (dest ∷ dests) none = absurd (none dest (ap (λ b. b || is_among dests dest) (eq-eqb dest dest refl)))
 
-whole-quiet : (state : State) (panel salvo : ℕ) (group : Group) → group_of state.groups salvo ≡ group → IsValid state → CarryAsBefore state (taken_whole state panel salvo group).state →
-    (taken_whole state panel salvo group).state.boards ≡ state.boards
-whole-quiet state panel salvo group h valid same =
-    by_taken (λ (stepped : Stepped State Answer). CarryAsBefore state stepped.state → stepped.state.boards ≡ state.boards) state panel salvo group (λ may. still) (λ status same. refl) same
+gone-quiet : (state : State) (panel : ℕ) (clear : Bool) (salvo : ℕ) → IsValid state → CarryAsBefore state (gone state panel clear salvo).state → (gone state panel clear salvo).state.boards ≡ state.boards
+gone-quiet state panel clear salvo valid same =
+    by_gone (λ (stepped : Stepped State Answer). CarryAsBefore state stepped.state → stepped.state.boards ≡ state.boards) state panel clear salvo (λ may. still) (λ cleared same. refl) (λ status same. refl) same
   where
+    group : Group
+    group = group_of state.groups salvo
+
     still : ((d : ℕ) → source_of (applied state.plant state.crosspoints group) d ≡ source_of state.crosspoints d) → all_marked state.boards (moved state.crosspoints group) ≡ state.boards
-    still same =
-        let once = subst (λ (g : Group). NamesOnce g) h (valid.groups.each salvo).distinct in
-        ap (all_marked state.boards) (none_among (moved state.crosspoints group) (λ d among. is_moved state.plant state.crosspoints group d once among (same d)))
+    still same = ap (all_marked state.boards) (none_among (moved state.crosspoints group) (λ d among. is_moved state.plant state.crosspoints group d (valid.groups.each salvo).distinct among (same d)))
 
 pub told-quiet : (state : State) (panel item : ℕ) (message : Message) → IsValid state → CarryAsBefore state (step state (Told panel item message)).state → OwnedAsBefore state (step state (Told panel item message)).state →
     (step state (Told panel item message)).state.boards ≡ state.boards
@@ -97,6 +93,5 @@ told-quiet state panel item (Connect at source) valid sources owners = connect-q
 told-quiet state panel item (ProtectConnect at device) valid sources owners = protect-quiet state panel at (dest_of state at) owners
 told-quiet state panel item (ProtectDisconnect at device) valid sources owners = lift-quiet state panel at (dest_of state at) owners
 told-quiet state panel item (Store at source salvo) valid sources owners = store-quiet state at source salvo (change_of state.plant at source)
-told-quiet state panel item (Go true salvo) valid sources owners = clear-quiet state salvo (group_of state.groups salvo)
-told-quiet state panel item (Go false salvo) valid sources owners = whole-quiet state panel salvo (group_of state.groups salvo) refl valid sources
+told-quiet state panel item (Go clear salvo) valid sources owners = gone-quiet state panel clear salvo valid sources
 told-quiet state panel item message valid sources owners = refl

@@ -13,8 +13,7 @@ use Rattle.change_boards.specs.Shown.{Shown, is_same, last, with_shown, with_for
 use Rattle.plant_core.specs.declared.request.Request.TheVariants.{DisplayPoll}
 use Rattle.plant_core.specs.State.{State, IsValid}
 use Rattle.plant_core.specs.Displays as displays
-use Rattle.plant_core.specs.Displays.{lamp_limit, value_of, differing, refreshed, is_finished, told_displays, taken_first, all_shown}
-use Rattle.plant_core.specs.DisplaysInside.{shown_all}
+use Rattle.plant_core.specs.Displays.{lamp_limit, value_of, differing, refreshed, told_displays, taken_first, shown_all}
 use Rattle.plant_core.specs.Step.{step}
 use Rattle.plant_core.specs.DisplayLaws.{lamps_for}
 use Rattle.plant_core.proofs.Validity.{IsValid-shown}

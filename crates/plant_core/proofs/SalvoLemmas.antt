@@ -1,8 +1,8 @@
 -- Groups are taken whole or not at all, and entries are read back.
-use Rattle.std.proofs.Common.{◌≡◌, ◌≢◌, ◌⊎◌, ℕ, ◌<◌, Bool, true, false, cond, List, [], ◌∷◌, set, Option, Some, None, IfSome, inl, inr, refl, sym, ap, subst, ◌∙◌, arith}
+use Rattle.std.proofs.Common.{◌≡◌, ◌≢◌, ◌⊎◌, ℕ, ◌<◌, ◌==◌, Bool, true, false, not, cond, List, [], ◌∷◌, length, set, Option, Some, None, IfSome, inl, inr, refl, sym, ap, subst, ◌∙◌, arith}
 use Rattle.std.specs.Prelude.{slice_get}
 use Rattle.std.specs.Option.{option_map, unwrap_or}
-use Rattle.std.proofs.lemmas.Bool.{false_from_ne_true}
+use Rattle.std.proofs.lemmas.Bool.{false_from_ne_true, ne_eqb}
 use Rattle.std.proofs.lemmas.List.{get_or-set_same, get_or-set_other}
 use Rattle.swp08_messages.specs.declared.point.Point.{Point}
 use Rattle.swp08_messages.specs.declared.message.Message.TheVariants.{Store, Stored, Go, GoDone, EntryAsk, Entry}
@@ -23,19 +23,18 @@ use Rattle.plant_core.specs.declared.answer.Answer.{Answer}
 use Rattle.plant_core.specs.declared.answer.Answer.TheVariants.{Say}
 use Rattle.plant_core.specs.State.{State, IsValid, device_of}
 use Rattle.plant_core.specs.Connects.{says, says_nothing, change_of, are_permitted}
-use Rattle.plant_core.specs.Salvos.{stored_in, emptied, all_changed, taken_by_ties, taken_whole, cleared, message_place, no_place, told_place, validity_at, entry_told}
+use Rattle.plant_core.specs.Salvos.{stored_in, emptied, all_changed, gone, message_place, no_place, told_place, validity_at, entry_told}
 use Rattle.plant_core.specs.Step.{step}
 use Rattle.plant_core.specs.SalvoLaws.{IsTakenWhole, HasForeign, HasTies, OtherGroupsStay, IsGone, IsCleared, IsStoredNow}
 use Rattle.plant_core.proofs.Validity.{change_of-is}
 use Rattle.plant_core.proofs.Changes.{source_of-applied, get-applied_other, not_permitted, kept-permitted}
-use Rattle.plant_core.proofs.Outcomes.{by_taken}
+use Rattle.plant_core.proofs.Outcomes.{gone_by, by_gone}
 use Rattle.plant_core.proofs.Steps.{wanted-number}
 
--- a group that has entries is taken by its ties where it is permitted, and else not at all
-whole-by : (state : State) (panel salvo : ℕ) (group : Group) (b : Bool) → group ≢ [] → are_permitted state.owners (device_of state.plant panel) group ≡ b →
-    taken_whole state panel salvo group ≡ cond b (taken_by_ties state salvo group) (says state (GoDone Protected salvo))
-whole-by state panel salvo [] b some permitted = absurd (some refl)
-whole-by state panel salvo (entry ∷ entries) b some permitted = ap (λ b. cond b (taken_by_ties state salvo (entry ∷ entries)) (says state (GoDone Protected salvo))) permitted
+-- a group that has entries has some
+filled : (group : Group) → group ≢ [] → (length group == 0) ≡ false
+filled [] some = absurd (some refl)
+filled (entry ∷ entries) some = ne_eqb (length (entry ∷ entries)) 0 (λ e. omega arith)
 
 -- no entry of a group is kept from the device
 not_foreign : (state : State) (panel : ℕ) (group : Group) → ¬ HasForeign state (device_of state.plant panel) group → are_permitted state.owners (device_of state.plant panel) group ≡ true
@@ -44,10 +43,6 @@ not_foreign state panel group free = go (are_permitted state.owners (device_of s
     go : (b : Bool) → are_permitted state.owners (device_of state.plant panel) group ≡ b → are_permitted state.owners (device_of state.plant panel) group ≡ true
     go true permitted = permitted
     go false kept = absurd (free (not_permitted group state.owners (device_of state.plant panel) kept))
-
-cleared-by : (state : State) (salvo : ℕ) (group : Group) → group ≢ [] → cleared state salvo group ≡ says (emptied state salvo) (GoDone Cleared salvo)
-cleared-by state salvo [] some = absurd (some refl)
-cleared-by state salvo (entry ∷ entries) some = refl
 
 -- a group that was emptied is empty, and the others stay
 emptied-empty : (state : State) (salvo : ℕ) → IsValid state → salvo < salvo_limit → group_of (with_clear state.groups salvo) salvo ≡ []
@@ -64,21 +59,17 @@ changed-whole state salvo valid = record {
 
 pub go-whole : (state : State) (panel item salvo : ℕ) (clear : Bool) → IsValid state →
     IsTakenWhole state (group_of state.groups salvo) (step state (Told panel item (Go clear salvo))).state ⊎ ((step state (Told panel item (Go clear salvo))).state.crosspoints ≡ state.crosspoints)
-go-whole state panel item salvo true valid = inr (of_group (group_of state.groups salvo))
-  where
-    of_group : (group : Group) → (cleared state salvo group).state.crosspoints ≡ state.crosspoints
-    of_group [] = refl
-    of_group (entry ∷ entries) = refl
-go-whole state panel item salvo false valid =
-    by_taken (λ (stepped : Stepped State Answer). IsTakenWhole state (group_of state.groups salvo) stepped.state ⊎ (stepped.state.crosspoints ≡ state.crosspoints))
-    state panel salvo (group_of state.groups salvo) (λ may. inl (changed-whole state salvo valid)) (λ status. inr refl)
+go-whole state panel item salvo clear valid =
+    by_gone (λ (stepped : Stepped State Answer). IsTakenWhole state (group_of state.groups salvo) stepped.state ⊎ (stepped.state.crosspoints ≡ state.crosspoints))
+    state panel clear salvo (λ may. inl (changed-whole state salvo valid)) (λ cleared. inr refl) (λ status. inr refl)
 
 pub go-IsGone : (state : State) (panel item salvo : ℕ) → IsValid state → salvo < salvo_limit → group_of state.groups salvo ≢ [] → ¬ HasForeign state (device_of state.plant panel) (group_of state.groups salvo) →
     HasTies state (group_of state.groups salvo) → IsGone state salvo (step state (Told panel item (Go false salvo)))
 go-IsGone state panel item salvo valid within some free enough =
     let group : Group = group_of state.groups salvo in
-    let taken = whole-by state panel salvo group true some (not_foreign state panel group free)
-    ∙ ap (λ b. cond b (says (emptied (all_changed state group) salvo) (GoDone Made salvo)) (says state (GoDone NoTie salvo))) enough in
+    let permitted = not_foreign state panel group free in
+    let taken : gone state panel false salvo ≡ says (emptied (all_changed state group) salvo) (GoDone Made salvo) =
+    λ i. gone_by state salvo (filled group some i) false (not (permitted i)) (not (enough i)) in
     subst (IsGone state salvo) (sym taken) (record {
       answer = refl;
       whole = changed-whole state salvo valid;
@@ -89,32 +80,40 @@ go-IsGone state panel item salvo valid within some free enough =
 
 pub go-tieless : (state : State) (panel item salvo : ℕ) → group_of state.groups salvo ≢ [] → ¬ HasForeign state (device_of state.plant panel) (group_of state.groups salvo) →
     ¬ HasTies state (group_of state.groups salvo) → step state (Told panel item (Go false salvo)) ≡ record { state = state; answers = Say (GoDone NoTie salvo) ∷ [] }
-go-tieless state panel item salvo some free short =
+go-tieless state panel item salvo some free missing =
     let group : Group = group_of state.groups salvo in
-    whole-by state panel salvo group true some (not_foreign state panel group free)
-    ∙ ap (λ b. cond b (says (emptied (all_changed state group) salvo) (GoDone Made salvo)) (says state (GoDone NoTie salvo))) (false_from_ne_true (are_enough state.plant state.crosspoints group) short)
+    let permitted = not_foreign state panel group free in
+    let short = false_from_ne_true (are_enough state.plant state.crosspoints group) missing in
+    λ i. gone_by state salvo (filled group some i) false (not (permitted i)) (not (short i))
 
 pub go-kept : (state : State) (panel item salvo : ℕ) → HasForeign state (device_of state.plant panel) (group_of state.groups salvo) →
     step state (Told panel item (Go false salvo)) ≡ record { state = state; answers = Say (GoDone Protected salvo) ∷ [] }
-go-kept state panel item salvo kept =
-    whole-by state panel salvo (group_of state.groups salvo) false (some (group_of state.groups salvo) kept) (kept-permitted (group_of state.groups salvo) state.owners (device_of state.plant panel) kept)
+go-kept state panel item salvo foreign =
+    let group : Group = group_of state.groups salvo in
+    let kept = kept-permitted group state.owners (device_of state.plant panel) foreign in
+    λ i. gone_by state salvo (filled group (some group foreign) i) false (not (kept i)) (not (are_enough state.plant state.crosspoints group))
   where
     some : (group : Group) → HasForeign state (device_of state.plant panel) group → group ≢ []
     some [] kept e = absurd (omega (arith, kept.2))
     some (entry ∷ entries) kept e = cc
 
 pub go-IsCleared : (state : State) (panel item salvo : ℕ) → IsValid state → salvo < salvo_limit → group_of state.groups salvo ≢ [] → IsCleared state salvo (step state (Told panel item (Go true salvo)))
-go-IsCleared state panel item salvo valid within some = subst (IsCleared state salvo) (sym (cleared-by state salvo (group_of state.groups salvo) some)) (record {
-  answer = refl;
-  empty = emptied-empty state salvo valid within;
-  groups = emptied-others state (emptied state salvo) salvo refl;
-  rest = refl;
-})
+go-IsCleared state panel item salvo valid within some =
+    let group : Group = group_of state.groups salvo in
+    let cleared : gone state panel true salvo ≡ says (emptied state salvo) (GoDone Cleared salvo) =
+    λ i. gone_by state salvo (filled group some i) true (not (are_permitted state.owners (device_of state.plant panel) group)) (not (are_enough state.plant state.crosspoints group)) in
+    subst (IsCleared state salvo) (sym cleared) (record {
+      answer = refl;
+      empty = emptied-empty state salvo valid within;
+      groups = emptied-others state (emptied state salvo) salvo refl;
+      rest = refl;
+    })
 
 pub go-empty : (state : State) (panel item salvo : ℕ) (clear : Bool) → group_of state.groups salvo ≡ [] →
     step state (Told panel item (Go clear salvo)) ≡ record { state = state; answers = Say (GoDone Empty salvo) ∷ [] }
-go-empty state panel item salvo true none = ap (cleared state salvo) none
-go-empty state panel item salvo false none = ap (taken_whole state panel salvo) none
+go-empty state panel item salvo clear none =
+    let group : Group = group_of state.groups salvo in
+    λ i. gone_by state salvo (length (none i) == 0) clear (not (are_permitted state.owners (device_of state.plant panel) group)) (not (are_enough state.plant state.crosspoints group))
 
 -- stores
 stored-by : (state : State) (at : Point) (source : Option ℕ) (salvo : ℕ) (change : Change) (b : Bool) → change_of state.plant at source ≡ Some change → may_store (group_of state.groups salvo) change ≡ b →

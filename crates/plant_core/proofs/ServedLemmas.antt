@@ -1,10 +1,9 @@
 -- Boards don't matter for what messages do.
-use Rattle.std.proofs.Common.{◌≡◌, ℕ, Bool, true, false, cond, List, [], ◌∷◌, Option, Some, None, refl}
+use Rattle.std.proofs.Common.{◌≡◌, ℕ, ◌==◌, Bool, true, false, not, cond, List, length, Option, Some, None, refl}
 use Rattle.std.specs.FinMap as finite
 use Rattle.swp08_messages.specs.declared.point.Point.{Point}
 use Rattle.swp08_messages.specs.declared.message.Message.{Message}
-use Rattle.swp08_messages.specs.declared.message.Message.TheVariants.{Interrogate, Connect, Tally, Connected, ProtectConnect, ProtectDisconnect, ProtectTally, ProtectConnected, ProtectDisconnected, Store, Stored, Go, GoDone}
-use Rattle.swp08_messages.specs.declared.go_status.GoStatus.TheVariants.{Made, Protected, NoTie}
+use Rattle.swp08_messages.specs.declared.message.Message.TheVariants.{Interrogate, Connect, Tally, Connected, ProtectConnect, ProtectDisconnect, ProtectTally, ProtectConnected, ProtectDisconnected, Store, Stored, Go}
 use Rattle.plant_config.specs.declared.records.Change.{Change}
 use Rattle.crosspoint_state.specs.Applied.{are_enough}
 use Rattle.protects.specs.Owners.{allows, may_lift, taken, lifted}
@@ -16,8 +15,9 @@ use Rattle.plant_core.specs.declared.answer.Answer.{Answer}
 use Rattle.plant_core.specs.State.{State, standing, device_of, is_master}
 use Rattle.plant_core.specs.Connects.{says, says_nothing, change_of, are_permitted, changed, may_make, connected}
 use Rattle.plant_core.specs.Protecting.{owner_told, with_owners, protected, unprotected}
-use Rattle.plant_core.specs.Salvos.{stored_in, emptied, all_changed, taken_by_ties, taken_whole, cleared}
+use Rattle.plant_core.specs.Salvos.{stored_in}
 use Rattle.plant_core.specs.Step.{step, dest_of}
+use Rattle.plant_core.proofs.Outcomes.{gone_by}
 
 -- two steps are answered, and change all but the notices, alike
 pub record AreAlike (one other : Stepped State Answer) : Type 0 where
@@ -65,24 +65,12 @@ module _ (state : State) (boards : List Board) where
         | false ↦ record { answers = refl; crosspoints = refl; owners = refl; groups = refl }
       ]
 
-  clear_alike : (salvo : ℕ) (group : Group) → AreAlike (cleared there salvo group) (cleared state salvo group)
-  clear_alike salvo [] = record { answers = refl; crosspoints = refl; owners = refl; groups = refl }
-  clear_alike salvo (entry ∷ entries) = record { answers = refl; crosspoints = refl; owners = refl; groups = refl }
-
-  ties_alike : (salvo : ℕ) (group : Group) → AreAlike (taken_by_ties there salvo group) (taken_by_ties state salvo group)
-  ties_alike salvo group =
-      elim (are_enough state.plant state.crosspoints group) as (λ b. AreAlike (cond b (says (emptied (all_changed there group) salvo) (GoDone Made salvo)) (says there (GoDone NoTie salvo))) (cond b (says (emptied (all_changed state group) salvo) (GoDone Made salvo)) (says state (GoDone NoTie salvo)))) [
-        | true ↦ record { answers = refl; crosspoints = refl; owners = refl; groups = refl }
-        | false ↦ record { answers = refl; crosspoints = refl; owners = refl; groups = refl }
-      ]
-
-  whole_alike : (panel salvo : ℕ) (group : Group) → AreAlike (taken_whole there panel salvo group) (taken_whole state panel salvo group)
-  whole_alike panel salvo [] = record { answers = refl; crosspoints = refl; owners = refl; groups = refl }
-  whole_alike panel salvo (entry ∷ entries) =
-      elim (are_permitted state.owners (device_of state.plant panel) (entry ∷ entries)) as (λ b. AreAlike (cond b (taken_by_ties there salvo (entry ∷ entries)) (says there (GoDone Protected salvo))) (cond b (taken_by_ties state salvo (entry ∷ entries)) (says state (GoDone Protected salvo)))) [
-        | true ↦ ties_alike salvo (entry ∷ entries)
-        | false ↦ record { answers = refl; crosspoints = refl; owners = refl; groups = refl }
-      ]
+  go_alike : (salvo : ℕ) (empty clear foreign short : Bool) → AreAlike (gone_by there salvo empty clear foreign short) (gone_by state salvo empty clear foreign short)
+  go_alike salvo true clear foreign short = record { answers = refl; crosspoints = refl; owners = refl; groups = refl }
+  go_alike salvo false true foreign short = record { answers = refl; crosspoints = refl; owners = refl; groups = refl }
+  go_alike salvo false false true short = record { answers = refl; crosspoints = refl; owners = refl; groups = refl }
+  go_alike salvo false false false true = record { answers = refl; crosspoints = refl; owners = refl; groups = refl }
+  go_alike salvo false false false false = record { answers = refl; crosspoints = refl; owners = refl; groups = refl }
 
   pub told_alike : (panel item : ℕ) (message : Message) → AreAlike (step there (Told panel item message)) (step state (Told panel item message))
   told_alike panel item (Interrogate at) = record { answers = refl; crosspoints = refl; owners = refl; groups = refl }
@@ -90,6 +78,7 @@ module _ (state : State) (boards : List Board) where
   told_alike panel item (ProtectConnect at device) = protect_alike panel at (dest_of state at)
   told_alike panel item (ProtectDisconnect at device) = lift_alike panel at (dest_of state at)
   told_alike panel item (Store at source salvo) = store_alike at source salvo (change_of state.plant at source)
-  told_alike panel item (Go true salvo) = clear_alike salvo (group_of state.groups salvo)
-  told_alike panel item (Go false salvo) = whole_alike panel salvo (group_of state.groups salvo)
+  told_alike panel item (Go clear salvo) =
+      let group : Group = group_of state.groups salvo in
+      go_alike salvo (length group == 0) clear (not (are_permitted state.owners (device_of state.plant panel) group)) (not (are_enough state.plant state.crosspoints group))
   told_alike panel item message = record { answers = refl; crosspoints = refl; owners = refl; groups = refl }

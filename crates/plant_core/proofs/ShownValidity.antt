@@ -11,10 +11,8 @@ use Rattle.change_boards.specs.declared.value.Value.{Value}
 use Rattle.change_boards.specs.Screens.{displays_of}
 use Rattle.change_boards.specs.Shown.{Shown, last, with_shown, with_forgotten}
 use Rattle.plant_core.specs.State.{State, IsCrosspoint, AreCrosspoints, CanHave, AreShown, IsValid}
-use Rattle.plant_core.specs.Displays.{dark, value_with, display_value, refreshed}
-use Rattle.plant_core.specs.DisplaysInside.{value_in, shown_all}
+use Rattle.plant_core.specs.Displays.{dark, value_with, display_value, value_in, refreshed, shown_all}
 use Rattle.plant_core.proofs.Validity.{source_of-spot}
-use Rattle.plant_core.proofs.DisplayLemmas.{all_shown-are}
 use Rattle.plant_core.proofs.Shows.{shown_with, first_of, shown_behind}
 
 -- a display, if there is one of this number, can be shown a value
@@ -72,7 +70,7 @@ AreShown-shown_all (first ∷ list) plant crosspoints shown carry are =
 shown_with-are : (state : State) (list : List ℕ) → AreCrosspoints state.plant state.crosspoints → AreShown state.plant state.shown → AreShown state.plant (shown_with state list)
 shown_with-are state [] carry are = are
 shown_with-are state (first ∷ list) carry are =
-    subst (AreShown state.plant) (sym (all_shown-are (first ∷ list) state state.shown)) (AreShown-shown_all (first ∷ list) state.plant state.crosspoints state.shown carry are)
+    AreShown-shown_all (first ∷ list) state.plant state.crosspoints state.shown carry are
 
 pub shown_behind-are : (state : State) (screen : ℕ) (refresh : Bool) → IsValid state → AreShown state.plant (shown_behind state screen refresh)
 shown_behind-are state screen true valid =

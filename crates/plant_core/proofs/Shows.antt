@@ -5,13 +5,13 @@ use Rattle.std.proofs.lemmas.List.Elements.{All-nil, All-push, All-map}
 use Rattle.change_boards.specs.Shown as shown
 use Rattle.plant_core.specs.declared.answer.Answer.TheVariants.{Lamp, Finished}
 use Rattle.plant_core.specs.State.{State}
-use Rattle.plant_core.specs.Displays.{lamp_limit, value_of, differing, refreshed, all_shown, is_finished, told_displays, display_polled}
+use Rattle.plant_core.specs.Displays.{lamp_limit, value_of, differing, refreshed, shown_all, is_finished, told_displays, display_polled}
 use Rattle.plant_core.specs.Answer.{IsSayable}
 
 -- what was shown once these were told_displays
 abbrev pub shown_with : State → List ℕ → shown.Shown
 shown_with state [] = state.shown
-shown_with state (display ∷ displays) = all_shown state (display ∷ displays) state.shown
+shown_with state (display ∷ displays) = shown_all (value_of state) (display ∷ displays) state.shown
 
 taken-is : (state : State) (displays : List ℕ) → (told_displays state displays).state ≡ record state { shown = shown_with state displays }
 taken-is state [] = refl

@@ -8,7 +8,7 @@ use Rattle.swp08_messages.specs.declared.message.Message.TheVariants.{Interrogat
 use Rattle.plant_config.specs.declared.records.Change.{Change}
 use Rattle.crosspoint_state.specs.Crosspoints.{is_idle}
 use Rattle.protects.specs.Owners.{allows, may_lift, taken, lifted}
-use Rattle.salvo_groups.specs.Groups.{Group, group_of}
+use Rattle.salvo_groups.specs.Groups.{group_of}
 use Rattle.change_boards.specs.declared.sort.Sort.{Sort}
 use Rattle.change_boards.specs.declared.sort.Sort.TheVariants.{Source, Protect}
 use Rattle.change_boards.specs.Board.{Board, abandoned, has_notice, without_next as taken_board}
@@ -22,16 +22,16 @@ use Rattle.plant_core.specs.State.{State, IsValid, device_of, is_master}
 use Rattle.plant_core.specs.Noticed.{marked_for_others}
 use Rattle.plant_core.specs.Connects.{says, change_of, connected}
 use Rattle.plant_core.specs.Protecting.{owner_told, has_same_owner, with_owners, protected, unprotected}
-use Rattle.plant_core.specs.Salvos.{moved, taken_whole}
+use Rattle.plant_core.specs.Salvos.{moved, gone}
 use Rattle.plant_core.specs.Step.{step, dest_of}
 use Rattle.plant_core.specs.Laws.{after}
 use Rattle.plant_core.specs.NoticeLaws.{PollTells, IsToldAmong, IsNoPollOrLeave}
 use Rattle.plant_core.proofs.Noticed.{others_keep, marked_keeps, same_notice}
 use Rattle.plant_core.proofs.TellLemmas.{poll-IsTold}
-use Rattle.plant_core.proofs.Outcomes.{by_made, by_taken}
+use Rattle.plant_core.proofs.Outcomes.{by_made, by_gone}
 use Rattle.plant_core.proofs.Shows.{display_polled-is}
 use Rattle.plant_core.proofs.StepValidity.{IsValid-step}
-use Rattle.plant_core.proofs.QuietLemmas.{store-quiet, clear-quiet}
+use Rattle.plant_core.proofs.QuietLemmas.{store-quiet}
 
 -- a notice stands behind each request that isn't a poll or a leave of its panel
 module _ (state : State) (panel dest : ℕ) (sort : Sort) (stands : has state.boards panel dest sort ≡ true) where
@@ -68,10 +68,10 @@ module _ (state : State) (panel dest : ℕ) (sort : Sort) (stands : has state.bo
         | false ↦ stands
       ]
 
-  whole_keeps : (p salvo : ℕ) (group : Group) → has (taken_whole state p salvo group).state.boards panel dest sort ≡ true
-  whole_keeps p salvo group =
-      by_taken (λ (stepped : Stepped State Answer). has stepped.state.boards panel dest sort ≡ true) state p salvo group
-      (λ may. marked_keeps (moved state.crosspoints group) state.boards panel dest sort stands) (λ status. stands)
+  go_keeps : (p : ℕ) (clear : Bool) (salvo : ℕ) → has (gone state p clear salvo).state.boards panel dest sort ≡ true
+  go_keeps p clear salvo =
+      by_gone (λ (stepped : Stepped State Answer). has stepped.state.boards panel dest sort ≡ true) state p clear salvo
+      (λ may. marked_keeps (moved state.crosspoints (group_of state.groups salvo)) state.boards panel dest sort stands) (λ cleared. stands) (λ status. stands)
 
   told_keeps : (p item : ℕ) (message : Message) → has (step state (Told p item message)).state.boards panel dest sort ≡ true
   told_keeps p item (Interrogate at) = stands
@@ -79,8 +79,7 @@ module _ (state : State) (panel dest : ℕ) (sort : Sort) (stands : has state.bo
   told_keeps p item (ProtectConnect at device) = protect_keeps p at (dest_of state at)
   told_keeps p item (ProtectDisconnect at device) = lift_keeps p at (dest_of state at)
   told_keeps p item (Store at source salvo) = ap (λ (b : List Board). has b panel dest sort) (store-quiet state at source salvo (change_of state.plant at source)) ∙ stands
-  told_keeps p item (Go true salvo) = ap (λ (b : List Board). has b panel dest sort) (clear-quiet state salvo (group_of state.groups salvo)) ∙ stands
-  told_keeps p item (Go false salvo) = whole_keeps p salvo (group_of state.groups salvo)
+  told_keeps p item (Go clear salvo) = go_keeps p clear salvo
   told_keeps p item message = stands
 
   pub keeps_notice : (request : Request) → IsNoPollOrLeave panel request → has (step state request).state.boards panel dest sort ≡ true

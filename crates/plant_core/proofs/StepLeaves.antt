@@ -1,5 +1,6 @@
 -- What steps leave as it was.
 use Rattle.std.proofs.Common.{◌≡◌, ◌≢◌, ℕ, Bool, true, false, cond, List, [], ◌∷◌, All, Option, Some, None, IsNone, suc, refl, sym, ap, subst, ◌∙◌, arith}
+use Rattle.std.proofs.lemmas.Bool.{true≢false}
 use Rattle.std.specs.Option.{option_map, option_and_then}
 use Rattle.std.specs.FinMap as finite
 use Rattle.std.specs.Ordering.{nat_cmp}
@@ -12,7 +13,7 @@ use Rattle.plant_config.specs.Sites.{dest_at, source_number_of}
 use Rattle.crosspoint_state.specs.Crosspoints.{Crosspoints, source_of}
 use Rattle.crosspoint_state.specs.declared.spot.Spot.{Spot}
 use Rattle.protects.specs.Owners.{allows, may_lift, taken, lifted}
-use Rattle.salvo_groups.specs.Groups.{Group, group_of, may_store, with_store}
+use Rattle.salvo_groups.specs.Groups.{group_of, may_store, with_store}
 use Rattle.history_lock.specs.Step.{Stepped}
 use Rattle.plant_core.specs.declared.request.Request.{Request}
 use Rattle.plant_core.specs.declared.request.Request.TheVariants.{Told, Poll, Leave, DisplayPoll}
@@ -20,12 +21,12 @@ use Rattle.plant_core.specs.declared.answer.Answer.{Answer}
 use Rattle.plant_core.specs.State.{State, IsValid, standing, device_of, is_master, start}
 use Rattle.plant_core.specs.Connects.{says, says_nothing, change_of, connected}
 use Rattle.plant_core.specs.Protecting.{owner_told, with_owners, protected, unprotected}
-use Rattle.plant_core.specs.Salvos.{stored_in, taken_whole, cleared}
+use Rattle.plant_core.specs.Salvos.{stored_in, gone}
 use Rattle.plant_core.specs.Step.{step, dest_of}
 use Rattle.plant_core.specs.Laws.{AnswersWith, LeavesAlone, OnlyAsks, after}
 use Rattle.plant_core.proofs.Shows.{display_polled-is}
 use Rattle.plant_core.proofs.StepValidity.{IsValid-step}
-use Rattle.plant_core.proofs.Outcomes.{by_made, by_taken}
+use Rattle.plant_core.proofs.Outcomes.{by_made, by_gone}
 use Rattle.plant_core.proofs.Steps.{made, stands-answers, answers-stands}
 
 -- no step changes the plant
@@ -69,13 +70,14 @@ stored-leaves state at source salvo (Some change) =
       | false ↦ leaves_all state
     ]
 
-pub cleared-leaves : (state : State) (salvo : ℕ) (group : Group) → LeavesSources state (cleared state salvo group).state
-cleared-leaves state salvo [] = leaves_all state
-cleared-leaves state salvo (entry ∷ entries) = record { plant = refl; crosspoints = refl }
+pub cleared-leaves : (state : State) (panel salvo : ℕ) → LeavesSources state (gone state panel true salvo).state
+cleared-leaves state panel salvo =
+    by_gone (λ (stepped : Stepped State Answer). LeavesSources state stepped.state) state panel true salvo
+    (λ may. absurd (true≢false may.taken)) (λ cleared. record { plant = refl; crosspoints = refl }) (λ status. leaves_all state)
 
-whole-plant : (state : State) (panel salvo : ℕ) (group : Group) → (taken_whole state panel salvo group).state.plant ≡ state.plant
-whole-plant state panel salvo group =
-    by_taken (λ (stepped : Stepped State Answer). stepped.state.plant ≡ state.plant) state panel salvo group (λ may. refl) (λ status. refl)
+gone-plant : (state : State) (panel : ℕ) (clear : Bool) (salvo : ℕ) → (gone state panel clear salvo).state.plant ≡ state.plant
+gone-plant state panel clear salvo =
+    by_gone (λ (stepped : Stepped State Answer). stepped.state.plant ≡ state.plant) state panel clear salvo (λ may. refl) (λ cleared. refl) (λ status. refl)
 
 -- whatever is no connect and no go that takes a group leaves the sources
 pub message-leaves : (state : State) (panel item : ℕ) (message : Message) → ((at : Point) (source : Option ℕ) → message ≢ Connect at source) → ((salvo : ℕ) → message ≢ Go false salvo) →
@@ -85,7 +87,7 @@ message-leaves state panel item (Connect at source) no_connect no_go = absurd (n
 message-leaves state panel item (ProtectConnect at device) no_connect no_go = protected-leaves state panel at (dest_of state at)
 message-leaves state panel item (ProtectDisconnect at device) no_connect no_go = unprotected-leaves state panel at (dest_of state at)
 message-leaves state panel item (Store at source salvo) no_connect no_go = stored-leaves state at source salvo (change_of state.plant at source)
-message-leaves state panel item (Go true salvo) no_connect no_go = cleared-leaves state salvo (group_of state.groups salvo)
+message-leaves state panel item (Go true salvo) no_connect no_go = cleared-leaves state panel salvo
 message-leaves state panel item (Go false salvo) no_connect no_go = absurd (no_go salvo refl)
 message-leaves state panel item message no_connect no_go = leaves_all state
 
@@ -95,8 +97,7 @@ plant-step state (Told panel item (Connect at source)) = connected-plant state p
 plant-step state (Told panel item (ProtectConnect at device)) = (protected-leaves state panel at (dest_of state at)).plant
 plant-step state (Told panel item (ProtectDisconnect at device)) = (unprotected-leaves state panel at (dest_of state at)).plant
 plant-step state (Told panel item (Store at source salvo)) = (stored-leaves state at source salvo (change_of state.plant at source)).plant
-plant-step state (Told panel item (Go true salvo)) = (cleared-leaves state salvo (group_of state.groups salvo)).plant
-plant-step state (Told panel item (Go false salvo)) = whole-plant state panel salvo (group_of state.groups salvo)
+plant-step state (Told panel item (Go clear salvo)) = gone-plant state panel clear salvo
 plant-step state (Told panel item message) = refl
 plant-step state (Poll panel item turn) = refl
 plant-step state (Leave panel) = refl
@@ -131,7 +132,7 @@ keeps-told state place panel item (Interrogate at) stands valid alone answers = 
 keeps-told state place panel item (ProtectConnect at device) stands valid alone answers = left_alone state _ place stands (protected-leaves state panel at (dest_of state at)) answers
 keeps-told state place panel item (ProtectDisconnect at device) stands valid alone answers = left_alone state _ place stands (unprotected-leaves state panel at (dest_of state at)) answers
 keeps-told state place panel item (Store at source salvo) stands valid alone answers = left_alone state _ place stands (stored-leaves state at source salvo (change_of state.plant at source)) answers
-keeps-told state place panel item (Go true salvo) stands valid alone answers = left_alone state _ place stands (cleared-leaves state salvo (group_of state.groups salvo)) answers
+keeps-told state place panel item (Go true salvo) stands valid alone answers = left_alone state _ place stands (cleared-leaves state panel salvo) answers
 keeps-told state place panel item (Go false salvo) stands valid alone answers = absurd (alone.1 panel item salvo refl)
 keeps-told state place panel item message stands valid alone answers = answers
 

@@ -23,14 +23,14 @@ use Rattle.plant_core.specs.State.{State, IsValid, IsChangeOf, AreOwners, device
 use Rattle.plant_core.specs.Noticed.{marked_for_others}
 use Rattle.plant_core.specs.Connects.{says, says_nothing, change_of, changed, connected}
 use Rattle.plant_core.specs.Protecting.{owner_told, has_same_owner, with_owners, protected, unprotected}
-use Rattle.plant_core.specs.Salvos.{stored_in, emptied, moved, all_changed, cleared, gone}
+use Rattle.plant_core.specs.Salvos.{stored_in, emptied, moved, all_changed, gone}
 use Rattle.plant_core.specs.Step.{step, dest_of}
 use Rattle.plant_core.proofs.Validity.{IsValid-applied, IsValid-owners, IsValid-others, IsValid-marked, IsValid-take, IsValid-leave, IsValid-shown, AreOwners-taken, AreOwners-lifted, device-within, change_of-IsChangeOf, found-below}
 use Rattle.plant_core.proofs.GroupValidity.{IsValid-store, IsValid-clear}
 use Rattle.plant_core.proofs.Changes.{applied-idle, once-one, moved-within}
 use Rattle.plant_core.proofs.Shows.{shown_behind, display_polled-is}
 use Rattle.plant_core.proofs.ShownValidity.{shown_behind-are}
-use Rattle.plant_core.proofs.Outcomes.{by_made, by_taken, made-enough}
+use Rattle.plant_core.proofs.Outcomes.{by_made, by_gone, made-enough}
 
 -- a panel's connect leaves a valid state
 pub IsValid-one : (state : State) (change : Change) → IsValid state → IsChangeOf state.plant change → are_enough state.plant state.crosspoints (change ∷ []) ≡ true →
@@ -120,15 +120,10 @@ IsValid-taken_whole state salvo valid enough =
     let group : Group = group_of state.groups salvo in
     IsValid-clear (all_changed state group) salvo (IsValid-all_changed state group valid (valid.changes salvo) (valid.groups.each salvo).distinct enough)
 
-IsValid-cleared : (state : State) (salvo : ℕ) (group : Group) → IsValid state → IsValid (cleared state salvo group).state
-IsValid-cleared state salvo [] valid = valid
-IsValid-cleared state salvo (entry ∷ entries) valid = IsValid-clear state salvo valid
-
 IsValid-gone : (state : State) (panel : ℕ) (clear : Bool) (salvo : ℕ) → IsValid state → IsValid (gone state panel clear salvo).state
-IsValid-gone state panel true salvo valid = IsValid-cleared state salvo (group_of state.groups salvo) valid
-IsValid-gone state panel false salvo valid =
-    by_taken (λ (stepped : Stepped State Answer). IsValid stepped.state) state panel salvo (group_of state.groups salvo)
-    (λ may. IsValid-taken_whole state salvo valid may.enough) (λ status. valid)
+IsValid-gone state panel clear salvo valid =
+    by_gone (λ (stepped : Stepped State Answer). IsValid stepped.state) state panel clear salvo
+    (λ may. IsValid-taken_whole state salvo valid may.enough) (λ cleared. IsValid-clear state salvo valid) (λ status. valid)
 
 -- every step leaves a valid state
 pub IsValid-step : (state : State) (request : Request) → IsValid state → IsValid (step state request).state

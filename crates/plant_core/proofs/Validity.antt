@@ -25,7 +25,7 @@ use Rattle.crosspoint_state.proofs.LawLemmas.{TiesStayValid-applied}
 use Rattle.protects.specs.Owners.{Owners, allows, may_lift, taken, lifted}
 use Rattle.salvo_groups.specs.Limits.{salvo_limit}
 use Rattle.salvo_groups.specs.Groups as salvos
-use Rattle.salvo_groups.specs.Groups.{Group, AreGroups, group_of, has_entry, may_store, with_changed, stored, with_store, with_clear}
+use Rattle.salvo_groups.specs.Groups.{Group, AreGroups, group_of}
 use Rattle.salvo_groups.proofs.AllGroups.{AreGroups-start}
 use Rattle.change_boards.specs.Board.{Board}
 use Rattle.change_boards.specs.Notices.{with_take, with_leave}

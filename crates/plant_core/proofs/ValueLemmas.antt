@@ -14,8 +14,7 @@ use Rattle.mixer_effects.specs.Live.{carries, is_fed_by, buses_behind, reach, is
 use Rattle.plant_core.specs.declared.request.Request.{Request}
 use Rattle.plant_core.specs.declared.request.Request.TheVariants.{Told, Poll, Leave, DisplayPoll}
 use Rattle.plant_core.specs.State.{State}
-use Rattle.plant_core.specs.Displays.{dark, value_with, display_value}
-use Rattle.plant_core.specs.DisplaysInside.{value_in}
+use Rattle.plant_core.specs.Displays.{dark, value_with, display_value, value_in}
 use Rattle.plant_core.specs.Step.{step}
 use Rattle.plant_core.specs.Laws.{CarryAsBefore}
 use Rattle.plant_core.specs.DisplayLaws.{HaveTheirValues, MovesNothing}

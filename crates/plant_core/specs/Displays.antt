@@ -35,20 +35,29 @@ abbrev pub display_value : PlantData → Crosspoints → ℕ → Value
 display_value plant crosspoints dest =
     option_map_or (value_with plant crosspoints) (source_of crosspoints dest) dark
 
--- the value of a display: that of the destination that it watches
+-- the value of a display of a plant with these crosspoints: that of the destination that it watches
+abbrev pub value_in : PlantData → Crosspoints → ℕ → Value
+value_in plant crosspoints display =
+    option_map_or (λ (found : Display). display_value plant crosspoints found.watch)
+    (slice_get plant.displays display) dark
+
+-- the value of a display in a state
 abbrev pub value_of : State → ℕ → Value
-value_of state display =
-    option_map_or
-    (λ (found : Display). display_value state.plant state.crosspoints found.watch)
-    (slice_get state.plant.displays display) dark
+value_of state display = value_in state.plant state.crosspoints display
 
 -- A display differs where its value isn't the one that it was last shown, or where it was shown none.
 abbrev pub differs : State → ℕ → Bool
 differs state display = shown.differs state.shown display (value_of state display)
 
+-- those of these displays that differ, by the values of all displays
+abbrev pub differing_of : (ℕ → Value) → shown.Shown → List ℕ → List ℕ
+differing_of values before displays =
+    filter (λ display. shown.differs before display (values display)) displays
+
 -- the displays of a screen that differ, in the order of their indexes
 abbrev pub differing : State → ℕ → List ℕ
-differing state screen = filter (differs state) (displays_of state.plant screen)
+differing state screen =
+    differing_of (value_of state) state.shown (displays_of state.plant screen)
 
 -- With a refresh the displays of the screen become such as were shown no value.
 abbrev pub refreshed : State → ℕ → Bool → State
@@ -58,10 +67,14 @@ refreshed state screen true = record state {
 }
 
 -- what displays were last shown once each of these was shown its value
-abbrev pub all_shown : State → List ℕ → shown.Shown → shown.Shown
-all_shown state [] before = before
-all_shown state (display ∷ displays) before =
-    all_shown state displays (shown.with_shown before display (value_of state display))
+abbrev pub shown_all : (ℕ → Value) → List ℕ → shown.Shown → shown.Shown
+shown_all values [] before = before
+shown_all values (display ∷ displays) before =
+    shown_all values displays (shown.with_shown before display (values display))
+
+-- the lamps of displays
+abbrev pub lamps_of : (ℕ → Value) → List ℕ → List Answer
+lamps_of values displays = map (λ display. Lamp display (values display)) displays
 
 -- whether every panel has left and no display of any screen differs
 abbrev pub is_finished : State → Bool
@@ -76,8 +89,8 @@ quiet state = record { state = state; answers = if is_finished state then Finish
 -- These displays are shown their values, and a lamp is answered for each.
 abbrev pub lit : State → List ℕ → Stepped State Answer
 lit state displays = record {
-  state = record state { shown = all_shown state displays state.shown };
-  answers = map (λ display. Lamp display (value_of state display)) displays;
+  state = record state { shown = shown_all (value_of state) displays state.shown };
+  answers = lamps_of (value_of state) displays;
 }
 
 abbrev pub told_displays : State → List ℕ → Stepped State Answer

@@ -1,5 +1,5 @@
 -- What storing, going and asking for an entry do to the groups, and what is answered.
-use Rattle.std.specs.Prelude.{ℕ, ◌+◌, nat_lt, Bool, true, false, not, if◌then◌else◌, List, [], ◌∷◌, map, filter, length, slice_get, Option, Some, None, unwrap_or}
+use Rattle.std.specs.Prelude.{ℕ, ◌+◌, ◌==◌, nat_lt, Bool, not, if◌then◌else◌, List, map, filter, length, slice_get, Option, Some, None, unwrap_or}
 use Rattle.std.specs.Option.{option_map, option_and_then}
 use Rattle.swp08_messages.specs.declared.point.Point.{Point}
 use Rattle.swp08_messages.specs.declared.message.Message.{Message}
@@ -45,31 +45,19 @@ all_changed state group = record state {
   boards = all_marked state.boards (moved state.crosspoints group);
 }
 
--- A group whose destinations no other device protects is taken whole where the ties are enough for all of it at once, and
--- is empty then.
-abbrev pub taken_by_ties : State → ℕ → Group → Stepped State Answer
-taken_by_ties state salvo group =
-    if are_enough state.plant state.crosspoints group
-    then says (emptied (all_changed state group) salvo) (GoDone Made salvo)
-    else says state (GoDone NoTie salvo)
-
--- A group that isn't empty is taken whole where it is permitted: protects are looked at before ties.
-abbrev pub taken_whole : State → ℕ → ℕ → Group → Stepped State Answer
-taken_whole state panel salvo [] = says state (GoDone Empty salvo)
-taken_whole state panel salvo (entry ∷ entries) =
-    if are_permitted state.owners (device_of state.plant panel) (entry ∷ entries)
-    then taken_by_ties state salvo (entry ∷ entries)
-    else says state (GoDone Protected salvo)
-
--- a group that isn't empty is cleared
-abbrev pub cleared : State → ℕ → Group → Stepped State Answer
-cleared state salvo [] = says state (GoDone Empty salvo)
-cleared state salvo (entry ∷ entries) = says (emptied state salvo) (GoDone Cleared salvo)
-
--- what a go does, and how it is answered: it clears a group, or takes it
+-- What a go does, and how it is answered: the first of five cases. An empty group stays so, and one that is to be cleared is.
+-- One of which another device protects a destination changes nothing, and neither does one for which the ties aren't enough,
+-- all of it at once. Any other is taken whole, and is empty then.
 abbrev pub gone : State → ℕ → Bool → ℕ → Stepped State Answer
-gone state panel true salvo = cleared state salvo (group_of state.groups salvo)
-gone state panel false salvo = taken_whole state panel salvo (group_of state.groups salvo)
+gone state panel clear salvo =
+    let group = group_of state.groups salvo in
+    if length group == 0 then says state (GoDone Empty salvo)
+    else if clear then says (emptied state salvo) (GoDone Cleared salvo)
+    else if not (are_permitted state.owners (device_of state.plant panel) group)
+    then says state (GoDone Protected salvo)
+    else if not (are_enough state.plant state.crosspoints group)
+    then says state (GoDone NoTie salvo)
+    else says (emptied (all_changed state group) salvo) (GoDone Made salvo)
 
 -- a plant's place as messages have it
 abbrev pub message_place : places.Point → Point

@@ -8,10 +8,10 @@ ghost use Rattle.change_boards.specs.Shown.{differs as is_news, with_shown};
 ghost use Rattle.tally.specs.Tally.{IsTallyOf, CarrySources};
 ghost use Rattle.plant_core.specs.declared.answer.Answer.TheVariants.{Lamp};
 ghost use Rattle.plant_core.specs.State.{IsValid};
-ghost use Rattle.plant_core.specs.Displays.{lamp_limit, display_value, differs, differing};
+ghost use Rattle.plant_core.specs.Displays.{lamp_limit, display_value, differs};
+ghost use Rattle.plant_core.specs.Displays.{value_in, shown_all, lamps_of};
 ghost use Rattle.plant_core.specs.Displays.{refreshed, is_finished, display_polled};
-ghost use Rattle.plant_core.specs.DisplaysInside.{value_in, first_differing, shown_all};
-ghost use Rattle.plant_core.specs.DisplaysInside.{lamps_of, AreBelow, lit_first};
+ghost use Rattle.plant_core.specs.DisplaysInside.{first_differing, AreBelow, lit_first};
 ghost use Rattle.plant_core.specs.Answer.{room_of};
 
 use crate::answer::{Answer, put};

@@ -1,8 +1,8 @@
 //! What is true of salvo groups in every valid state: a group is taken whole, or no crosspoint changes.
 
-ghost use Rattle.plant_core.specs.SalvoLaws.{GoesAreWhole, FreeGroupsAreTaken};
+ghost use Rattle.plant_core.specs.SalvoLaws.{GoesAreWhole, EmptyGroupsStay, GroupsAreCleared};
 ghost use Rattle.plant_core.specs.SalvoLaws.{KeptGroupsAreRefused, TielessGroupsAreRefused};
-ghost use Rattle.plant_core.specs.SalvoLaws.{GroupsAreCleared, EmptyGroupsStay};
+ghost use Rattle.plant_core.specs.SalvoLaws.{FreeGroupsAreTaken};
 ghost use Rattle.plant_core.specs.SalvoLaws.{EntriesAreStored, OtherEntriesAreNot};
 ghost use Rattle.plant_core.specs.SalvoLaws.{EntriesAreTold, OthersAreNoEntries};
 
@@ -12,15 +12,15 @@ pub fn goes_are_whole()
     ensures { GoesAreWhole }
 {}
 
-/// A group is taken, and is empty then, exactly where it has entries, no other device protects one of its destinations, and
-/// the ties are enough for all of it at once. Else the answer says why, and nothing changes: a protect comes before the
-/// ties.
+/// A group that has no entries stays as it is, and one that is to be cleared is cleared. Any other is refused where another
+/// device protects one of its destinations, and then where the ties aren't enough for all of it at once: nothing changes,
+/// and the answer says why. One that isn't refused is taken, and is empty then.
 pub fn goes_are_answered()
-    ensures taken { FreeGroupsAreTaken }
+    ensures empty { EmptyGroupsStay }
+    ensures cleared { GroupsAreCleared }
     ensures kept { KeptGroupsAreRefused }
     ensures tieless { TielessGroupsAreRefused }
-    ensures cleared { GroupsAreCleared }
-    ensures empty { EmptyGroupsStay }
+    ensures taken { FreeGroupsAreTaken }
 {}
 
 /// An entry is stored exactly where it is in range and its group has its destination, or fewer than 256 entries. It is told

@@ -1,7 +1,7 @@
 use Rattle.std.proofs.Common.{◌≡◌, ℕ, ◌+◌, ◌-◌, ◌<◌, ◌++◌, List, ◌∷◌, length, drop, sym, ap, ◌∙◌, arith}
 use Rattle.std.proofs.lemmas.List.{drop_more}
 use Rattle.change_boards.specs.declared.value.Value.{Value}
-use Rattle.plant_core.specs.DisplaysInside.{value_in, shown_all, lamps_of}
+use Rattle.plant_core.specs.Displays.{value_in, shown_all, lamps_of}
 use Rattle.plant_core.proofs.DisplayLemmas.{left_of, apart-behind, Leads-one, length-one}
 use Rattle.plant_core.proofs.display.Picture.show_first.Goals as goal
 

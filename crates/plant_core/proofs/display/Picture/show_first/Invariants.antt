@@ -1,5 +1,6 @@
 use Rattle.std.proofs.Common.{◌≡◌, ◌-◌, ◌≤◌, ◌++◌, length, drop}
-use Rattle.plant_core.specs.DisplaysInside.{value_in, first_differing, shown_all, lamps_of}
+use Rattle.plant_core.specs.Displays.{value_in, shown_all, lamps_of}
+use Rattle.plant_core.specs.DisplaysInside.{first_differing}
 use Rattle.plant_core.proofs.DisplayLemmas.{left_of}
 use Rattle.plant_core.proofs.display.Picture.show_first.Given as goal
 

@@ -1,4 +1,4 @@
-use Rattle.std.proofs.Common.{◌≡◌, ℕ, nat_eq, length, take, sym, ap, subst, ◌∙◌}
+use Rattle.std.proofs.Common.{◌≡◌, ℕ, nat_eq, length, sym, ap, subst, ◌∙◌}
 use Rattle.std.specs.List.{IsDistinct}
 use Rattle.change_boards.specs.Screens.{displays_of, displays_at}
 use Rattle.change_boards.specs.Shown.{Shown}
@@ -6,11 +6,11 @@ use Rattle.change_boards.specs.declared.value.Value.{Value}
 use Rattle.plant_core.specs.declared.tables.Tables.{Tables}
 use Rattle.plant_core.specs.State.{State, AreShown}
 use Rattle.plant_core.specs.StateInside.{state_of}
-use Rattle.plant_core.specs.Displays.{lamp_limit, differing}
-use Rattle.plant_core.specs.DisplaysInside.{value_in, first_differing, shown_all, lamps_of, AreBelow, lit_first}
+use Rattle.plant_core.specs.Displays.{value_in, shown_all, lamps_of}
+use Rattle.plant_core.specs.DisplaysInside.{first_differing, AreBelow, lit_first}
 use Rattle.plant_core.proofs.Validity.{IsValid-shown}
 use Rattle.plant_core.proofs.ScreenLemmas.{displays-below, displays-once}
-use Rattle.plant_core.proofs.DisplayLemmas.{carried, all_shown-are}
+use Rattle.plant_core.proofs.DisplayLemmas.{carried}
 use Rattle.plant_core.proofs.ShownValidity.{AreShown-shown_all}
 use Rattle.plant_core.proofs.state.PlantState.show_first.Goals as goal
 
@@ -49,8 +49,7 @@ returns-clause-state c =
     c.displays.ensures ∙ ap (λ (tables : Tables). displays_at tables.screens c.args.screen) c.deref-2.ensures ∙ c.self.invariant.beside.screened c.args.screen in
     ap (λ (shown : Shown). record before { shown = shown })
     (c.show_first.ensures.shown
-    ∙ ap (λ displays. shown_all values (first_differing values c.self.inside.shown displays) c.self.inside.shown) are
-    ∙ sym (all_shown-are (take lamp_limit (differing before c.args.screen)) before c.self.inside.shown))
+    ∙ ap (λ displays. shown_all values (first_differing values c.self.inside.shown displays) c.self.inside.shown) are)
     ∙ ap (λ (state : State). (lit_first state c.args.screen).state) c.self.view_is
 
 pub returns-clause-answers : goal.returns-clause-answers
