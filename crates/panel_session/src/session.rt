@@ -172,6 +172,12 @@ impl<'p> Session<'p> {
         ensures* same { sem 𝓛 (StaysTheSame self.entry) }
         ensures line { result.now
             ≡ trace_line (plant_of self.old) position request.now answers.now }
+        ensures stood { (plant : PlantData) (panel : ℕ) (past : Progress)
+            → StandsFor plant panel self.old past
+            → result.now ≡ trace_line plant position request.now answers.now }
+        ensures awaited { (plant : PlantData) (panel : ℕ) (past : Progress) (asked : Request)
+            → Awaits plant panel self.old past asked
+            → result.now ≡ trace_line plant position request.now answers.now }
     {
         // kit: with `self.plant` among the arguments the loan isn't followed back to the session.
         let plant = self.plant;
