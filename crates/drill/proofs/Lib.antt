@@ -1,0 +1,4 @@
+mod RoomLemmas
+mod StreamLemmas
+mod CountLemmas
+mod Worked

@@ -1,0 +1,4 @@
+pub mod Draws
+pub mod Messages
+pub mod Stream
+pub mod Laws
