@@ -13,7 +13,8 @@ port_state port = record {
   calls = port.calls;
 }
 
--- The bytes are cut into pieces of these lengths, of which none is empty, and there is room for a piece of each byte.
+-- The bytes are cut into pieces of these lengths, which are no more than the bytes, and there is room for as many lengths
+-- as for bytes.
 pub record IsCut (port : Inside) : Type 0 where
   pub whole : concat (cut port.lengths.items port.bytes.items) ≡ port.bytes.items
   pub sized : map length (cut port.lengths.items port.bytes.items) ≡ port.lengths.items

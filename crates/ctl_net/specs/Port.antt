@@ -1,6 +1,5 @@
 -- Packets that are sent to a display port.
-use Rattle.std.specs.Prelude.{ℕ, ◌<◌, Bool, true, false, List, [], ◌∷◌, ◌++◌, length, Option}
-use Rattle.std.specs.Option.{option_map}
+use Rattle.std.specs.Prelude.{ℕ, ◌<◌, Bool, true, false, List, [], ◌∷◌, ◌++◌, length}
 use Rattle.ctl_net.specs.declared.port.Sent.{Sent}
 use Rattle.ctl_net.specs.declared.port.Sent.TheVariants.{Done, Failed}
 
@@ -9,9 +8,9 @@ abbrev pub send_failed : Sent → Bool
 send_failed Done = false
 send_failed Failed = true
 
--- what a port shows of its packets after a send: one more where it was done
-abbrev pub sent_after : Sent → List ℕ → Option (List (List ℕ)) → Option (List (List ℕ))
-sent_after Done packet packets = option_map (λ all. all ++ packet ∷ []) packets
+-- the packets that a port was sent, after a send that answered so: one more where it was done
+abbrev pub sent_after : Sent → List ℕ → List (List ℕ) → List (List ℕ)
+sent_after Done packet packets = packets ++ packet ∷ []
 sent_after Failed packet packets = packets
 
 -- A packet isn't empty.

@@ -1,6 +1,6 @@
 //! Ports that display packets are sent to.
 
-ghost use Rattle.std.specs.Prelude.{◌≡◌, ℕ, List, Option};
+ghost use Rattle.std.specs.Prelude.{◌≡◌, ℕ, List};
 ghost use Rattle.ctl_io.specs.Faults.{count_after};
 ghost use Rattle.ctl_net.specs.Port.{sent_after, send_failed};
 
@@ -18,8 +18,8 @@ pub trait DisplayPort: Send {
     /// Which packets a port of this type takes, whatever was called before.
     ghost takes: { List ℕ → Type 0 };
 
-    /// The packets that were sent, in order, where the port shows them.
-    ghost packets: { Self → Option (List (List ℕ)) };
+    /// These are the packets that the port was sent, in order, as far as it shows any.
+    ghost was_sent: { Self → List (List ℕ) → Type 0 };
 
     /// How often a send failed. Only the port's own sends raise it.
     ghost faults: { Self → ℕ };
@@ -27,11 +27,13 @@ pub trait DisplayPort: Send {
     /// Sends a packet that the port takes.
     fn send(&mut self, packet: &[u8]) -> Sent
         requires { takes packet.now }
-        ensures packets { packets self.new ≡ sent_after result packet.now (packets self.old) }
+        ensures sent { (packets : List (List ℕ)) → was_sent self.old packets
+            → was_sent self.new (sent_after result packet.now packets) }
         ensures count { faults self.new ≡ count_after (send_failed result) (faults self.old) };
 
     /// Waits a little, and sends nothing.
     fn pause(&mut self)
-        ensures packets { packets self.new ≡ packets self.old }
+        ensures sent { (packets : List (List ℕ)) → was_sent self.old packets
+            → was_sent self.new packets }
         ensures count { faults self.new ≡ faults self.old };
 }

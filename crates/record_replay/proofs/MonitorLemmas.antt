@@ -10,28 +10,28 @@ use Rattle.tsl_umd5.specs.Layout.{max_packet}
 use Rattle.tsl_umd5.specs.Packet.{Contents, Display, word, messages_text, packet_text, counted_text, IsTextOf}
 use Rattle.tsl_umd5.proofs.AllAtLemmas.{length-messages_text}
 use Rattle.tsl_stream.specs.declared.item.StreamItem.{StreamItem}
-use Rattle.tsl_stream.specs.Feeding.{shown}
-use Rattle.tsl_stream.specs.Items.{items, reading}
+use Rattle.tsl_stream.specs.Feeding.{shown_packet}
+use Rattle.tsl_stream.specs.Items.{stream_items, stream_reading}
 use Rattle.record_replay.specs.Monitor.{item_lines, display_line, displays_lines}
 
 -- An empty stream tells nothing.
-pub items_none : items [] ≡ []
-unfolding reading
+pub items_none : stream_items [] ≡ []
+unfolding stream_reading
 items_none = refl
 
 -- An item more is told by its lines,
-pub told_item : (text bytes : List ℕ) (found : Option StreamItem) (item : StreamItem) → items (text ++ bytes) ≡ items text ++ option_to_list (option_map shown found) → found ≡ Some item
-    → flat_map item_lines (items (text ++ bytes)) ≡ flat_map item_lines (items text) ++ item_lines (shown item)
+pub told_item : (text bytes : List ℕ) (found : Option StreamItem) (item : StreamItem) → stream_items (text ++ bytes) ≡ stream_items text ++ option_to_list (option_map shown_packet found) → found ≡ Some item
+    → flat_map item_lines (stream_items (text ++ bytes)) ≡ flat_map item_lines (stream_items text) ++ item_lines (shown_packet item)
 told_item text bytes found item adds is =
-    ap (flat_map item_lines) (adds ∙ ap (λ (found : Option StreamItem). items text ++ option_to_list (option_map shown found)) is)
-    ∙ flat_map-append item_lines (items text) (shown item ∷ [])
-    ∙ ap (λ (lines : List ℕ). flat_map item_lines (items text) ++ lines) (append-nil (item_lines (shown item)))
+    ap (flat_map item_lines) (adds ∙ ap (λ (found : Option StreamItem). stream_items text ++ option_to_list (option_map shown_packet found)) is)
+    ∙ flat_map-append item_lines (stream_items text) (shown_packet item ∷ [])
+    ∙ ap (λ (lines : List ℕ). flat_map item_lines (stream_items text) ++ lines) (append-nil (item_lines (shown_packet item)))
 
 -- and none by none.
-pub told_none : (text bytes : List ℕ) (found : Option StreamItem) → items (text ++ bytes) ≡ items text ++ option_to_list (option_map shown found) → found ≡ None
-    → flat_map item_lines (items (text ++ bytes)) ≡ flat_map item_lines (items text) ++ []
+pub told_none : (text bytes : List ℕ) (found : Option StreamItem) → stream_items (text ++ bytes) ≡ stream_items text ++ option_to_list (option_map shown_packet found) → found ≡ None
+    → flat_map item_lines (stream_items (text ++ bytes)) ≡ flat_map item_lines (stream_items text) ++ []
 told_none text bytes found adds is =
-    ap (flat_map item_lines) (adds ∙ ap (λ (found : Option StreamItem). items text ++ option_to_list (option_map shown found)) is ∙ append-nil (items text)) ∙ sym (append-nil (flat_map item_lines (items text)))
+    ap (flat_map item_lines) (adds ∙ ap (λ (found : Option StreamItem). stream_items text ++ option_to_list (option_map shown_packet found)) is ∙ append-nil (stream_items text)) ∙ sym (append-nil (flat_map item_lines (stream_items text)))
 
 -- The messages of a packet aren't long.
 pub few_messages : (bytes : List ℕ) (packet : Contents) → IsTextOf bytes packet → length (messages_text packet.displays) ≤ max_packet

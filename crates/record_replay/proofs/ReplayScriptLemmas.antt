@@ -1,7 +1,7 @@
 -- What a script's replay gives to the sink, and sends to the port.
 use Rattle.std.proofs.Common.{◌≡◌, ℕ, ◌⊎◌, inl, inr, ◌^◌, ◌<◌, Bool, true, false, List, [], ◌∷◌, ◌++◌, length, Option, sym, ap, ◌∙◌, subst, arith}
 use Rattle.std.specs.Bool.{OnTrue, OnFalse}
-use Rattle.std.specs.List.{AllByRecursion}
+use Rattle.std.specs.List.{AllByRecursion, flat_map}
 use Rattle.std.proofs.lemmas.List.{append-nil}
 use Rattle.std.proofs.lemmas.List.Concat.{flat_map-append}
 use Rattle.std.proofs.lemmas.List.Elements.{All-from_recursion}
@@ -13,17 +13,16 @@ use Rattle.record_replay.specs.declared.replayer.Replayer.{Replayer}
 use Rattle.record_replay.specs.OutputInside.{HasNothing, Puts, IsAllGiven, IsCutShort}
 use Rattle.record_replay.specs.Script.{Work, IsOfPlant, lines, worked, LinesSpell}
 use Rattle.record_replay.specs.Replay.{ReplayState, begun, AllWork}
-use Rattle.record_replay.specs.Laws.{Action, line_of, IsHistory}
+use Rattle.record_replay.specs.Laws.{Action, line_of, history_of}
 use Rattle.record_replay.specs.TiedReplay.{IsTiedReplay, HasReplayed, HasReplayedFront}
-use Rattle.record_replay.specs.Streamed.{lines_in, sent_on, HasStreamed, HasStreamedFront, HasStoppedAtPort}
+use Rattle.record_replay.specs.Streamed.{packets_in, lines_in, SendsOn, HasStreamed, HasStreamedFront, HasStoppedAtPort}
 use Rattle.record_replay.specs.PortInside.{SendsAll, SendsUntil, LeavesNone, LeavesPacket}
 use Rattle.record_replay.specs.ReplayerInside.{StandsAt, MayDo, DoesScript}
 use Rattle.record_replay.proofs.IsReplayLemmas.{of_plant}
 use Rattle.record_replay.proofs.ActionsInParts.{InParts, history_parts}
 use Rattle.record_replay.proofs.OutputLemmas.{AppendsPart-more}
-use Rattle.record_replay.proofs.SentLemmas.{sent_worked}
-use Rattle.record_replay.proofs.TiedReplayLemmas.{tied}
-use Rattle.record_replay.proofs.WorksLemmas.{AllWork-append, works_exist}
+use Rattle.record_replay.proofs.TiedReplayLemmas.{keeps_ties_valid}
+use Rattle.record_replay.proofs.WorksLemmas.{works_exist}
 
 -- A new replayer may do any script.
 pub may_begin : (plant : PlantData) (replayer : Replayer) (script : List ℕ) → StandsAt plant replayer (begun plant) 0 → length script < 2 ^ 63 → MayDo (length script) replayer.plant.now replayer
@@ -39,12 +38,10 @@ last_have P (work ∷ done) left all = last_have P done left all.1
 pub record Came (plant : PlantData) (script : List ℕ) (Leaves : ReplayState → List Work → Type 0) (text : List ℕ) (packets : List (List ℕ)) : Type 0 where
   pub rest : List ℕ
   pub replay : IsTiedReplay plant script (text ++ rest)
-  pub actions : List Action
-  pub history : IsHistory plant script (text ++ rest) actions
   pub mid : ReplayState
   pub left : List Work
   pub leaves : Leaves mid left
-  pub parts : InParts plant left mid text packets actions
+  pub parts : InParts plant left mid text packets replay.actions
   pub whole : left ≡ [] → rest ≡ []
 
 -- No works write nothing.
@@ -67,14 +64,7 @@ came plant script replayer Leaves IsPut stands small spelled does =
       done.2,
       record {
         rest = later.0;
-        replay = tied plant script (done.0 ++ later.0) stands.valid.is_plant (record {
-          works = done.3.done ++ done.3.left;
-          spelled = works;
-          last = later.1;
-          all_work = AllWork-append plant done.3.done done.3.left (begun plant) done.3.next later.1 done.0 later.0 (sent_worked plant done.3.done (begun plant) done.3.next done.0 done.1 done.3.all_sent) later.2;
-        });
-        actions = made.0;
-        history = made.1;
+        replay = record { actions = made.0; history = made.1; ties = keeps_ties_valid plant (history_of made.0) stands.valid.is_plant };
         mid = done.3.next;
         left = done.3.left;
         leaves = done.3.leaves;
@@ -84,38 +74,36 @@ came plant script replayer Leaves IsPut stands small spelled does =
     )
 
 -- All works were done: the whole text, and all packets.
-pub came_whole : (plant : PlantData) (script text : List ℕ) (packets : List (List ℕ)) (failed : Bool) (before now : Option (List ℕ)) (sent_before sent_now : Option (List (List ℕ))) → Came plant script (LeavesNone failed) text packets
-    → failed ≡ false → now ≡ appended before text → sent_now ≡ sent_on sent_before packets → HasStreamed plant script before now sent_before sent_now
-came_whole plant script text packets failed before now sent_before sent_now came on given sends =
+pub came_whole : (plant : PlantData) (script text : List ℕ) (packets : List (List ℕ)) (failed : Bool) (before now : Option (List ℕ)) (Sends : List (List ℕ) → Type 0) → Came plant script (LeavesNone failed) text packets
+    → failed ≡ false → now ≡ appended before text → Sends packets → HasStreamed plant script before now Sends
+came_whole plant script text packets failed before now Sends came on given sends =
     let none = came.leaves on in
     let text_is : text ++ came.rest ≡ text = ap (λ (rest : List ℕ). text ++ rest) (came.whole none) ∙ append-nil text in
-    let front_is : came.actions ≡ came.parts.front = came.parts.place ∙ ap (λ (later : List Action). came.parts.front ++ later) (came.parts.begins.none none) ∙ append-nil came.parts.front in
+    let front_is : came.replay.actions ≡ came.parts.front = came.parts.place ∙ ap (λ (later : List Action). came.parts.front ++ later) (came.parts.begins.none none) ∙ append-nil came.parts.front in
     record {
       output = text ++ came.rest;
       replay = came.replay;
       appends = given ∙ ap (appended before) (sym text_is);
-      actions = came.parts.front;
-      history = subst (IsHistory plant script (text ++ came.rest)) front_is came.history;
-      sends = sends ∙ ap (sent_on sent_before) came.parts.sent;
+      sends = subst Sends (came.parts.sent ∙ ap (packets_in plant) (sym front_is)) sends;
     }
 
 -- A write failed: a front of the lines, and the packets of these.
-pub came_front : (plant : PlantData) (script text : List ℕ) (packets : List (List ℕ)) (Leaves : ReplayState → List Work → Type 0) (before now : Option (List ℕ)) (sent_before sent_now : Option (List (List ℕ))) → Came plant script Leaves text packets
-    → AppendsPart text before now → sent_now ≡ sent_on sent_before packets → HasStreamedFront plant script before now sent_before sent_now
-came_front plant script text packets Leaves before now sent_before sent_now came part sends = record {
+pub came_front : (plant : PlantData) (script text : List ℕ) (packets : List (List ℕ)) (Leaves : ReplayState → List Work → Type 0) (before now : Option (List ℕ)) (Sends : List (List ℕ) → Type 0) → Came plant script Leaves text packets
+    → AppendsPart text before now → Sends packets → HasStreamedFront plant script before now Sends
+came_front plant script text packets Leaves before now Sends came part sends = record {
   output = text ++ came.rest;
   replay = came.replay;
   front = came.parts.front;
   later = came.parts.later;
-  history = subst (IsHistory plant script (text ++ came.rest)) came.parts.place came.history;
+  place = came.parts.place;
   appends = subst (λ (text : List ℕ). AppendsPart text before now) came.parts.shown part;
-  sends = sends ∙ ap (sent_on sent_before) came.parts.sent;
+  sends = subst Sends came.parts.sent sends;
 }
 
 -- A send failed: the lines before, and their packets.
-pub came_to_port : (plant : PlantData) (script text : List ℕ) (packets : List (List ℕ)) (before now : Option (List ℕ)) (sent_before sent_now : Option (List (List ℕ))) → Came plant script (LeavesPacket plant) text packets
-    → now ≡ appended before text → sent_now ≡ sent_on sent_before packets → HasStoppedAtPort plant script before now sent_before sent_now
-came_to_port plant script text packets before now sent_before sent_now came given sends =
+pub came_to_port : (plant : PlantData) (script text : List ℕ) (packets : List (List ℕ)) (before now : Option (List ℕ)) (Sends : List (List ℕ) → Type 0) → Came plant script (LeavesPacket plant) text packets
+    → now ≡ appended before text → Sends packets → HasStoppedAtPort plant script before now Sends
+came_to_port plant script text packets before now Sends came given sends =
     let waits = came.leaves in
     let next = came.parts.begins.some waits.0 waits.1 waits.2 in
     record {
@@ -124,58 +112,59 @@ came_to_port plant script text packets before now sent_before sent_now came give
       front = came.parts.front;
       failed = next.0;
       later = next.1;
-      history = subst (IsHistory plant script (text ++ came.rest)) (came.parts.place ∙ ap (λ (later : List Action). came.parts.front ++ later) next.2) came.history;
+      place = came.parts.place ∙ ap (λ (later : List Action). came.parts.front ++ later) next.2;
       has_packet = λ none. waits.3 (next.3 ∙ none);
       appends = given ∙ ap (appended before) came.parts.shown;
-      sends = sends ∙ ap (sent_on sent_before) came.parts.sent;
+      sends = subst Sends came.parts.sent sends;
     }
 
-module _ {K P : Type 0} (written : K → Option (List ℕ)) (faults : K → ℕ) (sent : P → Option (List (List ℕ))) (port_faults : P → ℕ) (plant : PlantData) (script : List ℕ) (replayer : Replayer) (sink now : K)
+module _ {K P : Type 0} (written : K → Option (List ℕ)) (faults : K → ℕ) (WasSent : P → List (List ℕ) → Type 0) (port_faults : P → ℕ) (plant : PlantData) (script : List ℕ) (replayer : Replayer) (sink now : K)
     (first last : Output K) (port port_now : P) (stands : StandsAt plant replayer (begun plant) 0) (small : length script < 2 ^ 63) (spelled : (works : List Work) × LinesSpell plant (worked (lines script)) works)
     (nothing : HasNothing written faults sink first) where
   -- All that was put was given, and all packets were sent.
-  pub streamed : DoesScript replayer.plant.now script replayer (LeavesNone last.failed) (λ text packets. Puts written faults text first last × SendsAll sent port_faults packets port port_now)
+  pub streamed : DoesScript replayer.plant.now script replayer (LeavesNone last.failed) (λ text packets. Puts written faults text first last × SendsAll WasSent port_faults packets port port_now)
       → last.failed ≡ false → IsAllGiven written faults last now
-      → HasStreamed plant script (written sink) (written now) (sent port) (sent port_now) × (faults now ≡ faults sink) × (port_faults port_now ≡ port_faults port)
+      → HasStreamed plant script (written sink) (written now) (SendsOn WasSent port port_now) × (faults now ≡ faults sink) × (port_faults port_now ≡ port_faults port)
   streamed does whole given =
-      let done = came plant script replayer (λ plant. LeavesNone last.failed) (λ text packets. Puts written faults text first last × SendsAll sent port_faults packets port port_now) stands small spelled does in
+      let done = came plant script replayer (λ plant. LeavesNone last.failed) (λ text packets. Puts written faults text first last × SendsAll WasSent port_faults packets port port_now) stands small spelled does in
       let all = given (written sink) (faults sink) done.0 (done.2.0.puts (written sink) (faults sink) [] nothing) in
-      (came_whole plant script done.0 done.1 last.failed (written sink) (written now) (sent port) (sent port_now) done.3 whole all.0 done.2.1.sends, all.1, done.2.1.count)
+      (came_whole plant script done.0 done.1 last.failed (written sink) (written now) (SendsOn WasSent port port_now) done.3 whole all.0 done.2.1.sends, all.1, done.2.1.count)
 
   -- All that was put was given, and a send failed.
-  pub stopped : DoesScript replayer.plant.now script replayer (LeavesPacket replayer.plant.now) (λ text packets. Puts written faults text first last × SendsUntil sent port_faults packets port port_now)
+  pub stopped : DoesScript replayer.plant.now script replayer (LeavesPacket replayer.plant.now) (λ text packets. Puts written faults text first last × SendsUntil WasSent port_faults packets port port_now)
       → IsAllGiven written faults last now
-      → HasStoppedAtPort plant script (written sink) (written now) (sent port) (sent port_now) × (faults now ≡ faults sink) × (port_faults port_now ≡ one_more (port_faults port))
+      → HasStoppedAtPort plant script (written sink) (written now) (SendsOn WasSent port port_now) × (faults now ≡ faults sink) × (port_faults port_now ≡ one_more (port_faults port))
   stopped does given =
-      let done = came plant script replayer (λ plant. LeavesPacket plant) (λ text packets. Puts written faults text first last × SendsUntil sent port_faults packets port port_now) stands small spelled does in
+      let done = came plant script replayer (λ plant. LeavesPacket plant) (λ text packets. Puts written faults text first last × SendsUntil WasSent port_faults packets port port_now) stands small spelled does in
       let all = given (written sink) (faults sink) done.0 (done.2.0.puts (written sink) (faults sink) [] nothing) in
-      (came_to_port plant script done.0 done.1 (written sink) (written now) (sent port) (sent port_now) done.3 all.0 done.2.1.sends, all.1, done.2.1.count)
+      (came_to_port plant script done.0 done.1 (written sink) (written now) (SendsOn WasSent port port_now) done.3 all.0 done.2.1.sends, all.1, done.2.1.count)
 
   -- A write failed, behind which a send may have failed too.
-  pub cut_short : (told : Bool) → OnTrue told (DoesScript replayer.plant.now script replayer (LeavesNone last.failed) (λ text packets. Puts written faults text first last × SendsAll sent port_faults packets port port_now))
-      → OnFalse told (DoesScript replayer.plant.now script replayer (LeavesPacket replayer.plant.now) (λ text packets. Puts written faults text first last × SendsUntil sent port_faults packets port port_now))
+  pub cut_short : (told : Bool) → OnTrue told (DoesScript replayer.plant.now script replayer (LeavesNone last.failed) (λ text packets. Puts written faults text first last × SendsAll WasSent port_faults packets port port_now))
+      → OnFalse told (DoesScript replayer.plant.now script replayer (LeavesPacket replayer.plant.now) (λ text packets. Puts written faults text first last × SendsUntil WasSent port_faults packets port port_now))
       → IsCutShort written faults last now
-      → HasStreamedFront plant script (written sink) (written now) (sent port) (sent port_now) × (faults now ≡ one_more (faults sink))
+      → HasStreamedFront plant script (written sink) (written now) (SendsOn WasSent port port_now) × (faults now ≡ one_more (faults sink))
       × ((port_faults port_now ≡ port_faults port) ⊎ (port_faults port_now ≡ one_more (port_faults port)))
   cut_short true does stops cut =
-      let done = came plant script replayer (λ plant. LeavesNone last.failed) (λ text packets. Puts written faults text first last × SendsAll sent port_faults packets port port_now) stands small spelled does in
+      let done = came plant script replayer (λ plant. LeavesNone last.failed) (λ text packets. Puts written faults text first last × SendsAll WasSent port_faults packets port port_now) stands small spelled does in
       let part = cut (written sink) (faults sink) done.0 (done.2.0.puts (written sink) (faults sink) [] nothing) in
-      (came_front plant script done.0 done.1 _ (written sink) (written now) (sent port) (sent port_now) done.3 part.appends done.2.1.sends, part.count, inl done.2.1.count)
+      (came_front plant script done.0 done.1 _ (written sink) (written now) (SendsOn WasSent port port_now) done.3 part.appends done.2.1.sends, part.count, inl done.2.1.count)
   cut_short false does stops cut =
-      let done = came plant script replayer (λ plant. LeavesPacket plant) (λ text packets. Puts written faults text first last × SendsUntil sent port_faults packets port port_now) stands small spelled stops in
+      let done = came plant script replayer (λ plant. LeavesPacket plant) (λ text packets. Puts written faults text first last × SendsUntil WasSent port_faults packets port port_now) stands small spelled stops in
       let part = cut (written sink) (faults sink) done.0 (done.2.0.puts (written sink) (faults sink) [] nothing) in
-      (came_front plant script done.0 done.1 _ (written sink) (written now) (sent port) (sent port_now) done.3 part.appends done.2.1.sends, part.count, inr done.2.1.count)
+      (came_front plant script done.0 done.1 _ (written sink) (written now) (SendsOn WasSent port port_now) done.3 part.appends done.2.1.sends, part.count, inr done.2.1.count)
 
 -- What was streamed was replayed, whole
-pub streamed_whole : (plant : PlantData) (script : List ℕ) (before now : Option (List ℕ)) (sent_before sent_now : Option (List (List ℕ))) → HasStreamed plant script before now sent_before sent_now → HasReplayed plant script before now
-streamed_whole plant script before now sent_before sent_now streamed = record { output = streamed.output; replay = streamed.replay; appends = streamed.appends }
+pub streamed_whole : (plant : PlantData) (script : List ℕ) (before now : Option (List ℕ)) (Sends : List (List ℕ) → Type 0) → HasStreamed plant script before now Sends → HasReplayed plant script before now
+streamed_whole plant script before now Sends streamed = record { output = streamed.output; replay = streamed.replay; appends = streamed.appends }
 
 -- or a front of it.
-pub streamed_front : (plant : PlantData) (script : List ℕ) (before now : Option (List ℕ)) (sent_before sent_now : Option (List (List ℕ))) → HasStreamedFront plant script before now sent_before sent_now → HasReplayedFront plant script before now
-streamed_front plant script before now sent_before sent_now streamed = record {
+pub streamed_front : (plant : PlantData) (script : List ℕ) (before now : Option (List ℕ)) (Sends : List (List ℕ) → Type 0) → HasStreamedFront plant script before now Sends → HasReplayedFront plant script before now
+streamed_front plant script before now Sends streamed = record {
   output = streamed.output;
   replay = streamed.replay;
-  appends = subst (λ (text : List ℕ). AppendsPart text before now) (sym (streamed.history.shown ∙ flat_map-append (line_of plant) streamed.front streamed.later))
+  appends = subst (λ (text : List ℕ). AppendsPart text before now)
+      (sym (streamed.replay.history.shown ∙ ap (flat_map (line_of plant)) streamed.place ∙ flat_map-append (line_of plant) streamed.front streamed.later))
       (AppendsPart-more (lines_in plant streamed.front) (lines_in plant streamed.later) before now streamed.appends);
 }
 

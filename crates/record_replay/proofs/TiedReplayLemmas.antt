@@ -9,22 +9,14 @@ use Rattle.plant_core.specs.Step.{step}
 use Rattle.plant_core.proofs.Validity.{IsValid-start}
 use Rattle.panel_session.specs.Entry.{PlantEntry}
 use Rattle.record_replay.specs.Laws.{history_of}
-use Rattle.record_replay.specs.Replay.{IsReplay}
-use Rattle.record_replay.specs.TiedReplay.{KeepsTiesValid, NoTieCarriesTwoSources, IsTiedReplay}
-use Rattle.record_replay.proofs.ActionsLemmas.{history_exists}
+use Rattle.record_replay.specs.TiedReplay.{KeepsTiesValid, NoTieCarriesTwoSources}
 use Rattle.record_replay.proofs.WorksLemmas.{run-plant, run-valid}
 
 -- What is asked leaves valid ties, of the same plant.
-keeps_ties_valid : (plant : PlantData) (history : List PlantEntry) → IsPlant plant → KeepsTiesValid plant history
+pub keeps_ties_valid : (plant : PlantData) (history : List PlantEntry) → IsPlant plant → KeepsTiesValid plant history
 keeps_ties_valid plant history is = λ front later same.
     let valid = run-valid (start plant) front (IsValid-start plant is) in
     subst (λ (plant' : PlantData). HaveValidTies plant' (run step (start plant) front).crosspoints) (run-plant (start plant) front) valid.ties
 
 pub no_two_sources : (plant : PlantData) (script output : List ℕ) → IsPlant plant → NoTieCarriesTwoSources plant script output
 no_two_sources plant script output is = λ actions history. keeps_ties_valid plant (history_of actions) is
-
--- A replay text of a plant shows its history.
-pub tied : (plant : PlantData) (script output : List ℕ) → IsPlant plant → IsReplay plant script output → IsTiedReplay plant script output
-tied plant script output is replay =
-    let made = history_exists plant script output replay in
-    record { actions = made.0; history = made.1; ties = keeps_ties_valid plant (history_of made.0) is }

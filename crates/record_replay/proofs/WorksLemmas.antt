@@ -1,5 +1,5 @@
 -- Works that are done one after the other.
-use Rattle.std.proofs.Common.{◌≡◌, ℕ, ◌==◌, true, false, cond, List, [], ◌∷◌, ◌++◌, All, refl, sym, ◌∙◌, ap, subst, append_assoc}
+use Rattle.std.proofs.Common.{◌≡◌, ℕ, ◌==◌, true, false, cond, List, [], ◌∷◌, ◌++◌, All, refl, sym, ◌∙◌, ap, subst}
 use Rattle.std.proofs.lemmas.Bool.{eqb-true}
 use Rattle.std.proofs.lemmas.List.Elements.{All-head, All-tail}
 use Rattle.history_lock.specs.History.{run}
@@ -64,22 +64,6 @@ settled-step plant request stand settled = record {
   plant_is = plant-step stand.state request ∙ settled.plant_is;
   each = settled.each;
 }
-
--- Works are done behind others.
-pub AllWork-append : (plant : PlantData) (works later : List Work) (stand mid last : ReplayState) (text rest : List ℕ)
-    → AllWork plant works stand text mid → AllWork plant later mid rest last → AllWork plant (works ++ later) stand (text ++ rest) last
-AllWork-append plant [] later stand mid last text rest done more =
-    let From : ReplayState → Type 0 = λ stand. AllWork plant later stand rest last in
-    let Says : List ℕ → Type 0 = λ text. AllWork plant later stand (text ++ rest) last in
-    subst Says (sym done.0) (subst From done.1 more)
-AllWork-append plant (work ∷ works) later stand mid last text rest done more = (
-  done.0,
-  done.1,
-  done.2 ++ rest,
-  done.3,
-  AllWork-append plant works later done.0 mid last done.2 rest done.4 more,
-  ap (λ (text : List ℕ). text ++ rest) done.5 ∙ append_assoc done.1 done.2 rest,
-)
 
 -- Each work can be done where each session is between two turns, and then each is again.
 work_exists : (plant : PlantData) (work : Work) (stand : ReplayState) → IsSettled plant stand → IsOfPlant plant work

@@ -7,7 +7,7 @@ use Rattle.tsl_umd5.specs.Kind.{kind_name}
 use Rattle.tsl_umd5.specs.Lamp.{lamp_code}
 use Rattle.tsl_umd5.specs.Packet.{Display, Contents}
 use Rattle.tsl_umd5.specs.Reading.{reading}
-use Rattle.tsl_stream.specs.Items.{Item, Packet, Bad, items}
+use Rattle.tsl_stream.specs.Items.{PacketItem, Packet, Bad, stream_items}
 use Rattle.line_text.specs.Lines.{line_feed}
 use Rattle.record_replay.specs.declared.monitor.MonitorFault.{MonitorFault}
 use Rattle.record_replay.specs.declared.monitor.MonitorFault.TheVariants.{NoMemory, OutputFault}
@@ -53,13 +53,13 @@ read_lines (Ok packet) =
 read_lines (Err fault) = bad_line fault
 
 -- the lines of an item of a stream
-abbrev pub item_lines : Item → List ℕ
+abbrev pub item_lines : PacketItem → List ℕ
 item_lines (Packet bytes) = read_lines (reading bytes)
 item_lines (Bad fault) = bad_line fault
 
 -- the lines of a stream: those of its items, one after the other. What is no item, a rest at the end or noise, has none.
 abbrev pub monitor_text : List ℕ → List ℕ
-monitor_text stream = flat_map item_lines (items stream)
+monitor_text stream = flat_map item_lines (stream_items stream)
 
 -- whether a stream wasn't told for a fault of the output
 abbrev pub monitor_failed : {T : Type 0} → Result T MonitorFault → Bool

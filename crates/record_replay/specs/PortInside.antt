@@ -1,5 +1,5 @@
 -- What was put into an output and sent to a port.
-use Rattle.std.specs.Prelude.{◌≡◌, ◌≢◌, ℕ, Bool, false, List, [], ◌∷◌, ◌++◌, Option}
+use Rattle.std.specs.Prelude.{◌≡◌, ◌≢◌, ℕ, Bool, false, List, [], ◌∷◌, ◌++◌}
 use Rattle.ctl_io.specs.Faults.{one_more}
 use Rattle.plant_config.specs.Plant.{PlantData}
 use Rattle.plant_core.specs.State.{State}
@@ -7,18 +7,18 @@ use Rattle.plant_core.specs.Step.{step}
 use Rattle.plant_core.specs.declared.request.Request.TheVariants as requests
 use Rattle.record_replay.specs.Script.{Work, Read, Leave, Show}
 use Rattle.record_replay.specs.Replay.{ReplayState, Advances}
-use Rattle.record_replay.specs.Streamed.{packets_told, sent_on}
+use Rattle.record_replay.specs.Streamed.{packets_told, SendsOn}
 
 -- These packets were sent to a port, and no send failed.
-pub record SendsAll {P : Type 0} (sent : P → Option (List (List ℕ))) (faults : P → ℕ)
+pub record SendsAll {P : Type 0} (WasSent : P → List (List ℕ) → Type 0) (faults : P → ℕ)
     (packets : List (List ℕ)) (old new : P) : Type 0 where
-  pub sends : sent new ≡ sent_on (sent old) packets
+  pub sends : SendsOn WasSent old new packets
   pub count : faults new ≡ faults old
 
 -- These packets were sent to a port, and then a send failed.
-pub record SendsUntil {P : Type 0} (sent : P → Option (List (List ℕ))) (faults : P → ℕ)
+pub record SendsUntil {P : Type 0} (WasSent : P → List (List ℕ) → Type 0) (faults : P → ℕ)
     (packets : List (List ℕ)) (old new : P) : Type 0 where
-  pub sends : sent new ≡ sent_on (sent old) packets
+  pub sends : SendsOn WasSent old new packets
   pub count : faults new ≡ one_more (faults old)
 
 -- the packets of a piece of work that is done from this state

@@ -1,7 +1,6 @@
 -- What a replay sends to a port of the displays.
 use Rattle.std.specs.Prelude.{◌≡◌, ◌≢◌, ◌⊎◌, ℕ, ◌≤◌, true, Bool, false, List, [], ◌∷◌, ◌++◌, length, Option, Result, Ok, Err}
 use Rattle.std.specs.List.{flat_map}
-use Rattle.std.specs.Option.{option_map}
 use Rattle.ctl_io.specs.Faults.{one_more}
 use Rattle.ctl_io.specs.Sink.{appended, AppendsPart}
 use Rattle.tsl_umd5.specs.Packet.{IsPacketText}
@@ -13,7 +12,7 @@ use Rattle.plant_core.specs.declared.answer.Answer.TheVariants.{Finished}
 use Rattle.panel_session.specs.DisplayPacket.{longest_packet, packet_of, AreLamps}
 use Rattle.record_replay.specs.declared.streamed.StreamedFault.{StreamedFault}
 use Rattle.record_replay.specs.declared.streamed.StreamedFault.TheVariants.{NoMemory, BadLine, OutputFault, PortFault}
-use Rattle.record_replay.specs.Laws.{Action, Turned, Left, Polled, line_of, IsHistory}
+use Rattle.record_replay.specs.Laws.{Action, Turned, Left, Polled, line_of}
 use Rattle.record_replay.specs.TiedReplay.{IsTiedReplay}
 
 -- the packets by which the displays of a screen are told what a display poll is answered: one if these are lamps
@@ -50,50 +49,49 @@ pub record IsLampPacket (plant : PlantData) (packet : List ℕ) : Type 0 where
 abbrev pub TakesLamps : PlantData → (List ℕ → Type 0) → Type 0
 TakesLamps plant Takes = (packet : List ℕ) → IsLampPacket plant packet → Takes packet
 
--- what a port shows that it was sent, with these packets behind it
-abbrev pub sent_on : Option (List (List ℕ)) → List (List ℕ) → Option (List (List ℕ))
-sent_on sent packets = option_map (λ before. before ++ packets) sent
+-- What a port was sent goes on so: where it was sent some packets before, it was now sent these behind them.
+abbrev pub SendsOn : {P : Type 0} → (P → List (List ℕ) → Type 0) → P → P → List (List ℕ)
+    → Type 0
+SendsOn WasSent before now packets =
+    (all : List (List ℕ)) → WasSent before all → WasSent now (all ++ packets)
 
--- Neither was the sink given anything, nor the port sent anything.
-abbrev pub StaysBoth : Option (List ℕ) → Option (List ℕ) → Option (List (List ℕ))
-    → Option (List (List ℕ)) → Type 0
-StaysBoth before now sent_before sent_now = (now ≡ before) × (sent_now ≡ sent_before)
+-- The sink wasn't given anything, and the port is as it was.
+abbrev pub StaysBoth : {P : Type 0} → Option (List ℕ) → Option (List ℕ) → P → P → Type 0
+StaysBoth before now port_before port_now = (now ≡ before) × (port_now ≡ port_before)
 
 -- A sink was given the script's replay text, and a port was sent the packets of the history behind it, in order.
 pub record HasStreamed (plant : PlantData) (script : List ℕ) (before now : Option (List ℕ))
-    (sent_before sent_now : Option (List (List ℕ))) : Type 0 where
+    (Sends : List (List ℕ) → Type 0) : Type 0 where
   pub output : List ℕ
   pub replay : IsTiedReplay plant script output
   pub appends : now ≡ appended before output
-  pub actions : List Action
-  pub history : IsHistory plant script output actions
-  pub sends : sent_now ≡ sent_on sent_before (packets_in plant actions)
+  pub sends : Sends (packets_in plant replay.actions)
 
 -- A port was sent the packets of the first actions of the script's history, and a sink was given a shorter front of their
 -- lines: no line came before its packet.
 pub record HasStreamedFront (plant : PlantData) (script : List ℕ) (before now : Option (List ℕ))
-    (sent_before sent_now : Option (List (List ℕ))) : Type 0 where
+    (Sends : List (List ℕ) → Type 0) : Type 0 where
   pub output : List ℕ
   pub replay : IsTiedReplay plant script output
   pub front : List Action
   pub later : List Action
-  pub history : IsHistory plant script output (front ++ later)
+  pub place : replay.actions ≡ front ++ later
   pub appends : AppendsPart (lines_in plant front) before now
-  pub sends : sent_now ≡ sent_on sent_before (packets_in plant front)
+  pub sends : Sends (packets_in plant front)
 
 -- A port took no more at an action of the script's history that has a packet: it was sent the packets of the actions before,
 -- and a sink was given their lines.
 pub record HasStoppedAtPort (plant : PlantData) (script : List ℕ) (before now : Option (List ℕ))
-    (sent_before sent_now : Option (List (List ℕ))) : Type 0 where
+    (Sends : List (List ℕ) → Type 0) : Type 0 where
   pub output : List ℕ
   pub replay : IsTiedReplay plant script output
   pub front : List Action
   pub failed : Action
   pub later : List Action
-  pub history : IsHistory plant script output (front ++ failed ∷ later)
+  pub place : replay.actions ≡ front ++ failed ∷ later
   pub has_packet : packets_by plant failed ≢ []
   pub appends : now ≡ appended before (lines_in plant front)
-  pub sends : sent_now ≡ sent_on sent_before (packets_in plant front)
+  pub sends : Sends (packets_in plant front)
 
 -- whether a replay ended for a fault of the output
 abbrev pub stream_failed : {T : Type 0} → Result T StreamedFault → Bool

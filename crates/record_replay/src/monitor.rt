@@ -7,7 +7,7 @@ ghost use Rattle.ctl_io.specs.Sink.{appended, AppendsPart};
 ghost use Rattle.tsl_umd5.specs.Layout.{max_packet};
 ghost use Rattle.tsl_umd5.specs.Packet.{view, messages_text};
 ghost use Rattle.tsl_umd5.specs.Reading.{reading};
-ghost use Rattle.tsl_stream.specs.Feeding.{shown};
+ghost use Rattle.tsl_stream.specs.Feeding.{shown_packet};
 ghost use Rattle.record_replay.specs.declared.monitor.MonitorFault.TheVariants.{NoMemory};
 ghost use Rattle.record_replay.specs.Replay.{hex_or_dash};
 ghost use Rattle.record_replay.specs.OutputInside.{Puts};
@@ -94,7 +94,7 @@ fn put_next<K: Drain>(reader: &mut StreamReader, piece: &[u8], out: &mut Output<
 
 // Puts the lines of an item.
 fn put_item<K: Drain>(item: StreamItem<'_>, out: &mut Output<'_, K>)
-    ensures { Puts K.written K.faults (item_lines (shown item.entry)) out.old out.new }
+    ensures { Puts K.written K.faults (item_lines (shown_packet item.entry)) out.old out.new }
 {
     match item {
         StreamItem::Packet(bytes) => put_packet(bytes, out),

@@ -1,7 +1,5 @@
 //! A port where nobody listens, for a replay that is only written.
 
-ghost use Rattle.std.specs.Prelude.{None};
-
 use ctl_net::{DisplayPort, Sent};
 
 /// Takes every packet and keeps none, so that a replay to it costs nothing.
@@ -11,7 +9,8 @@ pub(crate) struct NoPort;
 impl DisplayPort for NoPort {
     ghost takes = { λ _. Unit {0} };
 
-    ghost packets = { λ _. None };
+    // It shows no packets.
+    ghost was_sent = { λ _ _. Unit {0} };
 
     ghost faults = { λ _. 0 };
 

@@ -81,11 +81,11 @@ impl<'p> Replayer<'p> {
         ensures does { OnTrue result (DoesScript self.old.plant.now script.now self.old
             (LeavesNone out.new.failed)
             (λ text packets. Puts K.written K.faults text out.old out.new
-            × SendsAll P.packets P.faults packets port.old port.new)) }
+            × SendsAll P.was_sent P.faults packets port.old port.new)) }
         ensures stops { OnFalse result (DoesScript self.old.plant.now script.now self.old
             (LeavesPacket self.old.plant.now)
             (λ text packets. Puts K.written K.faults text out.old out.new
-            × SendsUntil P.packets P.faults packets port.old port.new)) }
+            × SendsUntil P.was_sent P.faults packets port.old port.new)) }
     {
         let mut rest = script;
         while !rest.is_empty() && !out.failed() {
@@ -117,11 +117,11 @@ impl<'p> Replayer<'p> {
             ((line behind : List ℕ) × IsFirst text.now line behind
             × LineHasPacket self.old.plant.now line self.old
             × Puts K.written K.faults [] out.old out.new
-            × SendsUntil P.packets P.faults [] port.old port.new)
+            × SendsUntil P.was_sent P.faults [] port.old port.new)
             (λ behind. (line : List ℕ) × IsFirst text.now line behind.now
             × DoesLine self.old.plant.now line self.old self.new
             (λ text packets. Puts K.written K.faults text out.old out.new
-            × SendsAll P.packets P.faults packets port.old port.new)) }
+            × SendsAll P.was_sent P.faults packets port.old port.new)) }
     {
         if let Some(turn) = take_turn(digits, self.plant, text) {
             self.turn(turn.0, digits.bytes(), out);
@@ -151,10 +151,10 @@ impl<'p> Replayer<'p> {
         requires takes { TakesLamps self.old.plant.now P.takes }
         ensures does { OnTrue result (DoesLine self.old.plant.now line.now self.old self.new
             (λ text packets. Puts K.written K.faults text out.old out.new
-            × SendsAll P.packets P.faults packets port.old port.new)) }
+            × SendsAll P.was_sent P.faults packets port.old port.new)) }
         ensures stops { OnFalse result (LineHasPacket self.old.plant.now line.now self.old
             × Puts K.written K.faults [] out.old out.new
-            × SendsUntil P.packets P.faults [] port.old port.new) }
+            × SendsUntil P.was_sent P.faults [] port.old port.new) }
     {
         match read_line(digits, self.plant, names, line) {
             Some(found) => self.work_found(found, digits.bytes(), out, port),
@@ -177,12 +177,12 @@ impl<'p> Replayer<'p> {
             → IsFound self.old.plant.now line found bytes.now
             → DoesLine self.old.plant.now line self.old self.new
             (λ text packets. Puts K.written K.faults text out.old out.new
-            × SendsAll P.packets P.faults packets port.old port.new)) }
+            × SendsAll P.was_sent P.faults packets port.old port.new)) }
         ensures stops { OnFalse result (((line : List ℕ)
             → IsFound self.old.plant.now line found bytes.now
             → LineHasPacket self.old.plant.now line self.old)
             × Puts K.written K.faults [] out.old out.new
-            × SendsUntil P.packets P.faults [] port.old port.new) }
+            × SendsUntil P.was_sent P.faults [] port.old port.new) }
     {
         match found {
             Line::Skipped => true,
@@ -235,11 +235,11 @@ impl<'p> Replayer<'p> {
         ensures does { OnTrue result
             (DoesWork self.old.plant.now (Show screen refresh) self.old self.new
             (λ text packets. Puts K.written K.faults text out.old out.new
-            × SendsAll P.packets P.faults packets port.old port.new)) }
+            × SendsAll P.was_sent P.faults packets port.old port.new)) }
         ensures stops { OnFalse result
             (HasPacket self.old.plant.now (Show screen refresh) self.old
             × Puts K.written K.faults [] out.old out.new
-            × SendsUntil P.packets P.faults [] port.old port.new) }
+            × SendsUntil P.was_sent P.faults [] port.old port.new) }
     {
         let poll = Request::DisplayPoll { screen, refresh };
         self.state.step(&poll, &mut self.outbox);

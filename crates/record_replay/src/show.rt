@@ -86,10 +86,10 @@ pub(crate) fn tell_show<K: Drain, P: DisplayPort>(
     requires takes { TakesLamps plant.now P.takes }
     ensures told { OnTrue result
         (Puts K.written K.faults (show_line plant.now screen answers.now) out.old out.new
-        × SendsAll P.packets P.faults (packets_told plant.now screen answers.now)
+        × SendsAll P.was_sent P.faults (packets_told plant.now screen answers.now)
         port.old port.new) }
     ensures failed { OnFalse result (Puts K.written K.faults [] out.old out.new
-        × SendsUntil P.packets P.faults [] port.old port.new
+        × SendsUntil P.was_sent P.faults [] port.old port.new
         × (packets_told plant.now screen answers.now ≢ [])) }
 {
     match answers {
@@ -124,9 +124,9 @@ fn tell_packet<K: Drain, P: DisplayPort>(
     requires takes { P.takes packet.now }
     ensures told { OnTrue result
         (Puts K.written K.faults (screen_line screen (encode_upper packet.now)) out.old out.new
-        × SendsAll P.packets P.faults (packet.now ∷ []) port.old port.new) }
+        × SendsAll P.was_sent P.faults (packet.now ∷ []) port.old port.new) }
     ensures failed { OnFalse result (Puts K.written K.faults [] out.old out.new
-        × SendsUntil P.packets P.faults [] port.old port.new) }
+        × SendsUntil P.was_sent P.faults [] port.old port.new) }
 {
     if let Sent::Failed = port.send(packet) {
         return false;

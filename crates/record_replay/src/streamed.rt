@@ -7,7 +7,7 @@ ghost use Rattle.record_replay.specs.Script.{IsFirstBad};
 ghost use Rattle.record_replay.specs.LineInside.{HasWorks};
 ghost use Rattle.record_replay.specs.Streamed.{HasStreamed, HasStreamedFront, HasStoppedAtPort};
 ghost use Rattle.record_replay.specs.Streamed.{TakesLamps, StaysBoth};
-ghost use Rattle.record_replay.specs.Streamed.{stream_failed, PortCounts};
+ghost use Rattle.record_replay.specs.Streamed.{SendsOn, stream_failed, PortCounts};
 
 use crate::check::check_lines;
 use crate::digits::Digits;
@@ -42,6 +42,7 @@ impl From<AllocError> for StreamedFault {
 
 /// `replay_script`, with the port sent what the displays are told: before the output line of each display poll that was
 /// answered by lamps, the packet of these. The first send that fails ends the replay, once the lines before are written.
+/// Where one of these writes fails too, that is the fault that is answered: a failed write of the output comes before all.
 pub fn replay_script_to<K: Sink, P: DisplayPort>(
     alloc: Global,
     plant: &Plant,
@@ -53,23 +54,21 @@ pub fn replay_script_to<K: Sink, P: DisplayPort>(
     requires names { names.now ≡ plant.now }
     requires takes { TakesLamps plant.now P.takes }
     ensures ok { OnOk result (HasStreamed plant.now script.now
-        (K.written out.old) (K.written out.new) (P.packets port.old) (P.packets port.new)) }
+        (K.written out.old) (K.written out.new) (SendsOn P.was_sent port.old port.new)) }
     ensures bad_line { (number : ℕ) → result ≡ Err (StreamedFault.BadLine number)
         → IsFirstBad plant.now script.now number }
     ensures output_fault { IsErrOf result StreamedFault.OutputFault
         → HasStreamedFront plant.now script.now
-        (K.written out.old) (K.written out.new) (P.packets port.old) (P.packets port.new) }
+        (K.written out.old) (K.written out.new) (SendsOn P.was_sent port.old port.new) }
     ensures port_fault { IsErrOf result StreamedFault.PortFault
         → HasStoppedAtPort plant.now script.now
-        (K.written out.old) (K.written out.new) (P.packets port.old) (P.packets port.new) }
+        (K.written out.old) (K.written out.new) (SendsOn P.was_sent port.old port.new) }
     // Nothing was written or sent at a bad line, and where memory ran out.
     ensures same { (number : ℕ) → result ≡ Err (StreamedFault.BadLine number)
-        → StaysBoth (K.written out.old) (K.written out.new)
-        (P.packets port.old) (P.packets port.new) }
+        → StaysBoth (K.written out.old) (K.written out.new) port.old port.new }
     ensures no_memory { IsErrOf result StreamedFault.NoMemory
-        → StaysBoth (K.written out.old) (K.written out.new)
-        (P.packets port.old) (P.packets port.new) }
-    // The counts of faults tell which of the two failed.
+        → StaysBoth (K.written out.old) (K.written out.new) port.old port.new }
+    // The counts of faults tell which of the two failed. A failed write is told whatever else stands.
     ensures count { K.faults out.new ≡ count_after (stream_failed result) (K.faults out.old) }
     ensures port_count { PortCounts result (P.faults port.old) (P.faults port.new) }
 {
@@ -94,17 +93,16 @@ fn replay_lines<K: Sink, P: DisplayPort>(
     requires form { HasWorks plant.now script.now }
     requires takes { TakesLamps plant.now P.takes }
     ensures ok { OnOk result (HasStreamed plant.now script.now
-        (K.written out.old) (K.written out.new) (P.packets port.old) (P.packets port.new)) }
+        (K.written out.old) (K.written out.new) (SendsOn P.was_sent port.old port.new)) }
     ensures no_bad_line { (number : ℕ) → result ≢ Err (StreamedFault.BadLine number) }
     ensures output_fault { IsErrOf result StreamedFault.OutputFault
         → HasStreamedFront plant.now script.now
-        (K.written out.old) (K.written out.new) (P.packets port.old) (P.packets port.new) }
+        (K.written out.old) (K.written out.new) (SendsOn P.was_sent port.old port.new) }
     ensures port_fault { IsErrOf result StreamedFault.PortFault
         → HasStoppedAtPort plant.now script.now
-        (K.written out.old) (K.written out.new) (P.packets port.old) (P.packets port.new) }
+        (K.written out.old) (K.written out.new) (SendsOn P.was_sent port.old port.new) }
     ensures no_memory { IsErrOf result StreamedFault.NoMemory
-        → StaysBoth (K.written out.old) (K.written out.new)
-        (P.packets port.old) (P.packets port.new) }
+        → StaysBoth (K.written out.old) (K.written out.new) port.old port.new }
     ensures count { K.faults out.new ≡ count_after (stream_failed result) (K.faults out.old) }
     ensures port_count { PortCounts result (P.faults port.old) (P.faults port.new) }
 {

@@ -4,20 +4,20 @@ use Rattle.std.specs.Option.{option_map, option_to_list, is_some}
 use Rattle.std.proofs.lemmas.Bool.{false≢true}
 use Rattle.std.proofs.lemmas.List.{append-nil, append_assoc, length-append, nil_from_length, length-drop, take_more, take_rest, take-take, take-append-drop, drop-take}
 use Rattle.std.proofs.lemmas.List.Concat.{flat_map-append}
-use Rattle.tsl_stream.specs.Numbers.{dle, stx}
-use Rattle.tsl_stream.specs.Stream.{doubled}
+use Rattle.tsl_stream.specs.Numbers.{tsl_dle, tsl_stx}
+use Rattle.tsl_stream.specs.Stream.{stuffed}
 use Rattle.tsl_stream.specs.declared.reader.StreamReader.{StreamReader}
 use Rattle.tsl_stream.specs.declared.state.State.{State}
 use Rattle.tsl_stream.specs.declared.state.State.TheVariants.{Outside, Inside}
-use Rattle.tsl_stream.specs.Items.{Item, Reading, only_rest, wanted, reading, items, rest}
-use Rattle.tsl_stream.specs.Kept.{Keeps}
+use Rattle.tsl_stream.specs.Items.{PacketItem, StreamReading, only_stream_rest, packet_size, stream_reading, stream_items, stream_rest}
+use Rattle.tsl_stream.specs.Kept.{KeepsPacket}
 use Rattle.tsl_stream.specs.StepsInside.{found_in, Steps}
-use Rattle.tsl_stream.specs.Reader.{StandsFor}
+use Rattle.tsl_stream.specs.Reader.{StandsForStream}
 use Rattle.tsl_stream.specs.ReaderInside.{PassesOver}
-use Rattle.tsl_stream.specs.Feeding.{Feeds}
+use Rattle.tsl_stream.specs.Feeding.{FeedsStream}
 use Rattle.tsl_stream.proofs.Packets.{open-append}
 use Rattle.tsl_stream.proofs.LawLemmas.{reads_on_lem}
-use Rattle.tsl_stream.proofs.StepLemmas.{Found, reading-kept}
+use Rattle.tsl_stream.proofs.StepLemmas.{Found, stream_reading-kept}
 
 pub take-add : (n m : ℕ) (bytes : List ℕ) → take (n + m) bytes ≡ take n bytes ++ take m (drop n bytes)
 take-add n m bytes =
@@ -29,7 +29,7 @@ pub passes_append : (first second : List ℕ) (a b c : StreamReader) → PassesO
 passes_append first second a b c before behind text stands =
     let there = before text stands in
     let on = behind (text ++ first) there.1 in
-    let P : List ℕ → Type 0 = λ whole. (items whole ≡ items text) × StandsFor c whole in
+    let P : List ℕ → Type 0 = λ whole. (stream_items whole ≡ stream_items text) × StandsForStream c whole in
     subst P (append_assoc text first second) (on.0 ∙ there.0, on.1)
 
 -- the same of a front of a piece, and a front of the part behind it
@@ -52,101 +52,101 @@ passes_byte piece used byte a b c within is before behind =
     subst P (ap (λ (byte : ℕ). take used piece ++ byte ∷ []) is ∙ sym (take_more piece used 0 within)) (passes_append (take used piece) (byte ∷ []) a b c before behind)
 
 -- bytes that are all noise pass outside a packet
-pub passes_noise : (bytes : List ℕ) (reader : StreamReader) → reader.state ≡ Outside → reading bytes ≡ only_rest [] → PassesOver bytes reader reader
-unfolding StandsFor
+pub passes_noise : (bytes : List ℕ) (reader : StreamReader) → reader.state ≡ Outside → stream_reading bytes ≡ only_stream_rest [] → PassesOver bytes reader reader
+unfolding StandsForStream
 passes_noise bytes reader outside noise text stands =
-    let Kept : List ℕ → Type 0 = λ kept. Keeps reader.state reader.front kept in
-    let none : rest text ≡ [] = (let P : State → Type 0 = λ state. Keeps state reader.front (rest text) in subst P outside stands) in
+    let Kept : List ℕ → Type 0 = λ kept. KeepsPacket reader.state reader.front kept in
+    let none : stream_rest text ≡ [] = (let P : State → Type 0 = λ state. KeepsPacket state reader.front (stream_rest text) in subst P outside stands) in
     let on = reads_on_lem text bytes in
-    let behind : reading (rest text ++ bytes) ≡ only_rest [] = ap (λ (kept : List ℕ). reading (kept ++ bytes)) none ∙ noise in (
-      on.items_go_on ∙ ap (λ (behind : Reading). items text ++ behind.items) behind ∙ append-nil (items text),
-      subst Kept (none ∙ sym (on.rest_goes_on ∙ ap (λ (behind : Reading). behind.rest) behind)) stands,
+    let behind : stream_reading (stream_rest text ++ bytes) ≡ only_stream_rest [] = ap (λ (kept : List ℕ). stream_reading (kept ++ bytes)) none ∙ noise in (
+      on.items_go_on ∙ ap (λ (behind : StreamReading). stream_items text ++ behind.items) behind ∙ append-nil (stream_items text),
+      subst Kept (none ∙ sym (on.rest_goes_on ∙ ap (λ (behind : StreamReading). behind.rest) behind)) stands,
     )
 
 -- bytes of a packet that are their own spelling, and fewer than it wants, pass in it
-pub passes_body : (bytes : List ℕ) (before after : StreamReader) → before.state ≡ Inside → after.state ≡ Inside → doubled bytes ≡ bytes → length before.front + length bytes < wanted before.front → after.front ≡ before.front ++ bytes → PassesOver bytes before after
-unfolding StandsFor
+pub passes_body : (bytes : List ℕ) (before after : StreamReader) → before.state ≡ Inside → after.state ≡ Inside → stuffed bytes ≡ bytes → length before.front + length bytes < packet_size before.front → after.front ≡ before.front ++ bytes → PassesOver bytes before after
+unfolding StandsForStream
 passes_body bytes before after inside still single few grown text stands =
-    let kept : Keeps Inside before.front (rest text) = (let P : State → Type 0 = λ state. Keeps state before.front (rest text) in subst P inside stands) in
+    let kept : KeepsPacket Inside before.front (stream_rest text) = (let P : State → Type 0 = λ state. KeepsPacket state before.front (stream_rest text) in subst P inside stands) in
     let front = before.front ++ bytes in
     let is_open = open-append before.front bytes kept.0 few in
     let on = reads_on_lem text bytes in
-    let spelled : rest text ++ bytes ≡ dle ∷ stx ∷ doubled front =
+    let spelled : stream_rest text ++ bytes ≡ tsl_dle ∷ tsl_stx ∷ stuffed front =
     ap (λ (rest : List ℕ). rest ++ bytes) kept.1
-    ∙ ap (λ (bytes : List ℕ). dle ∷ stx ∷ (doubled before.front ++ bytes)) (sym single)
-    ∙ ap (λ (text : List ℕ). dle ∷ stx ∷ text) (sym (flat_map-append _ before.front bytes)) in
-    let behind : reading (rest text ++ bytes) ≡ only_rest (dle ∷ stx ∷ doubled front) = ap reading spelled ∙ reading-kept front is_open in
-    let keeps : Keeps Inside front (rest (text ++ bytes)) = (is_open, on.rest_goes_on ∙ ap (λ (behind : Reading). behind.rest) behind) in (
-      on.items_go_on ∙ ap (λ (behind : Reading). items text ++ behind.items) behind ∙ append-nil (items text),
-      (let P : State → Type 0 = λ state. Keeps state after.front (rest (text ++ bytes)) in
-          let Q : List ℕ → Type 0 = λ front. Keeps Inside front (rest (text ++ bytes)) in
+    ∙ ap (λ (bytes : List ℕ). tsl_dle ∷ tsl_stx ∷ (stuffed before.front ++ bytes)) (sym single)
+    ∙ ap (λ (text : List ℕ). tsl_dle ∷ tsl_stx ∷ text) (sym (flat_map-append _ before.front bytes)) in
+    let behind : stream_reading (stream_rest text ++ bytes) ≡ only_stream_rest (tsl_dle ∷ tsl_stx ∷ stuffed front) = ap stream_reading spelled ∙ stream_reading-kept front is_open in
+    let keeps : KeepsPacket Inside front (stream_rest (text ++ bytes)) = (is_open, on.rest_goes_on ∙ ap (λ (behind : StreamReading). behind.rest) behind) in (
+      on.items_go_on ∙ ap (λ (behind : StreamReading). stream_items text ++ behind.items) behind ∙ append-nil (stream_items text),
+      (let P : State → Type 0 = λ state. KeepsPacket state after.front (stream_rest (text ++ bytes)) in
+          let Q : List ℕ → Type 0 = λ front. KeepsPacket Inside front (stream_rest (text ++ bytes)) in
           subst P (sym still) (subst Q (sym grown) keeps)),
     )
 
 -- no bytes pass
 pub passes_none : (reader : StreamReader) → PassesOver [] reader reader
-passes_none reader text stands = let P : List ℕ → Type 0 = λ text. StandsFor reader text in (ap items (append-nil text), subst P (sym (append-nil text)) stands)
+passes_none reader text stands = let P : List ℕ → Type 0 = λ text. StandsForStream reader text in (ap stream_items (append-nil text), subst P (sym (append-nil text)) stands)
 
 -- a step, at each text that the reader stands for
 pub steps_at : (byte : ℕ) (item : Found) (before after : StreamReader) → Steps before.state before.front byte item after.state after.front
-    → (text : List ℕ) → StandsFor before text → (items (text ++ byte ∷ []) ≡ items text ++ option_to_list (option_map (found_in after.front) item)) × StandsFor after (text ++ byte ∷ [])
-unfolding StandsFor Steps
+    → (text : List ℕ) → StandsForStream before text → (stream_items (text ++ byte ∷ []) ≡ stream_items text ++ option_to_list (option_map (found_in after.front) item)) × StandsForStream after (text ++ byte ∷ [])
+unfolding StandsForStream Steps
 steps_at byte item before after steps text stands =
     let on = reads_on_lem text (byte ∷ []) in
-    let step = steps (rest text) stands in
-    let Kept : List ℕ → Type 0 = Keeps after.state after.front in
-    (on.items_go_on ∙ ap (λ (more : List Item). items text ++ more) step.0, subst Kept (sym on.rest_goes_on) step.1)
+    let step = steps (stream_rest text) stands in
+    let Kept : List ℕ → Type 0 = KeepsPacket after.state after.front in
+    (on.items_go_on ∙ ap (λ (more : List PacketItem). stream_items text ++ more) step.0, subst Kept (sym on.rest_goes_on) step.1)
 
 pub passes_step : (byte : ℕ) (before after : StreamReader) → Steps before.state before.front byte None after.state after.front → PassesOver (byte ∷ []) before after
 passes_step byte before after steps text stands =
     let step = steps_at byte None before after steps text stands in
-    (step.0 ∙ append-nil (items text), step.1)
+    (step.0 ∙ append-nil (stream_items text), step.1)
 
 -- Where no item ends in a front of a piece, none ends in a shorter front.
-none_before : (text piece : List ℕ) (n m : ℕ) → n ≤ m → items (text ++ take m piece) ≡ items text → items (text ++ take n piece) ≡ items text
+none_before : (text piece : List ℕ) (n m : ℕ) → n ≤ m → stream_items (text ++ take m piece) ≡ stream_items text → stream_items (text ++ take n piece) ≡ stream_items text
 none_before text piece n m within none =
     let split : take n piece ++ drop n (take m piece) ≡ take m piece = ap (λ (front : List ℕ). front ++ drop n (take m piece)) (sym (take-take n m piece within)) ∙ take-append-drop n (take m piece) in
     let first = reads_on_lem text (take n piece) in
     let second = reads_on_lem (text ++ take n piece) (drop n (take m piece)) in
     let joins : (text ++ take n piece) ++ drop n (take m piece) ≡ text ++ take m piece = append_assoc text (take n piece) (drop n (take m piece)) ∙ ap (λ (front : List ℕ). text ++ front) split in
-    let more = items (rest text ++ take n piece) in
-    let last = items (rest (text ++ take n piece) ++ drop n (take m piece)) in
-    let whole : items text ≡ items (text ++ take n piece) ++ last = sym none ∙ ap items (sym joins) ∙ second.items_go_on in
-    let empty : more ≡ [] = nil_from_length more (omega (arith, ap (length {A = Item}) whole, ap (length {A = Item}) first.items_go_on, length-append (items (text ++ take n piece)) last, length-append (items text) more)) in
-    first.items_go_on ∙ ap (λ (more : List Item). items text ++ more) empty ∙ append-nil (items text)
+    let more = stream_items (stream_rest text ++ take n piece) in
+    let last = stream_items (stream_rest (text ++ take n piece) ++ drop n (take m piece)) in
+    let whole : stream_items text ≡ stream_items (text ++ take n piece) ++ last = sym none ∙ ap stream_items (sym joins) ∙ second.items_go_on in
+    let empty : more ≡ [] = nil_from_length more (omega (arith, ap (length {A = PacketItem}) whole, ap (length {A = PacketItem}) first.items_go_on, length-append (stream_items (text ++ take n piece)) last, length-append (stream_items text) more)) in
+    first.items_go_on ∙ ap (λ (more : List PacketItem). stream_items text ++ more) empty ∙ append-nil (stream_items text)
 
 -- a piece in which no item ends
-pub feeds_none : (text piece : List ℕ) (n : ℕ) → n ≡ length piece → items (text ++ take n piece) ≡ items text → Feeds text piece n None
+pub feeds_none : (text piece : List ℕ) (n : ℕ) → n ≡ length piece → stream_items (text ++ take n piece) ≡ stream_items text → FeedsStream text piece n None
 feeds_none text piece n all none = record {
   within = omega arith;
-  adds = none ∙ sym (append-nil (items text));
+  adds = none ∙ sym (append-nil (stream_items text));
   is_first = λ k below. none_before text piece k n (omega arith) none;
   uses_all = λ _. all;
 }
 
 -- a piece in which an item ends behind a front in which none ends
-pub feeds_item : (text piece : List ℕ) (n byte : ℕ) (item : Item) → n < length piece → byte ≡ get_or piece n 0 → items (text ++ take n piece) ≡ items text
-    → items ((text ++ take n piece) ++ byte ∷ []) ≡ items (text ++ take n piece) ++ item ∷ [] → Feeds text piece (n + 1) (Some item)
+pub feeds_item : (text piece : List ℕ) (n byte : ℕ) (item : PacketItem) → n < length piece → byte ≡ get_or piece n 0 → stream_items (text ++ take n piece) ≡ stream_items text
+    → stream_items ((text ++ take n piece) ++ byte ∷ []) ≡ stream_items (text ++ take n piece) ++ item ∷ [] → FeedsStream text piece (n + 1) (Some item)
 feeds_item text piece n byte item within is none ends =
     let front : take (n + 1) piece ≡ take n piece ++ byte ∷ [] = take_more piece n 0 within ∙ ap (λ (byte : ℕ). take n piece ++ byte ∷ []) (sym is) in
     record {
       within = omega arith;
-      adds = ap (λ (front : List ℕ). items (text ++ front)) front ∙ ap items (sym (append_assoc text (take n piece) (byte ∷ []))) ∙ ends ∙ ap (λ (before : List Item). before ++ item ∷ []) none;
+      adds = ap (λ (front : List ℕ). stream_items (text ++ front)) front ∙ ap stream_items (sym (append_assoc text (take n piece) (byte ∷ []))) ∙ ends ∙ ap (λ (before : List PacketItem). before ++ item ∷ []) none;
       is_first = λ k below. none_before text piece k n (omega arith) none;
       uses_all = λ is_none. cc;
     }
 
 -- A piece whose items end with a byte behind a front in which none ends, by a step there.
 pub feeds_step : (piece : List ℕ) (used byte : ℕ) (item : Found) (a b c : StreamReader) → used < length piece → byte ≡ get_or piece used 0 → PassesOver (take used piece) a b
-    → Steps b.state b.front byte item c.state c.front → is_some item ≡ true → (text : List ℕ) → StandsFor a text
-    → Feeds text piece (used + 1) (option_map (found_in c.front) item) × StandsFor c (text ++ take (used + 1) piece)
+    → Steps b.state b.front byte item c.state c.front → is_some item ≡ true → (text : List ℕ) → StandsForStream a text
+    → FeedsStream text piece (used + 1) (option_map (found_in c.front) item) × StandsForStream c (text ++ take (used + 1) piece)
 feeds_step piece used byte None a b c within is passes steps some text stands = absurd (false≢true some)
 feeds_step piece used byte (Some item) a b c within is passes steps some text stands =
     let before = passes text stands in
     let step = steps_at byte (Some item) b c steps (text ++ take used piece) before.1 in
     let front : (text ++ take used piece) ++ byte ∷ [] ≡ text ++ take (used + 1) piece =
     append_assoc text (take used piece) (byte ∷ []) ∙ ap (λ (front : List ℕ). text ++ front) (ap (λ (byte : ℕ). take used piece ++ byte ∷ []) is ∙ sym (take_more piece used 0 within)) in
-    let P : List ℕ → Type 0 = StandsFor c in
+    let P : List ℕ → Type 0 = StandsForStream c in
     (feeds_item text piece used byte (found_in c.front item) within is before.0 step.0, subst P front step.1)
 
 pub none_from_test : (item : Found) → is_some item ≡ false → item ≡ None

@@ -3,11 +3,11 @@ use Rattle.std.proofs.Common.{◌≡◌, ℕ, ◌+◌, ◌==◌, ◌&&◌, Bool,
 use Rattle.std.specs.Prelude.{IfSome}
 use Rattle.ctl_io.specs.Sink.{appended}
 use Rattle.ctl_io.proofs.SinkLemmas.{appended-appended}
-use Rattle.tsl_stream.specs.Numbers.{dle}
-use Rattle.tsl_stream.specs.Stream.{doubled}
+use Rattle.tsl_stream.specs.Numbers.{tsl_dle}
+use Rattle.tsl_stream.specs.Stream.{stuffed}
 use Rattle.tsl_stream.specs.WritingInside.{half_after}
 use Rattle.tsl_stream.proofs.FeedLemmas.{take-add}
-use Rattle.tsl_stream.proofs.Runs.{at_byte, doubled-byte}
+use Rattle.tsl_stream.proofs.Runs.{at_byte, stuffed-byte}
 
 -- bytes of which a front was appended, and then more of them
 pub front_more : (bytes part : List ℕ) (taken n : ℕ) (before mid now : Option (List ℕ)) → mid ≡ appended before (take taken bytes) → part ≡ drop taken bytes → now ≡ appended mid (take n part) → now ≡ appended before (take (taken + n) bytes)
@@ -24,15 +24,15 @@ if_appended P Q (Some text) now bytes is goes holds = let R : Option (List ℕ) 
 
 pub half_after-append : (half : Bool) (first second : List ℕ) → half_after half (first ++ second) ≡ half_after (half_after half first) second
 half_after-append half [] second = refl
-half_after-append half (a ∷ first) second = half_after-append (a == dle && not half) first second
+half_after-append half (a ∷ first) second = half_after-append (a == tsl_dle && not half) first second
 
-pub half_after-push : (half : Bool) (bytes : List ℕ) (byte : ℕ) → half_after half (bytes ++ byte ∷ []) ≡ (byte == dle && not (half_after half bytes))
+pub half_after-push : (half : Bool) (bytes : List ℕ) (byte : ℕ) → half_after half (bytes ++ byte ∷ []) ≡ (byte == tsl_dle && not (half_after half bytes))
 half_after-push half bytes byte = half_after-append half bytes (byte ∷ [])
 
 -- pairs leave no half
-pub half_after-doubled : (bytes : List ℕ) → half_after false (doubled bytes) ≡ false
+pub half_after-doubled : (bytes : List ℕ) → half_after false (stuffed bytes) ≡ false
 half_after-doubled [] = refl
 half_after-doubled (a ∷ bytes) =
-    at_byte dle (λ a. half_after false (doubled (a ∷ bytes)) ≡ false) a
+    at_byte tsl_dle (λ a. half_after false (stuffed (a ∷ bytes)) ≡ false) a
     (half_after-doubled bytes)
-    (λ other. ap (half_after false) (doubled-byte a bytes other) ∙ ap (λ (is : Bool). half_after (is && true) (doubled bytes)) other ∙ half_after-doubled bytes)
+    (λ other. ap (half_after false) (stuffed-byte a bytes other) ∙ ap (λ (is : Bool). half_after (is && true) (stuffed bytes)) other ∙ half_after-doubled bytes)

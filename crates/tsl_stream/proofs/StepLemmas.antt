@@ -4,25 +4,25 @@ use Rattle.std.specs.Option.{option_map, option_to_list}
 use Rattle.std.proofs.lemmas.List.{append-nil, append_assoc}
 use Rattle.std.proofs.lemmas.List.Concat.{flat_map-append}
 use Rattle.tsl_umd5.specs.declared.fault.TslFault.{TslFault}
-use Rattle.tsl_stream.specs.Numbers.{dle, stx}
-use Rattle.tsl_stream.specs.Stream.{doubled}
+use Rattle.tsl_stream.specs.Numbers.{tsl_dle, tsl_stx}
+use Rattle.tsl_stream.specs.Stream.{stuffed}
 use Rattle.tsl_stream.specs.declared.state.State.{State}
 use Rattle.tsl_stream.specs.declared.state.State.TheVariants.{Outside, OutsideDle, Inside, InsideDle}
-use Rattle.tsl_stream.specs.Items.{Reading, only_rest, with_item, reading, items, rest}
-use Rattle.tsl_stream.specs.Kept.{IsOpen, Keeps}
+use Rattle.tsl_stream.specs.Items.{StreamReading, only_stream_rest, with_stream_item, stream_reading, stream_items, stream_rest}
+use Rattle.tsl_stream.specs.Kept.{IsOpen, KeepsPacket}
 use Rattle.tsl_stream.specs.StepsInside.{found_in, EndsSo, Steps}
-use Rattle.tsl_stream.proofs.Runs.{doubled-byte}
-use Rattle.tsl_stream.proofs.Readings.{reading-by_start, reading-noise, reading-noise_dle, reading-open, reading-broken}
+use Rattle.tsl_stream.proofs.Runs.{stuffed-byte}
+use Rattle.tsl_stream.proofs.Readings.{stream_reading-by_packet_start, stream_reading-noise, stream_reading-noise_dle, stream_reading-open, stream_reading-broken}
 
-pub doubled-push : (body : List ℕ) (byte : ℕ) → nat_eq byte dle ≡ false → doubled body ++ byte ∷ [] ≡ doubled (body ++ byte ∷ [])
-doubled-push body byte other = ap (λ (piece : List ℕ). doubled body ++ piece) (sym (doubled-byte byte [] other)) ∙ sym (flat_map-append _ body (byte ∷ []))
+pub stuffed-push : (body : List ℕ) (byte : ℕ) → nat_eq byte tsl_dle ≡ false → stuffed body ++ byte ∷ [] ≡ stuffed (body ++ byte ∷ [])
+stuffed-push body byte other = ap (λ (piece : List ℕ). stuffed body ++ piece) (sym (stuffed-byte byte [] other)) ∙ sym (flat_map-append _ body (byte ∷ []))
 
-doubled-push_dle : (body : List ℕ) → doubled body ++ dle ∷ dle ∷ [] ≡ doubled (body ++ dle ∷ [])
-doubled-push_dle body = sym (flat_map-append _ body (dle ∷ []))
+stuffed-push_dle : (body : List ℕ) → stuffed body ++ tsl_dle ∷ tsl_dle ∷ [] ≡ stuffed (body ++ tsl_dle ∷ [])
+stuffed-push_dle body = sym (flat_map-append _ body (tsl_dle ∷ []))
 
 -- a packet that isn't whole is all rest
-pub reading-kept : (body : List ℕ) → IsOpen body → reading (dle ∷ stx ∷ doubled body) ≡ only_rest (dle ∷ stx ∷ doubled body)
-reading-kept body is_open = let P : List ℕ → Type 0 = λ text. reading (dle ∷ stx ∷ text) ≡ only_rest (dle ∷ stx ∷ text) in subst P (append-nil (doubled body)) (reading-open body [] is_open refl)
+pub stream_reading-kept : (body : List ℕ) → IsOpen body → stream_reading (tsl_dle ∷ tsl_stx ∷ stuffed body) ≡ only_stream_rest (tsl_dle ∷ tsl_stx ∷ stuffed body)
+stream_reading-kept body is_open = let P : List ℕ → Type 0 = λ text. stream_reading (tsl_dle ∷ tsl_stx ∷ text) ≡ only_stream_rest (tsl_dle ∷ tsl_stx ∷ text) in subst P (append-nil (stuffed body)) (stream_reading-open body [] is_open refl)
 
 -- a packet has just started
 pub open-none : IsOpen []
@@ -33,110 +33,110 @@ Found = Option (Result (Unit {0}) TslFault)
 
 -- a step by the reading of what was kept and the byte
 stepped : (text : List ℕ) (item : Found) (state : State) (front kept : List ℕ)
-    → reading text ≡ record { items = option_to_list (option_map (found_in front) item); rest = kept } → Keeps state front kept
-    → (items text ≡ option_to_list (option_map (found_in front) item)) × Keeps state front (rest text)
+    → stream_reading text ≡ record { items = option_to_list (option_map (found_in front) item); rest = kept } → KeepsPacket state front kept
+    → (stream_items text ≡ option_to_list (option_map (found_in front) item)) × KeepsPacket state front (stream_rest text)
 stepped text item state front kept reads keeps = (
-  ap (λ (reading : Reading). reading.items) reads,
-  (let P : List ℕ → Type 0 = Keeps state front in subst P (sym (ap (λ (reading : Reading). reading.rest) reads)) keeps),
+  ap (λ (reading : StreamReading). reading.items) reads,
+  (let P : List ℕ → Type 0 = KeepsPacket state front in subst P (sym (ap (λ (reading : StreamReading). reading.rest) reads)) keeps),
 )
 
 -- the same, behind what a state kept
 step_at : (kept is : List ℕ) (byte : ℕ) (item : Found) (state : State) (front : List ℕ) → kept ≡ is
-    → (items (is ++ byte ∷ []) ≡ option_to_list (option_map (found_in front) item)) × Keeps state front (rest (is ++ byte ∷ []))
-    → (items (kept ++ byte ∷ []) ≡ option_to_list (option_map (found_in front) item)) × Keeps state front (rest (kept ++ byte ∷ []))
+    → (stream_items (is ++ byte ∷ []) ≡ option_to_list (option_map (found_in front) item)) × KeepsPacket state front (stream_rest (is ++ byte ∷ []))
+    → (stream_items (kept ++ byte ∷ []) ≡ option_to_list (option_map (found_in front) item)) × KeepsPacket state front (stream_rest (kept ++ byte ∷ []))
 step_at kept is byte item state front same step =
-    let P : List ℕ → Type 0 = λ kept. (items (kept ++ byte ∷ []) ≡ option_to_list (option_map (found_in front) item)) × Keeps state front (rest (kept ++ byte ∷ [])) in
+    let P : List ℕ → Type 0 = λ kept. (stream_items (kept ++ byte ∷ []) ≡ option_to_list (option_map (found_in front) item)) × KeepsPacket state front (stream_rest (kept ++ byte ∷ [])) in
     subst P (sym same) step
 
-pub outside-dle : (front : List ℕ) → Steps Outside front dle None OutsideDle front
+pub outside-dle : (front : List ℕ) → Steps Outside front tsl_dle None OutsideDle front
 unfolding Steps
 outside-dle front kept keeps =
-    step_at kept [] dle None OutsideDle front keeps (stepped (dle ∷ []) None OutsideDle front (dle ∷ []) (reading-by_start (dle ∷ [])) refl)
+    step_at kept [] tsl_dle None OutsideDle front keeps (stepped (tsl_dle ∷ []) None OutsideDle front (tsl_dle ∷ []) (stream_reading-by_packet_start (tsl_dle ∷ [])) refl)
 
-pub outside-noise : (front : List ℕ) (byte : ℕ) → nat_eq byte dle ≡ false → Steps Outside front byte None Outside front
+pub outside-noise : (front : List ℕ) (byte : ℕ) → nat_eq byte tsl_dle ≡ false → Steps Outside front byte None Outside front
 unfolding Steps
 outside-noise front byte other kept keeps =
-    step_at kept [] byte None Outside front keeps (stepped (byte ∷ []) None Outside front [] (reading-noise byte [] other ∙ reading-by_start []) refl)
+    step_at kept [] byte None Outside front keeps (stepped (byte ∷ []) None Outside front [] (stream_reading-noise byte [] other ∙ stream_reading-by_packet_start []) refl)
 
-pub control-dle : (front : List ℕ) → Steps OutsideDle front dle None OutsideDle front
+pub control-dle : (front : List ℕ) → Steps OutsideDle front tsl_dle None OutsideDle front
 unfolding Steps
 control-dle front kept keeps =
-    step_at kept (dle ∷ []) dle None OutsideDle front keeps
-    (stepped (dle ∷ dle ∷ []) None OutsideDle front (dle ∷ []) (reading-by_start (dle ∷ dle ∷ []) ∙ reading-by_start (dle ∷ [])) refl)
+    step_at kept (tsl_dle ∷ []) tsl_dle None OutsideDle front keeps
+    (stepped (tsl_dle ∷ tsl_dle ∷ []) None OutsideDle front (tsl_dle ∷ []) (stream_reading-by_packet_start (tsl_dle ∷ tsl_dle ∷ []) ∙ stream_reading-by_packet_start (tsl_dle ∷ [])) refl)
 
-pub control-start : (front : List ℕ) → Steps OutsideDle front stx None Inside []
+pub control-start : (front : List ℕ) → Steps OutsideDle front tsl_stx None Inside []
 unfolding Steps
 control-start front kept keeps =
-    step_at kept (dle ∷ []) stx None Inside [] keeps
-    (stepped (dle ∷ stx ∷ []) None Inside [] (dle ∷ stx ∷ []) (reading-kept [] open-none) (open-none, refl))
+    step_at kept (tsl_dle ∷ []) tsl_stx None Inside [] keeps
+    (stepped (tsl_dle ∷ tsl_stx ∷ []) None Inside [] (tsl_dle ∷ tsl_stx ∷ []) (stream_reading-kept [] open-none) (open-none, refl))
 
-pub control-noise : (front : List ℕ) (byte : ℕ) → nat_eq byte dle ≡ false → nat_eq byte stx ≡ false → Steps OutsideDle front byte None Outside front
+pub control-noise : (front : List ℕ) (byte : ℕ) → nat_eq byte tsl_dle ≡ false → nat_eq byte tsl_stx ≡ false → Steps OutsideDle front byte None Outside front
 unfolding Steps
 control-noise front byte no_dle no_stx kept keeps =
-    step_at kept (dle ∷ []) byte None Outside front keeps
-    (stepped (dle ∷ byte ∷ []) None Outside front [] (reading-noise_dle byte [] no_stx ∙ reading-noise byte [] no_dle ∙ reading-by_start []) refl)
+    step_at kept (tsl_dle ∷ []) byte None Outside front keeps
+    (stepped (tsl_dle ∷ byte ∷ []) None Outside front [] (stream_reading-noise_dle byte [] no_stx ∙ stream_reading-noise byte [] no_dle ∙ stream_reading-by_packet_start []) refl)
 
-pub inside-dle : (front : List ℕ) → Steps Inside front dle None InsideDle front
+pub inside-dle : (front : List ℕ) → Steps Inside front tsl_dle None InsideDle front
 unfolding Steps
 inside-dle front kept keeps =
-    step_at kept (dle ∷ stx ∷ doubled front) dle None InsideDle front keeps.1
-    (stepped (dle ∷ stx ∷ (doubled front ++ dle ∷ [])) None InsideDle front (dle ∷ stx ∷ (doubled front ++ dle ∷ []))
-    (reading-open front (dle ∷ []) keeps.0 refl)
+    step_at kept (tsl_dle ∷ tsl_stx ∷ stuffed front) tsl_dle None InsideDle front keeps.1
+    (stepped (tsl_dle ∷ tsl_stx ∷ (stuffed front ++ tsl_dle ∷ [])) None InsideDle front (tsl_dle ∷ tsl_stx ∷ (stuffed front ++ tsl_dle ∷ []))
+    (stream_reading-open front (tsl_dle ∷ []) keeps.0 refl)
     (keeps.0, refl))
 
 -- what a packet's front has come to, as a step
 ended : (front : List ℕ) (item : Found) (state : State) → EndsSo front item state
-    → (items (dle ∷ stx ∷ doubled front) ≡ option_to_list (option_map (found_in front) item)) × Keeps state front (rest (dle ∷ stx ∷ doubled front))
+    → (stream_items (tsl_dle ∷ tsl_stx ∷ stuffed front) ≡ option_to_list (option_map (found_in front) item)) × KeepsPacket state front (stream_rest (tsl_dle ∷ tsl_stx ∷ stuffed front))
 ended front None state ends =
-    let P : State → Type 0 = λ state. (items (dle ∷ stx ∷ doubled front) ≡ []) × Keeps state front (rest (dle ∷ stx ∷ doubled front)) in
-    subst P (sym ends.1) (stepped (dle ∷ stx ∷ doubled front) None Inside front (dle ∷ stx ∷ doubled front) (reading-kept front ends.0) (ends.0, refl))
+    let P : State → Type 0 = λ state. (stream_items (tsl_dle ∷ tsl_stx ∷ stuffed front) ≡ []) × KeepsPacket state front (stream_rest (tsl_dle ∷ tsl_stx ∷ stuffed front)) in
+    subst P (sym ends.1) (stepped (tsl_dle ∷ tsl_stx ∷ stuffed front) None Inside front (tsl_dle ∷ tsl_stx ∷ stuffed front) (stream_reading-kept front ends.0) (ends.0, refl))
 ended front (Some item) state ends =
-    let P : State → Type 0 = λ state. (items (dle ∷ stx ∷ doubled front) ≡ found_in front item ∷ []) × Keeps state front (rest (dle ∷ stx ∷ doubled front)) in
-    let reads : reading (dle ∷ stx ∷ doubled front) ≡ with_item (found_in front item) (only_rest []) =
-    sym (ap (λ (text : List ℕ). reading (dle ∷ stx ∷ text)) (append-nil (doubled front))) ∙ ends.0 [] ∙ ap (with_item (found_in front item)) (reading-by_start []) in
-    subst P (sym ends.1) (stepped (dle ∷ stx ∷ doubled front) (Some item) Outside front [] reads refl)
+    let P : State → Type 0 = λ state. (stream_items (tsl_dle ∷ tsl_stx ∷ stuffed front) ≡ found_in front item ∷ []) × KeepsPacket state front (stream_rest (tsl_dle ∷ tsl_stx ∷ stuffed front)) in
+    let reads : stream_reading (tsl_dle ∷ tsl_stx ∷ stuffed front) ≡ with_stream_item (found_in front item) (only_stream_rest []) =
+    sym (ap (λ (text : List ℕ). stream_reading (tsl_dle ∷ tsl_stx ∷ text)) (append-nil (stuffed front))) ∙ ends.0 [] ∙ ap (with_stream_item (found_in front item)) (stream_reading-by_packet_start []) in
+    subst P (sym ends.1) (stepped (tsl_dle ∷ tsl_stx ∷ stuffed front) (Some item) Outside front [] reads refl)
 
 -- the same, where the last byte was sent so
-ended_by : (front sent : List ℕ) (item : Found) (state : State) → dle ∷ stx ∷ doubled front ≡ sent → EndsSo front item state
-    → (items sent ≡ option_to_list (option_map (found_in front) item)) × Keeps state front (rest sent)
+ended_by : (front sent : List ℕ) (item : Found) (state : State) → tsl_dle ∷ tsl_stx ∷ stuffed front ≡ sent → EndsSo front item state
+    → (stream_items sent ≡ option_to_list (option_map (found_in front) item)) × KeepsPacket state front (stream_rest sent)
 ended_by front sent item state same ends =
-    let P : List ℕ → Type 0 = λ sent. (items sent ≡ option_to_list (option_map (found_in front) item)) × Keeps state front (rest sent) in
+    let P : List ℕ → Type 0 = λ sent. (stream_items sent ≡ option_to_list (option_map (found_in front) item)) × KeepsPacket state front (stream_rest sent) in
     subst P same (ended front item state ends)
 
-pub inside-byte : (front : List ℕ) (byte : ℕ) (item : Found) (state : State) (next : List ℕ) → nat_eq byte dle ≡ false → next ≡ front ++ byte ∷ [] → EndsSo next item state → Steps Inside front byte item state next
+pub inside-byte : (front : List ℕ) (byte : ℕ) (item : Found) (state : State) (next : List ℕ) → nat_eq byte tsl_dle ≡ false → next ≡ front ++ byte ∷ [] → EndsSo next item state → Steps Inside front byte item state next
 unfolding Steps
 inside-byte front byte item state next other grown ends kept keeps =
-    step_at kept (dle ∷ stx ∷ doubled front) byte item state next keeps.1
-    (ended_by next ((dle ∷ stx ∷ doubled front) ++ byte ∷ []) item state
-    (ap (λ (front : List ℕ). dle ∷ stx ∷ doubled front) grown ∙ sym (ap (λ (text : List ℕ). dle ∷ stx ∷ text) (doubled-push front byte other))) ends)
+    step_at kept (tsl_dle ∷ tsl_stx ∷ stuffed front) byte item state next keeps.1
+    (ended_by next ((tsl_dle ∷ tsl_stx ∷ stuffed front) ++ byte ∷ []) item state
+    (ap (λ (front : List ℕ). tsl_dle ∷ tsl_stx ∷ stuffed front) grown ∙ sym (ap (λ (text : List ℕ). tsl_dle ∷ tsl_stx ∷ text) (stuffed-push front byte other))) ends)
 
 -- what was kept in a packet behind a DLE, and the byte
-inner : (body : List ℕ) (byte : ℕ) → (dle ∷ stx ∷ (doubled body ++ dle ∷ [])) ++ byte ∷ [] ≡ dle ∷ stx ∷ (doubled body ++ dle ∷ byte ∷ [])
-inner body byte = ap (λ (text : List ℕ). dle ∷ stx ∷ text) (append_assoc (doubled body) (dle ∷ []) (byte ∷ []))
+inner : (body : List ℕ) (byte : ℕ) → (tsl_dle ∷ tsl_stx ∷ (stuffed body ++ tsl_dle ∷ [])) ++ byte ∷ [] ≡ tsl_dle ∷ tsl_stx ∷ (stuffed body ++ tsl_dle ∷ byte ∷ [])
+inner body byte = ap (λ (text : List ℕ). tsl_dle ∷ tsl_stx ∷ text) (append_assoc (stuffed body) (tsl_dle ∷ []) (byte ∷ []))
 
-pub inner-pair : (front : List ℕ) (item : Found) (state : State) (next : List ℕ) → next ≡ front ++ dle ∷ [] → EndsSo next item state → Steps InsideDle front dle item state next
+pub inner-pair : (front : List ℕ) (item : Found) (state : State) (next : List ℕ) → next ≡ front ++ tsl_dle ∷ [] → EndsSo next item state → Steps InsideDle front tsl_dle item state next
 unfolding Steps
 inner-pair front item state next grown ends kept keeps =
-    step_at kept (dle ∷ stx ∷ (doubled front ++ dle ∷ [])) dle item state next keeps.1
-    (ended_by next ((dle ∷ stx ∷ (doubled front ++ dle ∷ [])) ++ dle ∷ []) item state
-    (ap (λ (front : List ℕ). dle ∷ stx ∷ doubled front) grown ∙ sym (inner front dle ∙ ap (λ (text : List ℕ). dle ∷ stx ∷ text) (doubled-push_dle front))) ends)
+    step_at kept (tsl_dle ∷ tsl_stx ∷ (stuffed front ++ tsl_dle ∷ [])) tsl_dle item state next keeps.1
+    (ended_by next ((tsl_dle ∷ tsl_stx ∷ (stuffed front ++ tsl_dle ∷ [])) ++ tsl_dle ∷ []) item state
+    (ap (λ (front : List ℕ). tsl_dle ∷ tsl_stx ∷ stuffed front) grown ∙ sym (inner front tsl_dle ∙ ap (λ (text : List ℕ). tsl_dle ∷ tsl_stx ∷ text) (stuffed-push_dle front))) ends)
 
-pub inner-start : (front : List ℕ) → Steps InsideDle front stx None Inside []
+pub inner-start : (front : List ℕ) → Steps InsideDle front tsl_stx None Inside []
 unfolding Steps
 inner-start front kept keeps =
-    step_at kept (dle ∷ stx ∷ (doubled front ++ dle ∷ [])) stx None Inside [] keeps.1
-    (stepped ((dle ∷ stx ∷ (doubled front ++ dle ∷ [])) ++ stx ∷ []) None Inside [] (dle ∷ stx ∷ [])
-    (ap reading (inner front stx) ∙ reading-open front (dle ∷ stx ∷ []) keeps.0 refl ∙ reading-kept [] open-none)
+    step_at kept (tsl_dle ∷ tsl_stx ∷ (stuffed front ++ tsl_dle ∷ [])) tsl_stx None Inside [] keeps.1
+    (stepped ((tsl_dle ∷ tsl_stx ∷ (stuffed front ++ tsl_dle ∷ [])) ++ tsl_stx ∷ []) None Inside [] (tsl_dle ∷ tsl_stx ∷ [])
+    (ap stream_reading (inner front tsl_stx) ∙ stream_reading-open front (tsl_dle ∷ tsl_stx ∷ []) keeps.0 refl ∙ stream_reading-kept [] open-none)
     (open-none, refl))
 
-pub inner-broken : (front : List ℕ) (byte : ℕ) → nat_eq byte dle ≡ false → nat_eq byte stx ≡ false → Steps InsideDle front byte None Outside front
+pub inner-broken : (front : List ℕ) (byte : ℕ) → nat_eq byte tsl_dle ≡ false → nat_eq byte tsl_stx ≡ false → Steps InsideDle front byte None Outside front
 unfolding Steps
 inner-broken front byte no_dle no_stx kept keeps =
-    step_at kept (dle ∷ stx ∷ (doubled front ++ dle ∷ [])) byte None Outside front keeps.1
-    (stepped ((dle ∷ stx ∷ (doubled front ++ dle ∷ [])) ++ byte ∷ []) None Outside front []
-    (ap reading (inner front byte) ∙ reading-broken front byte [] keeps.0 no_dle no_stx ∙ reading-by_start [])
+    step_at kept (tsl_dle ∷ tsl_stx ∷ (stuffed front ++ tsl_dle ∷ [])) byte None Outside front keeps.1
+    (stepped ((tsl_dle ∷ tsl_stx ∷ (stuffed front ++ tsl_dle ∷ [])) ++ byte ∷ []) None Outside front []
+    (ap stream_reading (inner front byte) ∙ stream_reading-broken front byte [] keeps.0 no_dle no_stx ∙ stream_reading-by_packet_start [])
     refl)
 
 -- the empty text has no rest
-pub rest-nil : rest [] ≡ []
-rest-nil = ap (λ (reading : Reading). reading.rest) (reading-by_start [])
+pub stream_rest-nil : stream_rest [] ≡ []
+stream_rest-nil = ap (λ (reading : StreamReading). reading.rest) (stream_reading-by_packet_start [])

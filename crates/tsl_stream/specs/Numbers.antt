@@ -2,9 +2,9 @@
 use Rattle.std.specs.Prelude.{ℕ}
 
 -- DLE stands before STX, and a byte of its value in a packet is sent twice. It isn't the DLE of SW-P-08.
-abbrev pub dle : ℕ
-dle = 0xFE
+abbrev pub tsl_dle : ℕ
+tsl_dle = 0xFE
 
 -- behind a DLE: a packet starts
-abbrev pub stx : ℕ
-stx = 0x02
+abbrev pub tsl_stx : ℕ
+tsl_stx = 0x02

@@ -4,19 +4,19 @@ use Rattle.std.specs.Borrow.{follows_so, MutBor, Fml}
 use mathlib.Core.Option.{none}
 use Rattle.tsl_stream.specs.declared.reader.StreamReader.{StreamReader}
 use Rattle.tsl_stream.specs.contracts.reader.StreamReader.{the_row}
-use Rattle.tsl_stream.specs.Items.{rest}
-use Rattle.tsl_stream.specs.Kept.{Keeps}
+use Rattle.tsl_stream.specs.Items.{stream_rest}
+use Rattle.tsl_stream.specs.Kept.{KeepsPacket}
 
 -- A reader stands for every text whose rest it keeps: what comes next is read alike behind each of them.
-unfoldable pub StandsFor : StreamReader → List ℕ → Type 0
-StandsFor reader text = Keeps reader.state reader.front (rest text)
+unfoldable pub StandsForStream : StreamReader → List ℕ → Type 0
+StandsForStream reader text = KeepsPacket reader.state reader.front (stream_rest text)
 
 -- A reader goes on over these bytes: of each text that it stood for, it stands for the text with them.
-abbrev pub GoesOver : List ℕ → StreamReader → StreamReader → Type 0
-GoesOver bytes before after =
-    (text : List ℕ) → StandsFor before text → StandsFor after (text ++ bytes)
+abbrev pub GoesOverStream : List ℕ → StreamReader → StreamReader → Type 0
+GoesOverStream bytes before after =
+    (text : List ℕ) → StandsForStream before text → StandsForStream after (text ++ bytes)
 
 -- Once nothing borrows from it, the reader has gone on over these bytes.
-abbrev pub EndsOver : MutBor StreamReader → List ℕ → Fml
-EndsOver reader bytes =
-    follows_so the_row the_row reader.ghost_name none (λ _ _. ⊤) (GoesOver bytes reader.now)
+abbrev pub EndsOverStream : MutBor StreamReader → List ℕ → Fml
+EndsOverStream reader bytes =
+    follows_so the_row the_row reader.ghost_name none (λ _ _. ⊤) (GoesOverStream bytes reader.now)

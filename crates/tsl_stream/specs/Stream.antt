@@ -1,12 +1,13 @@
 -- The one text of a packet on a stream of bytes, by the TSL UMD Protocol V5.0 for TCP/IP.
 use Rattle.std.specs.Prelude.{ℕ, ◌==◌, if◌then◌else◌, List, [], ◌∷◌, ◌++◌}
 use Rattle.std.specs.List.{flat_map}
-use Rattle.tsl_stream.specs.Numbers.{dle, stx}
+use Rattle.tsl_stream.specs.Numbers.{tsl_dle, tsl_stx}
 
 -- each DLE twice, so that none of them can be read as a start
-abbrev pub doubled : List ℕ → List ℕ
-doubled bytes = flat_map (λ byte. if byte == dle then dle ∷ dle ∷ [] else byte ∷ []) bytes
+abbrev pub stuffed : List ℕ → List ℕ
+stuffed bytes =
+    flat_map (λ byte. if byte == tsl_dle then tsl_dle ∷ tsl_dle ∷ [] else byte ∷ []) bytes
 
 -- DLE STX, and the packet with each DLE of it twice
 abbrev pub stream_text : List ℕ → List ℕ
-stream_text packet = (dle ∷ stx ∷ []) ++ doubled packet
+stream_text packet = (tsl_dle ∷ tsl_stx ∷ []) ++ stuffed packet

@@ -1,7 +1,7 @@
 //! The front of a packet: the bytes of it that have come.
 ghost use Rattle.std.specs.Prelude.{◌≡◌, ◌+◌, ◌<◌, ◌≤◌, [], ◌∷◌, ◌++◌, length, IfSome, IfNone};
 ghost use Rattle.tsl_umd5.specs.Layout.{max_packet};
-ghost use Rattle.tsl_stream.specs.Items.{wanted};
+ghost use Rattle.tsl_stream.specs.Items.{packet_size};
 ghost use Rattle.tsl_stream.specs.Kept.{IsOpen};
 ghost use Rattle.tsl_stream.specs.StepsInside.{IsReached, EndsAs, found_in};
 
@@ -67,7 +67,7 @@ impl Front {
 
     // How many bytes the packet wants, and PBC alone where that hasn't come.
     pub(crate) fn wanted(&self) -> usize
-        ensures { result ≡ wanted self.now }
+        ensures { result ≡ packet_size self.now }
     {
         match self.as_slice() {
             [low, high, ..] => usize::from(u16::from_le_bytes([*low, *high])) + COUNT_BYTES,
@@ -77,8 +77,8 @@ impl Front {
 
     // How many bytes the packet wants behind these.
     pub(crate) fn missing(&self) -> usize
-        requires { length self.now < wanted self.now }
-        ensures { result + length self.now ≡ wanted self.now }
+        requires { length self.now < packet_size self.now }
+        ensures { result + length self.now ≡ packet_size self.now }
     {
         self.wanted() - self.len
     }

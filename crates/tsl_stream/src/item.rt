@@ -6,6 +6,7 @@ use tsl_umd5::TslFault;
 pub enum StreamItem<'a> {
     /// A packet that `read_packet` accepts, with no byte of it doubled.
     Packet(&'a [u8]),
-    /// Why the bytes behind a start are no packet. They are as many as their own count says.
+    /// Why the bytes behind a start are no packet. They are as many as their own count says, and the count alone where that
+    /// is too great.
     Bad(TslFault),
 }

@@ -1,7 +1,7 @@
 //! Where the first DLE of a text is.
 ghost use Rattle.std.specs.Prelude.{◌≡◌, ◌<◌, ◌≤◌, [], length, take, slice_index};
-ghost use Rattle.tsl_stream.specs.Stream.{doubled};
-ghost use Rattle.tsl_stream.specs.Items.{only_rest, reading};
+ghost use Rattle.tsl_stream.specs.Stream.{stuffed};
+ghost use Rattle.tsl_stream.specs.Items.{only_stream_rest, stream_reading};
 
 use crate::control::DLE;
 use memchr::memchr;
@@ -10,8 +10,8 @@ use memchr::memchr;
 // its own spelling.
 pub(crate) fn dle_place(text: &[u8]) -> usize
     ensures within { result ≤ length text.now }
-    ensures noise { reading (take result text.now) ≡ only_rest [] }
-    ensures single { doubled (take result text.now) ≡ take result text.now }
+    ensures noise { stream_reading (take result text.now) ≡ only_stream_rest [] }
+    ensures single { stuffed (take result text.now) ≡ take result text.now }
 {
     memchr(DLE, text).unwrap_or(text.len())
 }

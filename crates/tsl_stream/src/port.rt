@@ -40,7 +40,7 @@ impl<K: Sink> StreamPort<K> {
         ensures sink { MatchResult result (λ port. sink_of port ≡ sink)
             (λ refused. refused ≡ NoMemory sink) }
         ensures none { IsUnwritten (K.written sink)
-            → IfOk result (λ port. HasSent K.written port []) }
+            → IfOk result (λ port. HasSent K.written K.faults port []) }
     {
         match Vec::with_capacity(alloc, MAX_STREAM + 1) {
             Ok(text) => Ok(StreamPort {
@@ -84,23 +84,21 @@ impl<K> StreamPort<K> {
 }
 
 impl<K: Sink> DisplayPort for StreamPort<K> {
-    ghost use Rattle.std.specs.Prelude.{None};
     ghost use Rattle.ctl_io.specs.Faults.{count_after};
-    ghost use Rattle.ctl_net.specs.Port.{send_failed};
-    ghost use Rattle.tsl_stream.specs.Port.{sink_of, HasSent, with_sent};
+    ghost use Rattle.ctl_net.specs.Port.{send_failed, sent_after};
+    ghost use Rattle.tsl_stream.specs.Port.{sink_of, HasSent};
 
     ghost takes = { IsPacketText };
 
-    // What the sink shows says what was sent.
-    ghost packets = { λ _. None };
+    ghost was_sent = { HasSent K.written K.faults };
 
     ghost faults = { λ port. K.faults (sink_of port) };
 
     /// Sends a packet. Whatever writes fail, what the sink was given has just the packets whose send was done.
     fn send(&mut self, packet: &[u8]) -> Sent
         requires { IsPacketText packet.now }
-        ensures sent { (packets : List (List ℕ)) → HasSent K.written self.old packets
-            → HasSent K.written self.new (with_sent result packet.now packets) }
+        ensures sent { (packets : List (List ℕ)) → HasSent K.written K.faults self.old packets
+            → HasSent K.written K.faults self.new (sent_after result packet.now packets) }
         ensures name { K.name (sink_of self.new) ≡ K.name (sink_of self.old) }
         ensures count { K.faults (sink_of self.new)
             ≡ count_after (send_failed result) (K.faults (sink_of self.old)) }
@@ -120,5 +118,8 @@ impl<K: Sink> DisplayPort for StreamPort<K> {
         Sent::Done
     }
 
-    fn pause(&mut self) {}
+    /// Does nothing: the next packet is written behind what the sink took.
+    fn pause(&mut self)
+        ensures same { self.new ≡ self.old }
+    {}
 }

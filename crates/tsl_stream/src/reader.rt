@@ -4,7 +4,7 @@ ghost use Rattle.std.specs.Prelude.{IsTrue};
 ghost use Rattle.std.specs.Borrow.{sem};
 ghost use Rattle.std.specs.Option.{option_map};
 ghost use Rattle.tsl_umd5.specs.Layout.{max_packet};
-ghost use Rattle.tsl_stream.specs.Items.{wanted};
+ghost use Rattle.tsl_stream.specs.Items.{packet_size};
 ghost use Rattle.tsl_stream.specs.Kept.{is_inside};
 ghost use Rattle.tsl_stream.specs.StepsInside.{Steps, EndsSo, found_in};
 
@@ -21,18 +21,18 @@ use tsl_umd5::TslFault;
 pub struct StreamReader {
     state: State,
     front: Front,
-    ghost more: { IsTrue (is_inside state) → length front < wanted front },
-    ghost fits: { IsTrue (is_inside state) → wanted front ≤ max_packet },
+    ghost more: { IsTrue (is_inside state) → length front < packet_size front },
+    ghost fits: { IsTrue (is_inside state) → packet_size front ≤ max_packet },
 }
 
 impl StreamReader {
-    ghost use Rattle.tsl_stream.specs.Feeding.{Feeds, shown};
-    ghost use Rattle.tsl_stream.specs.Reader.{StandsFor, GoesOver, EndsOver};
+    ghost use Rattle.tsl_stream.specs.Feeding.{FeedsStream, shown_packet};
+    ghost use Rattle.tsl_stream.specs.Reader.{StandsForStream, GoesOverStream, EndsOverStream};
     ghost use Rattle.tsl_stream.specs.ReaderInside.{PassesOver};
 
     /// A reader that was fed nothing.
     pub fn new() -> StreamReader
-        ensures { StandsFor result [] }
+        ensures { StandsForStream result [] }
     {
         StreamReader {
             state: State::Outside,
@@ -44,11 +44,11 @@ impl StreamReader {
     /// used, and that item, whose bytes are lent until the reader is used again. The item is None where none ends in the
     /// piece, and then all of it was used. It refuses nothing and takes no memory.
     pub fn feed(&mut self, piece: &[u8]) -> (usize, Option<StreamItem<'_>>)
-        ensures* stands { sem 𝓛 (EndsOver self.entry (take result.0 piece.now)) }
+        ensures* stands { sem 𝓛 (EndsOverStream self.entry (take result.0 piece.now)) }
         ensures within { result.0 ≤ length piece.now }
         ensures progress { 0 < length piece.now → 0 < result.0 }
-        ensures feeds { (text : List ℕ) → StandsFor self.old text
-            → Feeds text piece.now result.0 (option_map shown result.1) }
+        ensures feeds { (text : List ℕ) → StandsForStream self.old text
+            → FeedsStream text piece.now result.0 (option_map shown_packet result.1) }
     {
         let (used, item) = self.take_item(piece);
         match item {
@@ -59,11 +59,12 @@ impl StreamReader {
 
     // Takes the bytes that `feed` takes: a run of bytes at once, and then the byte behind it. A packet stays in the front.
     fn take_item(&mut self, piece: &[u8]) -> (usize, Option<Result<(), TslFault>>)
-        ensures stands { GoesOver (take result.0 piece.now) self.old self.new }
+        ensures stands { GoesOverStream (take result.0 piece.now) self.old self.new }
         ensures within { result.0 ≤ length piece.now }
         ensures progress { 0 < length piece.now → 0 < result.0 }
-        ensures feeds { (text : List ℕ) → StandsFor self.old text
-            → Feeds text piece.now result.0 (option_map (found_in self.new.front) result.1) }
+        ensures feeds { (text : List ℕ) → StandsForStream self.old text
+            → FeedsStream text piece.now result.0
+            (option_map (found_in self.new.front) result.1) }
     {
         let mut used = 0;
         loop {
@@ -81,7 +82,7 @@ impl StreamReader {
 
     // An item with its packet, which is the front.
     fn with_packet(&self, item: Result<(), TslFault>) -> StreamItem<'_>
-        ensures { shown result ≡ found_in self.now.front item }
+        ensures { shown_packet result ≡ found_in self.now.front item }
     {
         match item {
             Ok(()) => StreamItem::Packet(self.front.as_slice()),

@@ -2,7 +2,7 @@
 ghost use Rattle.std.specs.Prelude.{◌≡◌, ◌+◌, ◌*◌, ◌≤◌, [], ◌∷◌, ◌++◌, length};
 ghost use Rattle.std.specs.Prelude.{vec_len, vec_capacity};
 ghost use Rattle.tsl_umd5.specs.Packet.{IsPacketText};
-ghost use Rattle.tsl_stream.specs.Stream.{doubled, stream_text};
+ghost use Rattle.tsl_stream.specs.Stream.{stuffed, stream_text};
 ghost use Rattle.tsl_stream.specs.Laws.{ReadsBack};
 
 use crate::control::{DLE, STX};
@@ -29,7 +29,7 @@ pub fn write_stream(packet: &[u8], out: &mut Vec<u8>)
 #[inline(always)]
 fn push_byte(byte: u8, out: &mut Vec<u8>)
     requires { vec_len out.old + 2 ≤ vec_capacity out.old }
-    ensures doubled { out.new.items ≡ out.old.items ++ doubled (byte ∷ []) }
+    ensures doubled { out.new.items ≡ out.old.items ++ stuffed (byte ∷ []) }
     ensures room { vec_capacity out.new ≡ vec_capacity out.old }
 {
     out.push_reserved(byte);

@@ -85,12 +85,11 @@ impl MemPort {
 }
 
 impl DisplayPort for MemPort {
-    ghost use Rattle.std.specs.Prelude.{Some};
     ghost use Rattle.ctl_net.specs.Port.{IsSomePacket};
 
     ghost takes = { IsSomePacket };
 
-    ghost packets = { λ p. Some p.packets };
+    ghost was_sent = { λ p packets. p.packets ≡ packets };
 
     ghost faults = { λ p. p.calls.faults };
 

@@ -1,6 +1,6 @@
 //! The adapter over a UDP socket.
 
-ghost use Rattle.std.specs.Prelude.{◌≡◌, None};
+ghost use Rattle.std.specs.Prelude.{◌≡◌};
 
 use crate::{DisplayPort, Sent};
 use ctl_io::{FaultCount, call_again};
@@ -45,7 +45,8 @@ impl<R: Clock + Send> DisplayPort for UdpPort<R> {
 
     ghost takes = { IsSomePacket };
 
-    ghost packets = { λ _. None };
+    // It shows no packets.
+    ghost was_sent = { λ _ _. Unit {0} };
 
     ghost faults = { λ p. p.faults };
 

@@ -1,5 +1,5 @@
 use Rattle.std.proofs.Common.{◌-◌, ◌≤◌, length, take}
-use Rattle.tsl_stream.specs.Reader.{StandsFor}
+use Rattle.tsl_stream.specs.Reader.{StandsForStream}
 use Rattle.record_replay.specs.OutputInside.{Puts}
 use Rattle.record_replay.specs.Monitor.{monitor_text}
 use Rattle.record_replay.proofs.monitor.put_stream.Given as goal
@@ -8,7 +8,7 @@ use Rattle.record_replay.proofs.monitor.put_stream.Given as goal
 abbrev pub invariant-loop-used : goal.invariant-loop-used
 invariant-loop-used g l = record {
   within : l.used ≤ length l.stream;
-  stands : StandsFor l.reader (take l.used l.stream);
+  stands : StandsForStream l.reader (take l.used l.stream);
   puts : Puts g.K.Drain.written g.K.Drain.faults (monitor_text (take l.used l.stream)) l.fn.out l.out;
 }
 

@@ -1,6 +1,6 @@
 use Rattle.std.proofs.Common.{◌==◌, ◌&&◌, Bool, not, get_or, take, sym, ap, ◌∙◌, arith}
 use Rattle.std.proofs.lemmas.List.{take_more}
-use Rattle.tsl_stream.specs.Numbers.{dle}
+use Rattle.tsl_stream.specs.Numbers.{tsl_dle}
 use Rattle.tsl_stream.specs.WritingInside.{half_after}
 use Rattle.tsl_stream.proofs.HalfLemmas.{half_after-push}
 use Rattle.tsl_stream.proofs.half.ends_half.Goals as goal
@@ -11,5 +11,5 @@ loop-byte-preserved c =
     let i = c.loop-byte.byte-index in
     let byte = get_or bytes i 0 in
     c.is_half-ends.ensures
-    ∙ ap (λ (ends : Bool). byte == dle && not ends) c.loop-byte.invariant
+    ∙ ap (λ (ends : Bool). byte == tsl_dle && not ends) c.loop-byte.invariant
     ∙ sym (ap (half_after c.args.half) (take_more bytes i 0 (omega arith)) ∙ half_after-push c.args.half (take i bytes) byte)

@@ -1,7 +1,7 @@
 use Rattle.std.proofs.Common.{ℕ, ◌∷◌, length, take, ap, arith}
 use Rattle.std.proofs.lemmas.List.{length-append, length-take-le}
-use Rattle.tsl_stream.specs.Numbers.{dle, stx}
-use Rattle.tsl_stream.specs.Stream.{doubled}
+use Rattle.tsl_stream.specs.Numbers.{tsl_dle, tsl_stx}
+use Rattle.tsl_stream.specs.Stream.{stuffed}
 use Rattle.tsl_stream.proofs.Runs.{length-doubled}
 use Rattle.tsl_stream.proofs.LawLemmas.{reads_back_lem}
 use Rattle.tsl_stream.proofs.write.write_stream.Goals as goal
@@ -13,7 +13,7 @@ push_byte-requires c =
       arith,
       ap (length {A = ℕ}) c.loop-byte.invariant.written,
       c.loop-byte.invariant.capacity,
-      length-append c.args.out.now.items (dle ∷ stx ∷ doubled done),
+      length-append c.args.out.now.items (tsl_dle ∷ tsl_stx ∷ stuffed done),
       length-doubled done,
       length-take-le c.loop-byte.byte-index c.args.packet.now (omega arith),
     )

@@ -28,7 +28,7 @@ returns-clause-does g c = OnTrue_from c.tell_show-told.result _ (λ yes stand us
     let poll = requests.DisplayPoll c.args.screen c.args.refresh in
     let told = c.items.ensures ∙ c.step.ensures.answers ∙ ap (λ (state : State). (step state poll).answers) stands.state_is in
     let Put : List Answer → Type 0 = λ answers. Puts g.K.Drain.written g.K.Drain.faults (show_line plant c.args.screen answers) c.args.out.now c.tell_show-told.new.out
-    × SendsAll g.P.DisplayPort.packets g.P.DisplayPort.faults (packets_told plant c.args.screen answers) c.args.port.now c.tell_show-told.new.port in (
+    × SendsAll g.P.DisplayPort.was_sent g.P.DisplayPort.faults (packets_told plant c.args.screen answers) c.args.port.now c.tell_show-told.new.port in (
       show_line plant c.args.screen (step stand.state poll).answers,
       subst Put told (OnTrue_at yes c.tell_show-told.ensures.told),
       step_done plant (Show c.args.screen c.args.refresh) poll c.args.self.now _ stand used (show_line plant c.args.screen (step stand.state poll).answers) stands (refl, refl)

@@ -7,14 +7,14 @@ use Rattle.record_replay.specs.Streamed.{TakesLamps}
 use Rattle.record_replay.specs.PortInside.{SendsAll, SendsUntil, LeavesNone}
 use Rattle.record_replay.specs.ReplayerInside.{MayDo, DoesLine, LineHasPacket}
 use Rattle.record_replay.specs.Script.{Work, lines, worked, LinesSpell}
-use Rattle.record_replay.proofs.SentLemmas.{Sends-none, Sends-more, SendsUntil-more}
+use Rattle.record_replay.proofs.SentLemmas.{sends_none, sends_more, sends_until}
 use Rattle.record_replay.proofs.WorkScriptLemmas.{begins, rest_may, goes_on, script_done, leaves_none, script_stops}
 use Rattle.record_replay.proofs.replayer.Replayer.work.Goals as goal
 
 pub loop-out-init : goal.loop-out-init
 loop-out-init g c =
     begins c.args.self.now.plant.now c.args.script.now c.args.self.now _
-    (Puts-none g.K.Drain.written g.K.Drain.faults c.args.out.now, Sends-none g.P.DisplayPort.packets g.P.DisplayPort.faults c.args.port.now)
+    (Puts-none g.K.Drain.written g.K.Drain.faults c.args.out.now, sends_none g.P.DisplayPort.was_sent g.P.DisplayPort.faults c.args.port.now)
 
 pub work_first-requires-clause-names : goal.work_first-requires-clause-names
 work_first-requires-clause-names g c =
@@ -57,8 +57,8 @@ returns-in_default-clause-stops g c =
     (λ text packets far. (
       subst (λ (all : List ℕ). Puts g.K.Drain.written g.K.Drain.faults all c.args.out.now c.work_first.new.out) (append-nil text)
           (Puts-more g.K.Drain.written g.K.Drain.faults text [] c.args.out.now c.loop-out.out c.work_first.new.out far.0 stop.4),
-      subst (λ (all : List (List ℕ)). SendsUntil g.P.DisplayPort.packets g.P.DisplayPort.faults all c.args.port.now c.work_first.new.port) (append-nil packets)
-          (SendsUntil-more g.P.DisplayPort.packets g.P.DisplayPort.faults packets [] c.args.port.now c.loop-out.port c.work_first.new.port far.1 stop.5),
+      subst (λ (all : List (List ℕ)). SendsUntil g.P.DisplayPort.was_sent g.P.DisplayPort.faults all c.args.port.now c.work_first.new.port) (append-nil packets)
+          (sends_until g.P.DisplayPort.was_sent g.P.DisplayPort.faults packets [] c.args.port.now c.loop-out.port c.work_first.new.port far.1 stop.5),
     ))
     stop.2.lines_are c.loop-out.invariant (subst (λ (plant : PlantData). LineHasPacket plant stop.0 c.loop-out.self) way.stands.plant_is stop.3)
 
@@ -68,11 +68,11 @@ loop-out-preserved g c =
     let way = c.loop-out.invariant may.stand may.used c.requires.spelled.0 may.stands may.within c.requires.spelled.1 in
     let done = c.in-Some.ensures in
     let Put : List ℕ → List (List ℕ) → Type 0 = λ text packets. Puts g.K.Drain.written g.K.Drain.faults text c.loop-out.out c.work_first.new.out
-    × SendsAll g.P.DisplayPort.packets g.P.DisplayPort.faults packets c.loop-out.port c.work_first.new.port in
+    × SendsAll g.P.DisplayPort.was_sent g.P.DisplayPort.faults packets c.loop-out.port c.work_first.new.port in
     goes_on c.args.self.now.plant.now c.args.script.now c.loop-out.rest.now done.0 c.in-Some.behind.now c.args.self.now c.loop-out.self c.work_first.new.self _ Put _
     (λ text more packets others far here. (
       Puts-more g.K.Drain.written g.K.Drain.faults text more c.args.out.now c.loop-out.out c.work_first.new.out far.0 here.0,
-      Sends-more g.P.DisplayPort.packets g.P.DisplayPort.faults packets others c.args.port.now c.loop-out.port c.work_first.new.port far.1 here.1,
+      sends_more g.P.DisplayPort.was_sent g.P.DisplayPort.faults packets others c.args.port.now c.loop-out.port c.work_first.new.port far.1 here.1,
     ))
     done.1.lines_are done.1.within c.loop-out.invariant (subst (λ (plant : PlantData). DoesLine plant done.0 c.loop-out.self c.work_first.new.self Put) way.stands.plant_is done.2)
 

@@ -7,7 +7,7 @@ use Rattle.record_replay.proofs.replayer.Replayer.work.Given as goal
 abbrev pub invariant-loop-out : goal.invariant-loop-out
 invariant-loop-out g l =
     PlaysOn l.fn.self.plant.now l.fn.script l.rest l.fn.self l.self
-    (λ text packets. Puts g.K.Drain.written g.K.Drain.faults text l.fn.out l.out × SendsAll g.P.DisplayPort.packets g.P.DisplayPort.faults packets l.fn.port l.port)
+    (λ text packets. Puts g.K.Drain.written g.K.Drain.faults text l.fn.out l.out × SendsAll g.P.DisplayPort.was_sent g.P.DisplayPort.faults packets l.fn.port l.port)
 
 abbrev pub decreases-loop-out : goal.decreases-loop-out
 decreases-loop-out g l = length l.rest

@@ -15,7 +15,7 @@ turn-requires-clause-may g c = first_may c.args.self.now.plant.now c.args.self.n
 pub returns-in-Some : goal.returns-in-Some
 returns-in-Some g c =
     first_done c.args.self.now.plant.now c.args.text.now _ c.bytes.result.now _ _ c.args.self.now c.turn.new.self _ c.in-Some.ensures c.bytes.ensures
-    (does_unsent g.P.DisplayPort.packets g.P.DisplayPort.faults c.args.port.now c.args.self.now.plant.now (Read _ c.bytes.result.now) c.args.self.now c.turn.new.self
+    (does_unsent g.P.DisplayPort.was_sent g.P.DisplayPort.faults c.args.port.now c.args.self.now.plant.now (Read _ c.bytes.result.now) c.args.self.now c.turn.new.self
     (λ text. Puts g.K.Drain.written g.K.Drain.faults text c.args.out.now c.turn.new.out) (λ stand. refl) c.turn.ensures)
 
 pub work_line-requires-clause-may : goal.work_line-requires-clause-may

@@ -6,7 +6,7 @@ use Rattle.record_replay.specs.OutputInside.{Puts}
 use Rattle.record_replay.specs.OutputLaws.{Puts-none}
 use Rattle.record_replay.specs.Script.{Read, Leave}
 use Rattle.record_replay.proofs.NeedLemmas.{need_within}
-use Rattle.record_replay.proofs.SentLemmas.{Sends-none, does_unsent}
+use Rattle.record_replay.proofs.SentLemmas.{sends_none, does_unsent}
 use Rattle.record_replay.proofs.WorkLineLemmas.{may_less, does_line, does_nothing, line_has}
 use Rattle.record_replay.proofs.replayer.Replayer.work_found.Goals as goal
 
@@ -14,7 +14,7 @@ pub returns-in-Skipped-clause-does : goal.returns-in-Skipped-clause-does
 returns-in-Skipped-clause-does g c = λ line is.
     let At : code.Line → Type 0 = λ found. IsFound c.args.self.now.plant.now line found c.args.bytes.now in
     does_nothing c.args.self.now.plant.now line c.args.self.now _ (subst At c.in-Skipped.is is)
-    (Puts-none g.K.Drain.written g.K.Drain.faults c.args.out.now, Sends-none g.P.DisplayPort.packets g.P.DisplayPort.faults c.args.port.now)
+    (Puts-none g.K.Drain.written g.K.Drain.faults c.args.out.now, sends_none g.P.DisplayPort.was_sent g.P.DisplayPort.faults c.args.port.now)
 
 pub turn-requires-clause-panel : goal.turn-requires-clause-panel
 turn-requires-clause-panel g c =
@@ -32,7 +32,7 @@ returns-in-Read-clause-does g c = λ line is.
     let At : code.Line → Type 0 = λ found. IsFound c.args.self.now.plant.now line found c.args.bytes.now in
     let work = subst At c.in-Read.is is in
     does_line c.args.self.now.plant.now line _ c.args.self.now _ _ work.0 work.1
-    (does_unsent g.P.DisplayPort.packets g.P.DisplayPort.faults c.args.port.now c.args.self.now.plant.now (Read _ c.args.bytes.now) c.args.self.now c.turn.new.self
+    (does_unsent g.P.DisplayPort.was_sent g.P.DisplayPort.faults c.args.port.now c.args.self.now.plant.now (Read _ c.args.bytes.now) c.args.self.now c.turn.new.self
     (λ text. Puts g.K.Drain.written g.K.Drain.faults text c.args.out.now c.turn.new.out) (λ stand. refl) c.turn.ensures)
 
 pub leave-requires-clause-panel : goal.leave-requires-clause-panel
@@ -51,7 +51,7 @@ returns-in-Leave-clause-does g c = λ line is.
     let At : code.Line → Type 0 = λ found. IsFound c.args.self.now.plant.now line found c.args.bytes.now in
     let work = subst At c.in-Leave.is is in
     does_line c.args.self.now.plant.now line _ c.args.self.now _ _ work.0 work.1
-    (does_unsent g.P.DisplayPort.packets g.P.DisplayPort.faults c.args.port.now c.args.self.now.plant.now (Leave _) c.args.self.now c.leave.new.self
+    (does_unsent g.P.DisplayPort.was_sent g.P.DisplayPort.faults c.args.port.now c.args.self.now.plant.now (Leave _) c.args.self.now c.leave.new.self
     (λ text. Puts g.K.Drain.written g.K.Drain.faults text c.args.out.now c.leave.new.out) (λ stand. refl) c.leave.ensures)
 
 pub show-requires-clause-screen : goal.show-requires-clause-screen

@@ -1,6 +1,6 @@
 use Rattle.std.proofs.Common.{arith}
 use Rattle.std.proofs.lemmas.Bool.{ne_eqb}
-use Rattle.tsl_stream.specs.Numbers.{dle, stx}
+use Rattle.tsl_stream.specs.Numbers.{tsl_dle, tsl_stx}
 use Rattle.tsl_stream.proofs.StepLemmas.{control-dle, control-start, control-noise}
 use Rattle.tsl_stream.proofs.reader.StreamReader.take_control.Goals as goal
 
@@ -13,5 +13,5 @@ returns-in-2 c = rw (c.in-2.is, c.start.ensures.state, c.start.ensures.front) (c
 pub returns-in_default : goal.returns-in_default
 returns-in_default c =
     control-noise c.args.self.now.front c.args.byte
-    (ne_eqb c.args.byte dle (λ is. omega arith))
-    (ne_eqb c.args.byte stx (λ is. omega arith))
+    (ne_eqb c.args.byte tsl_dle (λ is. omega arith))
+    (ne_eqb c.args.byte tsl_stx (λ is. omega arith))
