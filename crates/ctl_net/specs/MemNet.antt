@@ -7,7 +7,7 @@ use Rattle.ctl_io.specs.Custody.{Custody}
 use Rattle.ctl_io.specs.Faults.{count_after, is_faulty}
 use Rattle.ctl_net.specs.MemAcceptor.{AcceptorState, IsNewAcceptor, at_most, links_of}
 use Rattle.ctl_net.specs.MemPort.{PortState, IsNewPort}
-use Rattle.ctl_net.specs.Net.{AcceptorEnd, PortEnd, acceptor_end, port_end, is_refused, ends_faulty}
+use Rattle.ctl_net.specs.Net.{AcceptorEnd, acceptor_end, is_refused, ends_faulty}
 use Rattle.ctl_net.specs.declared.memory.closed_acceptor.ClosedAcceptor.{ClosedAcceptor}
 use Rattle.ctl_net.specs.declared.opening.Opening.{Opening}
 
@@ -108,21 +108,18 @@ after_close_port port net = record net {
   close_faults = count_after (is_faulty port.calls.faults) net.close_faults;
 }
 
--- what the objects that were given back showed
+-- what an acceptor that was given back showed
 abbrev pub closed_end : ClosedAcceptor → AcceptorEnd
 closed_end closed = acceptor_end closed.panel closed.acceptor.sessions
     (links_of closed.acceptor) closed.acceptor.calls.faults closed.acceptor.done_faults
-
-abbrev pub closed_port_end : PortState → PortEnd
-closed_port_end port = port_end (Some port.packets) port.calls.faults
 
 -- the custody of its acceptors, and of its ports
 abbrev pub acceptors_of : NetState → Custody AcceptorEnd
 acceptors_of net =
     record { out = net.acceptors_out; back = Some (map closed_end net.acceptors_back) }
 
-abbrev pub ports_of : NetState → Custody PortEnd
-ports_of net = record { out = net.ports_out; back = Some (map closed_port_end net.ports_back) }
+abbrev pub ports_of : NetState → Custody PortState
+ports_of net = record { out = net.ports_out; back = Some net.ports_back }
 
 -- No call was made of the acceptors.
 abbrev pub AreNewAcceptors : List AcceptorState → Type 0

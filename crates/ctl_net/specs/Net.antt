@@ -25,14 +25,6 @@ acceptor_end panel sessions links next_faults done_faults = record {
   done_faults = done_faults;
 }
 
--- what a display port shows when it is given back: the packets that were sent, and its count of faults
-pub record PortEnd : Type 0 where
-  pub packets : Option (List (List ℕ))
-  pub faults : ℕ
-
-abbrev pub port_end : Option (List (List ℕ)) → ℕ → PortEnd
-port_end packets faults = record { packets = packets; faults = faults }
-
 -- whether an acceptor with these counts of faults met one
 abbrev pub ends_faulty : ℕ → ℕ → Bool
 ends_faulty next_faults done_faults = is_faulty next_faults || is_faulty done_faults
@@ -45,8 +37,8 @@ pub record IsFreshAcceptor (links : Custody LinkEnd) (next_faults done_faults : 
   pub done_count : done_faults ≡ 0
 
 -- No packet was sent to a port, and no call of it has failed.
-pub record IsFreshPort (packets : Option (List (List ℕ))) (faults : ℕ) : Type 0 where
-  pub none : IfSome packets (λ all. all ≡ [])
+pub record IsFreshPort (was_sent : List (List ℕ) → Type 0) (faults : ℕ) : Type 0 where
+  pub none : was_sent []
   pub count : faults ≡ 0
 
 -- Each packet that isn't empty is one that is taken.

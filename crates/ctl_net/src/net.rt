@@ -3,7 +3,7 @@
 ghost use Rattle.std.specs.Prelude.{◌≡◌, ◌<◌, ◌≤◌, ℕ, List, Option, IfSome, length};
 ghost use Rattle.ctl_io.specs.Custody.{Custody, returned};
 ghost use Rattle.ctl_io.specs.Faults.{count_after, is_faulty};
-ghost use Rattle.ctl_net.specs.Net.{AcceptorEnd, PortEnd, acceptor_end, port_end};
+ghost use Rattle.ctl_net.specs.Net.{AcceptorEnd, acceptor_end};
 ghost use Rattle.ctl_net.specs.Net.{IsFreshAcceptor, IsFreshPort, TakesAll};
 ghost use Rattle.ctl_net.specs.Net.{is_refused, opened, opening_lent, ends_faulty};
 ghost use Rattle.ctl_net.specs.declared.opening.Opening.{Opening};
@@ -22,8 +22,8 @@ pub trait Net {
     /// The acceptors that were handed out and taken back.
     ghost acceptors: { Self → Custody AcceptorEnd };
 
-    /// The display ports that were handed out and taken back.
-    ghost ports: { Self → Custody PortEnd };
+    /// The display ports that were handed out and taken back, each as it was given back.
+    ghost ports: { Self → Custody Self.P };
 
     /// How often an opening was refused.
     ghost open_faults: { Self → ℕ };
@@ -58,7 +58,7 @@ pub trait Net {
     fn port(&mut self, address: &str) -> Option<Self::P>
         requires { length address.now ≤ 64 }
         ensures new { IfSome result
-            (λ port. IsFreshPort (Self.P.packets port) (Self.P.faults port)) }
+            (λ port. IsFreshPort (Self.P.was_sent port) (Self.P.faults port)) }
         ensures takes { TakesAll Self.P.takes }
         ensures told { openings self.new
             ≡ opened result (Opening.Display address.now) (openings self.old) }
@@ -84,8 +84,7 @@ pub trait Net {
     /// Takes back a display port that this net handed out.
     fn close_port(&mut self, port: Self::P)
         requires { 0 < (ports self.old).out }
-        ensures returned { ports self.new
-            ≡ returned (port_end (Self.P.packets port) (Self.P.faults port)) (ports self.old) }
+        ensures returned { ports self.new ≡ returned port (ports self.old) }
         ensures told { openings self.new ≡ openings self.old }
         ensures acceptors { acceptors self.new ≡ acceptors self.old }
         ensures count { close_faults self.new
