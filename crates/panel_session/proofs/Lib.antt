@@ -7,6 +7,16 @@ pub mod StandsLemmas
 pub mod ActsLemmas
 pub mod ReadLemmas
 pub mod ApartLemmas
+pub mod CalledLemmas
+pub mod AnsweredLemmas
+pub mod GoneOnLemmas
+pub mod BrokenOffLemmas
+pub mod ServingLemmas
+pub mod IdleLemmas
+pub mod ReadsLemmas
+pub mod TurnedLemmas
+pub mod EndedLemmas
+pub mod ServedLemmas
 pub mod HandedLemmas
 pub mod SessionLemmas
 pub mod FrameRoom

@@ -27,7 +27,7 @@ use Rattle.panel_session.specs.Text.{IsText}
 pub drop-none : (used : ℕ) (rest : List ℕ) → rest ≡ [] → drop used rest ≡ []
 drop-none used rest none = nil_from_length (drop used rest) (omega (arith, length-drop used rest, ap (length {A = ℕ}) none))
 
-drop_all : (used : ℕ) (rest : List ℕ) → used ≡ length rest → drop used rest ≡ []
+pub drop_all : (used : ℕ) (rest : List ℕ) → used ≡ length rest → drop used rest ≡ []
 drop_all used rest all = nil_from_length (drop used rest) (omega (arith, length-drop used rest))
 
 -- a request's entry, behind those of the turn

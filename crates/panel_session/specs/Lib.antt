@@ -32,5 +32,7 @@ pub mod TraceLine
 pub mod TraceInside
 pub mod TraceLaws
 pub mod RunInside
+pub mod Served
+pub mod ServedInside
 pub mod WorkInside
 pub mod SettledInside

@@ -8,6 +8,7 @@ mod laws;
 mod outlet;
 mod packet;
 mod sending;
+mod serve;
 mod session;
 mod traces;
 
@@ -16,6 +17,7 @@ pub use laws::{
 };
 pub use outlet::Outlet;
 pub use packet::display_packet;
+pub use serve::{SessionEnd, serve_session};
 pub use session::Session;
 pub use session::act::Act;
 pub use session::counts::Counts;

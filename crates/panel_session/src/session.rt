@@ -16,6 +16,7 @@ pub(crate) mod counts;
 mod moves;
 pub(crate) mod phase;
 mod requests;
+mod traced;
 pub(crate) mod turn;
 mod work;
 

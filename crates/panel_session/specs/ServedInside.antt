@@ -1,0 +1,239 @@
+-- A session that is served, step by step.
+use Rattle.std.specs.Prelude.{◌≡◌, ◌≢◌, ℕ, ◌≤◌, List, [], ◌∷◌, ◌++◌, length, map, All, Option}
+use Rattle.std.specs.Option.{option_map}
+use mathlib.Core.List.{IsPrefix}
+use Rattle.ctl_io.specs.Faults.{one_more}
+use Rattle.ctl_io.specs.Sink.{appended, AppendsPart}
+use Rattle.ctl_io.specs.Source.{IsAtEnd}
+use Rattle.ctl_net.specs.Acceptor.{LinkEnd}
+use Rattle.dle_framing.specs.Items.{items}
+use Rattle.history_lock.specs.Calls.{AddsOwn, FoundFull, IsNumbered, OnlyCalled, SeesAnswers, asked_by}
+use Rattle.history_lock.specs.History.{entries_of, IsLegal}
+use Rattle.history_lock.specs.Locks.{LockData}
+use Rattle.plant_config.specs.IsPlant.{IsPlant}
+use Rattle.plant_config.specs.Plant.{PlantData}
+use Rattle.plant_core.specs.Answer.{room_of}
+use Rattle.plant_core.specs.State.{State, FitsPlant, start, Fits as Takes}
+use Rattle.plant_core.specs.Step.{step}
+use Rattle.plant_core.specs.declared.answer.Answer.{Answer}
+use Rattle.plant_core.specs.declared.request.Request.{Request}
+use Rattle.panel_session.specs.declared.session.Session.{Session}
+use Rattle.panel_session.specs.Acting.{MayGoOn}
+use Rattle.panel_session.specs.OneSend.{joined}
+use Rattle.panel_session.specs.Run.{CompletesText, turned}
+use Rattle.panel_session.specs.Turns.{Turn, bytes_of, entries_of_turns}
+use Rattle.panel_session.specs.declared.serve.SessionEnd.{SessionEnd}
+use Rattle.panel_session.specs.declared.serve.SessionEnd.TheVariants.{Ended, ReadFault, TraceFault, Full}
+use Rattle.panel_session.specs.Entry.{PlantEntry}
+use Rattle.panel_session.specs.Served.{PlantSeat, TraceData, AnsweredButLast, AreTaken, IsAnsweredIn, StandsOrAwaits, TracesAsEnded, all_read, full_after, idles_after, mark_after, own_lines, read_of, read_room}
+use Rattle.panel_session.specs.Session.{StandsFor, Awaits, outbox_of}
+use Rattle.panel_session.specs.Text.{IsText, frames_of}
+use Rattle.panel_session.specs.TraceLine.{trace_line}
+use Rattle.panel_session.specs.SoFar.{Progress, nothing_yet, entries_so_far, read_so_far, unread, with_entry}
+
+-- A session waits for the answers to this request, which it may ask its plant's lock by its seat.
+pub record MayCall (session : Session) (lock : LockData State) (seat : PlantSeat)
+    (request : Request) : Type 0 where
+  pub plant : PlantData
+  pub panel : ℕ
+  pub past : Progress
+  pub awaits : Awaits plant panel session past request
+  pub box : outbox_of session ≡ record { items = []; places = room_of plant }
+  pub fits : FitsPlant plant request
+  pub is_plant : IsPlant plant
+  pub seat_of : seat.lock ≡ lock.id
+  pub first : seat.first ≡ start plant
+
+-- What a session has sent in a past, and then the frames of the answers to a request, is its text with the entry of these.
+abbrev pub SaysWith : PlantData → PlantEntry → Progress → Type 0
+SaysWith plant entry past =
+    IsText plant (items (read_so_far (with_entry entry past)))
+    (entries_so_far (with_entry entry past)) (past.sent ++ joined (frames_of entry.answers))
+
+-- The lock answered a request of a session behind a past: its entry is the last of a legal history that goes on from the one
+-- that the seat had seen, and the seat's only new one. The session took the answers.
+pub record IsGiven (plant : PlantData) (panel : ℕ) (past : Progress) (request : Request)
+    (answers : List Answer) (number : ℕ) (session_then : Session) (seat seat_then : PlantSeat)
+    : Type 0 where
+  pub numbered : IsNumbered number seat_then.seen
+  pub legal : IsLegal step Takes (start plant) seat_then.seen
+  pub sees : SeesAnswers seat request answers seat_then
+  pub own : AddsOwn seat request answers seat_then
+  pub rest : OnlyCalled seat seat_then
+  pub stands : StandsFor plant panel session_then
+      (with_entry (asked_by seat request answers) past)
+  pub says : SaysWith plant (asked_by seat request answers) past
+
+-- The lock answered a request, and the line of the entry was traced.
+pub record IsTraced (plant : PlantData) (panel : ℕ) (past : Progress) (request : Request)
+    (session_then : Session) (seat seat_then : PlantSeat) (traced traced_then : Option (List ℕ))
+    : Type 0 where
+  pub answers : List Answer
+  pub number : ℕ
+  pub given : IsGiven plant panel past request answers number session_then seat seat_then
+  pub line : traced_then ≡ appended traced (trace_line plant number request answers)
+
+-- The lock answered a request, but the line of the entry wasn't traced as a whole.
+pub record IsUntraced (plant : PlantData) (panel : ℕ) (past : Progress) (request : Request)
+    (session_then : Session) (seat seat_then : PlantSeat) (traced traced_then : Option (List ℕ))
+    : Type 0 where
+  pub answers : List Answer
+  pub number : ℕ
+  pub given : IsGiven plant panel past request answers number session_then seat seat_then
+  pub part : AppendsPart (trace_line plant number request answers) traced traced_then
+
+-- How a session ends at a request: its line wasn't traced, or the history has no place for its entry.
+abbrev pub EndsAtRequest : SessionEnd → PlantData → ℕ → Progress → Request → Session → PlantSeat
+    → PlantSeat → Option (List ℕ) → Option (List ℕ) → Type 0
+EndsAtRequest TraceFault plant panel past request session_then seat seat_then traced traced_then =
+    IsUntraced plant panel past request session_then seat seat_then traced traced_then
+EndsAtRequest Full plant panel past request session_then seat seat_then traced traced_then =
+    FoundFull seat seat_then × (traced_then ≡ traced)
+    × Awaits plant panel session_then past request
+EndsAtRequest other plant panel past request session_then seat seat_then traced traced_then = ⊥
+
+-- what is outside of a session: its seat, what was written over its link, and what was written of its trace
+pub record Outside : Type 0 where
+  pub seat : PlantSeat
+  pub written : Option (List ℕ)
+  pub traced : Option (List ℕ)
+
+abbrev pub outside : PlantSeat → Option (List ℕ) → Option (List ℕ) → Outside
+outside seat written traced = record { seat = seat; written = written; traced = traced }
+
+-- A seat has seen a history that goes on with these entries from what it had seen, and is legal where there are some. It is the
+-- same seat.
+pub record SeesMore (plant : PlantData) (seat seat_then : PlantSeat) (new : List PlantEntry)
+    : Type 0 where
+  pub seen : seat_then.seen ≡ seat.seen ++ new
+  pub same : seat_then
+      ≡ record seat { seen = seat_then.seen; ticket_full = seat_then.ticket_full }
+  pub legal : new ≢ [] → IsLegal step Takes (start plant) seat_then.seen
+
+-- A session has gone on from one past to another. Its seat saw a history that goes on with these entries, of which its own are
+-- those that the session has more; the bytes that it has sent more were written; and the lines of its own entries were traced.
+pub record HasGoneOn (plant : PlantData) (before after : Outside) (past now : Progress)
+    : Type 0 where
+  pub new : List PlantEntry
+  pub sees : SeesMore plant before.seat after.seat new
+  pub full : after.seat.ticket_full ≡ mark_after new before.seat.ticket_full
+  pub entries : entries_so_far now ≡ entries_so_far past ++ entries_of before.seat.number new
+  pub sent : List ℕ
+  pub sent_is : now.sent ≡ past.sent ++ sent
+  pub written : after.written ≡ appended before.written sent
+  pub traced : after.traced
+      ≡ appended before.traced (own_lines plant before.seat.number (length before.seat.seen) new)
+
+-- A session went on from one past to another and was cut short there. The bytes that it has sent more were written, or a front
+-- of them, in which the answers of all entries but the last are; and so were the lines traced.
+pub record HasBrokenOff (plant : PlantData) (end : SessionEnd) (before after : Outside)
+    (past now : Progress) : Type 0 where
+  pub new : List PlantEntry
+  pub sees : SeesMore plant before.seat after.seat new
+  pub full : after.seat.ticket_full ≡ full_after end new before.seat.ticket_full
+  pub entries : entries_so_far now ≡ entries_so_far past ++ entries_of before.seat.number new
+  pub bytes : List ℕ
+  pub front : IsPrefix (past.sent ++ bytes) now.sent
+  pub answered : AnsweredButLast (entries_so_far now) (past.sent ++ bytes)
+  pub written : after.written ≡ appended before.written bytes
+  pub lines : List ℕ
+  pub traced : after.traced ≡ appended before.traced lines
+  pub traces : TracesAsEnded end
+      (own_lines plant before.seat.number (length before.seat.seen) new) lines
+
+-- In a past each entry but the last was answered in what was sent, and all are in the session's whole text.
+pub record KeepsAnswered (plant : PlantData) (past : Progress) : Type 0 where
+  pub sent : AnsweredButLast (entries_so_far past) past.sent
+  pub text : (text : List ℕ)
+      → IsText plant (items (read_so_far past)) (entries_so_far past) text
+      → All (IsAnsweredIn text) (entries_so_far past)
+
+-- A piece may be a turn of a session behind a past, whose seat is one of its plant's lock.
+pub record MayServeTurn (session : Session) (lock : LockData State) (seat : PlantSeat)
+    (piece : List ℕ) : Type 0 where
+  pub plant : PlantData
+  pub panel : ℕ
+  pub past : Progress
+  pub stands : StandsFor plant panel session past
+  pub begins : past.now ≡ unread
+  pub may : MayGoOn past piece
+  pub answered : KeepsAnswered plant past
+  pub is_plant : IsPlant plant
+  pub seat_of : seat.lock ≡ lock.id
+  pub first : seat.first ≡ start plant
+
+-- A turn is on its way behind a past: the session has gone on to this past, and this is left of the piece.
+pub record IsServing (plant : PlantData) (panel : ℕ) (past : Progress) (piece : List ℕ)
+    (session_now : Session) (before now_outside : Outside) (rest : List ℕ) : Type 0 where
+  pub now : Progress
+  pub gone : HasGoneOn plant before now_outside past now
+  pub stands : StandsFor plant panel session_now now
+  pub answered : KeepsAnswered plant now
+  pub turns : now.turns ≡ past.turns
+  pub piece_is : now.now.piece ++ rest ≡ piece
+  pub idle : now.now.polls ≢ [] → rest ≡ []
+
+-- A turn with this piece was worked behind a past: the session has gone on to the past with one turn more, in which all of its
+-- text was written.
+pub record HasServed (plant : PlantData) (panel : ℕ) (past : Progress) (piece : List ℕ)
+    (session_then : Session) (before after : Outside) : Type 0 where
+  pub turn : Turn
+  pub sent : List ℕ
+  pub piece_is : turn.piece ≡ piece
+  pub gone : HasGoneOn plant before after past (turned turn sent past)
+  pub stands : StandsFor plant panel session_then (turned turn sent past)
+  pub answered : KeepsAnswered plant (turned turn sent past)
+  pub text : CompletesText plant past turn sent
+
+-- A turn with this piece was cut short behind a past: the session went on to this past, and this is left of the piece.
+pub record WasStopped (plant : PlantData) (panel : ℕ) (end : SessionEnd) (past : Progress)
+    (piece : List ℕ) (session_then : Session) (before after : Outside) : Type 0 where
+  pub now : Progress
+  pub rest : List ℕ
+  pub broken : HasBrokenOff plant end before after past now
+  pub left : StandsOrAwaits plant panel session_then now
+  pub turns : now.turns ≡ past.turns
+  pub piece_is : now.now.piece ++ rest ≡ piece
+  pub idle : now.now.polls ≢ [] → rest ≡ []
+
+-- A read of a link gave this piece.
+pub record GavePiece (piece : List ℕ) (link link_then : LinkEnd) : Type 0 where
+  pub short : length piece ≤ read_room
+  pub told : link_then.read_half.reads
+      ≡ option_map (λ former. former ++ read_of piece ∷ []) link.read_half.reads
+  pub taken : AreTaken piece link.read_half.left link_then.read_half.left
+  pub faults : link_then.read_half.faults ≡ link.read_half.faults
+  pub idles : link_then.read_half.idles ≡ idles_after (piece ∷ []) link.read_half.idles
+  pub written : link_then.written ≡ link.written
+  pub write_faults : link_then.write_faults ≡ link.write_faults
+
+-- How a session ends at a read: the link has nothing left, or the read failed.
+abbrev pub EndsAtRead : SessionEnd → LinkEnd → LinkEnd → Type 0
+EndsAtRead Ended link link_then = IsAtEnd link.read_half.left × (link_then ≡ link)
+EndsAtRead ReadFault link link_then =
+    link_then ≡ record link {
+      read_half = record link.read_half { faults = one_more link.read_half.faults };
+    }
+EndsAtRead other link link_then = ⊥
+
+-- A session has worked these reads, each as a turn: it has gone on from nothing to a past of them, in which all of its text was
+-- written, and no call failed.
+pub record HasTurned (plant : PlantData) (panel : ℕ) (reads : List (List ℕ))
+    (session_now : Session) (seat seat_now : PlantSeat) (link link_now : LinkEnd)
+    (trace trace_now : TraceData) : Type 0 where
+  pub past : Progress
+  pub stands : StandsFor plant panel session_now past
+  pub begins : past.now ≡ unread
+  pub pieces : map (λ turn. turn.piece) past.turns ≡ reads
+  pub gone : HasGoneOn plant (outside seat link.written trace.written)
+      (outside seat_now link_now.written trace_now.written) nothing_yet past
+  pub text : IsText plant (items (bytes_of past.turns)) (entries_of_turns past.turns) past.sent
+  pub answered : KeepsAnswered plant past
+  pub short : All (λ read. length read ≤ read_room) reads
+  pub told : link_now.read_half.reads
+      ≡ option_map (λ former. former ++ map read_of reads) link.read_half.reads
+  pub taken : AreTaken (all_read reads) link.read_half.left link_now.read_half.left
+  pub read_count : link_now.read_half.faults ≡ link.read_half.faults
+  pub idle_count : link_now.read_half.idles ≡ idles_after reads link.read_half.idles
+  pub write_count : link_now.write_faults ≡ link.write_faults
+  pub trace_count : trace_now.faults ≡ trace.faults
