@@ -61,6 +61,7 @@ impl Entries {
         if self.is_full() {
             return Store::GroupFull;
         }
+        // kit: a function of the push alone gets no proof, as nothing in it names the `Option` that is in a change.
         self.entries.push_reserved(change);
         Store::Stored
     }
