@@ -1,2 +1,13 @@
 pub mod Tally
 pub mod TallyInside
+pub mod Marks
+pub mod MarksInside
+pub mod Left
+pub mod MarkLaws
+pub mod Losing
+pub mod Touched
+pub mod Lost
+pub mod Weight
+pub mod Relit
+pub mod Update
+pub mod Kept

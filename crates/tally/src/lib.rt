@@ -3,9 +3,18 @@
 //! memory is taken at the opening.
 #![tactic(auto)]
 
+mod doubt;
+mod kept_tally;
+mod laws;
+mod losing;
+mod marks;
+mod relight;
 mod roots;
 mod rounds;
+mod settle;
 mod tally;
 
+pub use kept_tally::KeptTally;
+pub use laws::{settled_marks_say_what_is_live, what_is_left_is_live};
 pub use roots::Roots;
 pub use tally::Tally;

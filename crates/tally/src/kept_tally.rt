@@ -1,0 +1,144 @@
+//! A tally that is kept up to date.
+
+ghost use Rattle.std.specs.Prelude.{◌≡◌, ◌<◌, ◌≤◌, ℕ, List, All, IfOk};
+ghost use Rattle.std.specs.FinMap.{empty};
+ghost use Rattle.plant_config.specs.Plant.{PlantData, sources_of};
+ghost use Rattle.plant_config.specs.IsPlant.{IsPlant, IsDest};
+ghost use Rattle.crosspoint_state.specs.Crosspoints as carried;
+ghost use Rattle.crosspoint_state.specs.Taps.{AreTapsOf};
+ghost use Rattle.mixer_effects.specs.Live.{is_live, is_seen};
+ghost use Rattle.mixer_effects.specs.Wiring.{IsWiringOf};
+ghost use Rattle.tally.specs.Tally.{roots_of};
+ghost use Rattle.tally.specs.Kept.{IsKeptFor, IsUpdate, AreFlipped};
+
+use crate::marks::Marks;
+use crate::roots::{Roots, set_of};
+use crate::settle::settle;
+use mixer_effects::Graph;
+use number_tables::{MAX_NUMBERS, NumberSet};
+use plant_config::{Change, DestId, Plant, SourceId};
+use std::alloc::{AllocError, Global};
+use std::marker::{Brand, Model};
+use std::sync::ledger::{Blank, Ledger};
+use tap_lists::Steps;
+
+/// Which destinations of a plant are live for some roots, and which sources are seen there. Each update looks at what moved and
+/// at what this reaches, and at nothing else.
+#[derive(Debug, Drop)]
+pub struct KeptTally {
+    /// What is live, and what is on by it.
+    marks: Marks,
+    /// The roots.
+    roots: NumberSet,
+    /// The devices that an update has still to go through.
+    waiting: NumberSet,
+    /// Those that are in doubt.
+    doubted: NumberSet,
+    /// The local sources that the last update turned on or off.
+    flipped: Vec<SourceId>,
+}
+
+impl Model for KeptTally {
+    ghost use Rattle.std.specs.Prelude.{vec_capacity};
+    ghost use Rattle.tally.specs.Kept.{Kept, kept_code};
+
+    ghost Value = { Kept };
+
+    ghost coded = { kept_code };
+
+    ghost view = { λ tally. record {
+      marks = tally.marks;
+      roots = tally.roots;
+      waiting = tally.waiting;
+      doubted = tally.doubted;
+      flipped = tally.flipped.items;
+      room = vec_capacity tally.flipped;
+    } };
+}
+
+impl KeptTally {
+    /// The tally for these roots of a plant of which all destinations are parked.
+    pub fn new(alloc: Global, plant: &Plant, roots: Roots) -> Result<KeptTally, AllocError>
+        requires { IsPlant plant.now }
+        ensures { IfOk result (IsKeptFor plant.now empty (roots_of plant.now roots)) }
+    {
+        let dests = roots.of(plant);
+        let marks = Marks::new(alloc, plant, dests)?;
+        let roots = set_of(alloc, dests)?;
+        let waiting = NumberSet::new(alloc)?;
+        let doubted = NumberSet::new(alloc)?;
+        let flipped = Vec::with_capacity(alloc, plant.source_count() as usize)?;
+        Ok(KeptTally {
+            marks,
+            roots,
+            waiting,
+            doubted,
+            flipped,
+        })
+    }
+
+    /// Follows changes that were made: at most what they name has moved since the tally was made or last updated.
+    pub fn update<L: Ledger>(
+        &mut self,
+        plant: &Plant,
+        graph: &Graph<'_>,
+        changes: &[Change],
+        steps: &mut Steps<L>,
+    )
+        requires wired { IsWiringOf plant.now graph.now.wiring }
+        requires tapped { AreTapsOf plant.now graph.now.crosspoints graph.now.taps }
+        requires dests { All (λ change. IsDest plant.now change.dest) changes.now }
+        requires before { (old : carried.Crosspoints) × ((roots : List ℕ) × IsUpdate plant.now
+            old graph.now.crosspoints roots changes.now self.old) }
+        ensures kept { (old : carried.Crosspoints) (roots : List ℕ)
+            → IsUpdate plant.now old graph.now.crosspoints roots changes.now self.old
+            → IsKeptFor plant.now graph.now.crosspoints roots self.new }
+        ensures flipped { (old : carried.Crosspoints) (roots : List ℕ)
+            → IsUpdate plant.now old graph.now.crosspoints roots changes.now self.old
+            → AreFlipped plant.now old graph.now.crosspoints roots self.new.flipped }
+    {
+        settle(
+            plant,
+            graph,
+            &self.roots,
+            changes,
+            &mut self.marks,
+            &mut self.waiting,
+            &mut self.doubted,
+            steps,
+        );
+        self.marks.take_turned(&mut self.flipped);
+    }
+
+    /// Whether a destination is live.
+    pub fn is_live(&self, dest: DestId) -> bool
+        ensures { (plant : PlantData) (points : carried.Crosspoints) (roots : List ℕ)
+            → IsKeptFor plant points roots self.now
+            → result ≡ is_live plant points roots dest }
+    {
+        let dest = dest.get();
+        if dest >= MAX_NUMBERS {
+            return false;
+        }
+        self.marks.is_live(dest)
+    }
+
+    /// Whether a source is seen at the roots.
+    pub fn on(&self, plant: &Plant, source: SourceId) -> bool
+        requires { source < sources_of plant.now }
+        ensures { (points : carried.Crosspoints) (roots : List ℕ)
+            → IsKeptFor plant.now points roots self.now
+            → result ≡ is_seen plant.now points roots source }
+    {
+        let origin = plant.origin(source);
+        self.marks.is_on::<Brand>(origin, Blank::new(1))
+    }
+
+    /// The local sources that are seen since the last update and weren't, or were seen and aren't, in the order of their
+    /// numbers.
+    pub fn flipped(&self) -> &[SourceId]
+        ensures { result.now ≡ self.now.flipped }
+    {
+        &self.flipped
+    }
+}
