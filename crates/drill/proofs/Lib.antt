@@ -1,4 +1,5 @@
 mod RoomLemmas
 mod StreamLemmas
+mod PieceLemmas
 mod CountLemmas
 mod Worked

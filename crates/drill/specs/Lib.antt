@@ -1,4 +1,5 @@
 pub mod Draws
 pub mod Messages
 pub mod Stream
+pub mod Pieces
 pub mod Laws

@@ -7,6 +7,8 @@ mod frames;
 mod laws;
 mod message;
 mod panel_bytes;
+mod pieces;
 
 pub use laws::{frames_are_counted, messages_ask_the_plant, streams_are_read};
 pub use panel_bytes::stream;
+pub use pieces::in_pieces;
