@@ -42,4 +42,3 @@ pub mod LampLemmas
 pub mod TraceLemmas
 pub mod TraceEntry
 pub mod TraceEnds
-pub mod ScreenLemmas

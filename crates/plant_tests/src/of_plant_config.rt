@@ -1,6 +1,6 @@
-//! The bench plant's copy, and the plant of a text.
+//! The bench plant's copy, the drill's plant, and the plant of a text.
 
-use plant_config::{DestId, Plant, PlantFault};
+use plant_config::{DestId, Plant, PlantFault, SourceId};
 use std::test::Fail;
 
 const TEXT: &[u8] = b"title = \"Studio\"
@@ -22,6 +22,16 @@ fn the_bench_is_copied(rt: HostRuntime) -> Result<(), Fail> {
     assert_eq!(rt; plant.source_count(), 32);
     assert_eq!(rt; plant.destination_count(), 32);
     assert_eq!(rt; plant.panels().len(), 2);
+    Ok(())
+}
+
+#[test]
+fn the_drill_has_remote_sources(rt: HostRuntime) -> Result<(), Fail> {
+    let plant = Plant::drill(rt.alloc(), 2)?;
+    let remote = SourceId::of(448);
+    assert_eq!(rt; plant.source(1, 0, 192), Some(remote));
+    assert_eq!(rt; plant.origin(remote), SourceId::of(0));
+    assert_eq!(rt; plant.screen(65_536), None);
     Ok(())
 }
 

@@ -1,13 +1,14 @@
 -- The number that digits spell.
-use Rattle.std.proofs.Common.{◌≡◌, ℕ, suc, ◌<◌, ◌⊎◌, inl, inr, true, false, List, ◌∷◌, [], length, All, refl, sym, ◌∙◌, ap, arith}
+use Rattle.std.proofs.Common.{◌≡◌, ℕ, suc, ◌<◌, ◌⊎◌, inl, inr, true, false, List, ◌∷◌, [], length, All, MatchOption, Option, Some, None, refl, sym, ◌∙◌, ap, subst, arith}
 use Rattle.std.specs.Str.Parse.{digits_value}
 use Rattle.std.proofs.lemmas.Bool.{cases_lt, true≢false}
 use Rattle.std.proofs.lemmas.List.Elements.{All-nil, All-cons, All-head, All-tail}
 use Rattle.plant_config.specs.Plant.{PlantData}
-use Rattle.plant_config.specs.Screens.{has_screen}
+use Rattle.plant_config.specs.Screens.{has_screen, screen_of}
+use Rattle.plant_config.proofs.ScreenLemmas.{screen_of-Some, screen_of-None}
 use Rattle.line_text.specs.Decimal.{IsDigit}
 use Rattle.record_replay.specs.Script.{NumberSpells}
-use Rattle.record_replay.specs.LineInside.{SpellsNoScreen}
+use Rattle.record_replay.specs.LineInside.{SpellsNoScreen, SpellsScreen}
 
 -- digits spell one number
 pub one_number : (digits others : List ℕ) (m n : ℕ) → digits ≡ others → NumberSpells digits m → NumberSpells others n → m ≡ n
@@ -75,3 +76,13 @@ screen_of_digits plant text = elim (number_or text) [
         absurd (true≢false (sym has ∙ ap (has_screen plant) (sym same) ∙ hasnt)))
   ] refl
 ]
+
+-- what is found of a number that a text spells is the screen that the text spells, or none is spelled
+pub screen_spelled : (plant : PlantData) (digits : List ℕ) (number : ℕ) (found : Option ℕ) → NumberSpells digits number → found ≡ screen_of plant number →
+    MatchOption found (SpellsNoScreen plant digits) (λ screen. SpellsScreen plant digits screen)
+screen_spelled plant digits number None spells is = λ other other_spells has.
+    let same = one_number digits digits number other refl spells other_spells in
+    true≢false (sym has ∙ ap (has_screen plant) (sym same) ∙ screen_of-None plant number is)
+screen_spelled plant digits number (Some screen) spells is =
+    let one = screen_of-Some plant number screen is in
+    (subst (NumberSpells digits) (sym one.0) spells, subst (λ n. has_screen plant n ≡ true) (sym one.0) one.1)

@@ -35,13 +35,7 @@ pub(crate) fn read_screen(plant: &Plant, digits: &[u8]) -> Option<u16>
         (λ screen. SpellsScreen plant.now digits.now screen) }
 {
     let number = read_number(digits)?;
-    // No display is on screen 65,535, so this number may stand for all that are greater.
-    let screen = number.min(65_535) as u16;
-    if plant.has_screen(screen) {
-        Some(screen)
-    } else {
-        None
-    }
+    plant.screen(u64::from(number))
 }
 
 // The number that digits spell, `None` where a text isn't one to five digits.

@@ -4,11 +4,11 @@ use Rattle.plant_config.specs.Plant.{PlantData}
 use Rattle.plant_config.specs.IsPlant.{IsPlant}
 use Rattle.plant_config.specs.Screens.{has_screen}
 use Rattle.panel_session.specs.TraceLine.{trace_limit}
-use Rattle.panel_session.proofs.ScreenLemmas.{screen_within}
+use Rattle.plant_config.proofs.ScreenLemmas.{screen_within_plant}
 
 -- A screen that a display of a plant is on is one that a trace may name.
 pub screen_small : (plant : PlantData) (screen : ℕ) → IsPlant plant → has_screen plant screen ≡ true → screen ≤ trace_limit
-screen_small plant screen is has = let within = screen_within plant plant.displays screen is.linked.displays.1 has in omega (arith, within)
+screen_small plant screen is has = let within = screen_within_plant plant screen is has in omega (arith, within)
 
 -- So is a panel of a plant.
 pub panel_small : (plant : PlantData) (panel : ℕ) → IsPlant plant → panel < length plant.panels → panel ≤ trace_limit

@@ -179,14 +179,7 @@ fn take_screen<'t>(plant: &Plant, text: &'t [u8]) -> Option<(u16, &'t [u8])>
 {
     // kit: what is true of every plant is learnt from a reader's clause alone, also where a line has no number.
     let _screens = plant.screens();
-    let Some((number, rest)) = take_number(text) else {
-        return None;
-    };
-    // No display is on screen 65,535, so this number may stand for all that are greater.
-    let screen = number.min(65_535) as u16;
-    if plant.has_screen(screen) {
-        Some((screen, rest))
-    } else {
-        None
-    }
+    let (number, rest) = take_number(text)?;
+    let screen = plant.screen(number)?;
+    Some((screen, rest))
 }

@@ -1,27 +1,30 @@
-use Rattle.std.proofs.Common.{◌≡◌, ℕ, true, ◌∙◌, sym, subst}
+use Rattle.std.proofs.Common.{◌≡◌, true, ◌∙◌, ap, sym, subst}
+use Rattle.std.proofs.lemmas.Bool.{true≢false}
 use Rattle.plant_config.specs.Screens.{has_screen}
+use Rattle.plant_config.proofs.ScreenLemmas.{screen_of-Some, screen_of-None}
 use Rattle.trace_audit.specs.LineInside.{BeginsWithNumber}
-use Rattle.panel_session.proofs.ScreenLemmas.{one_screen, no_screen}
 use Rattle.trace_audit.proofs.request.take_screen.Goals as goal
 
-pub returns-then-has_screen-clause-found : goal.returns-then-has_screen-clause-found
-returns-then-has_screen-clause-found c =
-    let has = sym c.has_screen.ensures.has ∙ c.if-has_screen.true in
-    let same = one_screen c.args.plant.now c.in-Some.number c.min-screen.result c.has_screen.ensures.plant c.min-screen.ensures has in
+pub returns-in_err-number-clause-only : goal.returns-in_err-number-clause-only
+returns-in_err-number-clause-only c = rw c.from_residual.ensures (λ screen behind begins. c.in_err-number.ensures.only screen behind begins.number)
+
+pub returns-in_err-screen-clause-only : goal.returns-in_err-screen-clause-only
+returns-in_err-screen-clause-only c =
+    rw c.from_residual-in_err-screen.ensures (λ screen behind begins.
+    let both = c.in_ok-number.ensures.only screen behind begins.number in
+    let none = screen_of-None c.args.plant.now c.in_ok-number.number c.in_err-screen.ensures.screen in
+    absurd (true≢false (sym begins.has_screen ∙ ap (has_screen c.args.plant.now) (sym both.0) ∙ none)))
+
+pub returns-clause-found : goal.returns-clause-found
+returns-clause-found c =
+    let one = screen_of-Some c.args.plant.now c.in_ok-number.number c.in_ok-screen.screen c.in_ok-screen.ensures.screen in
     record {
-      number = subst (λ n. BeginsWithNumber c.args.text.now n c.in-Some.rest.now) (sym same) c.in-Some.ensures.found;
-      has_screen = has;
+      number = subst (λ n. BeginsWithNumber c.args.text.now n c.in_ok-number.rest.now) (sym one.0) c.in_ok-number.ensures.found;
+      has_screen = subst (λ n. has_screen c.args.plant.now n ≡ true) (sym one.0) one.1;
     }
 
-pub returns-then-has_screen-clause-only : goal.returns-then-has_screen-clause-only
-returns-then-has_screen-clause-only c = λ screen behind begins.
-    let has = sym c.has_screen.ensures.has ∙ c.if-has_screen.true in
-    let same = one_screen c.args.plant.now c.in-Some.number c.min-screen.result c.has_screen.ensures.plant c.min-screen.ensures has in
-    let both = c.in-Some.ensures.only screen behind begins.number in
-    (same ∙ both.0, both.1)
-
-pub returns-else-has_screen-clause-only : goal.returns-else-has_screen-clause-only
-returns-else-has_screen-clause-only c = λ screen behind begins.
-    let both = c.in-Some.ensures.only screen behind begins.number in
-    no_screen c.args.plant.now c.in-Some.number c.min-screen.result c.has_screen.ensures.plant c.min-screen.ensures
-    (sym c.has_screen.ensures.has ∙ c.if-has_screen.false) (subst (λ n. has_screen c.args.plant.now n ≡ true) (sym both.0) begins.has_screen)
+pub returns-clause-only : goal.returns-clause-only
+returns-clause-only c = λ screen behind begins.
+    let one = screen_of-Some c.args.plant.now c.in_ok-number.number c.in_ok-screen.screen c.in_ok-screen.ensures.screen in
+    let both = c.in_ok-number.ensures.only screen behind begins.number in
+    (one.0 ∙ both.0, both.1)
