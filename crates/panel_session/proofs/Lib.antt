@@ -26,6 +26,7 @@ pub mod RoomLemmas
 pub mod NamePageLemmas
 pub mod LeftLemmas
 pub mod RunLemmas
+pub mod ServesLemmas
 pub mod TurnOnce
 pub mod ByteEnds
 pub mod AsksExist

@@ -12,6 +12,7 @@ pub mod Steps
 pub mod StepLeaves
 pub mod CountLemmas
 pub mod AnswerLemmas
+pub mod HistoryLemmas
 pub mod DumpLemmas
 pub mod OwnerLemmas
 pub mod ProtectLemmas

@@ -22,6 +22,7 @@ pub mod DisplaysInside
 pub mod Step
 pub mod AnswerInside
 pub mod Laws
+pub mod HistoryLaws
 pub mod ProtectLaws
 pub mod SalvoLaws
 pub mod NoticeLaws

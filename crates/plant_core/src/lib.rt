@@ -9,6 +9,7 @@ mod display;
 mod display_laws;
 mod dump;
 mod hear;
+mod history_laws;
 mod laws;
 mod machine;
 mod notice_laws;
@@ -27,6 +28,7 @@ pub use display_laws::{
     a_refresh_tells_all, only_changes_move_lamps, polls_are_quiet_where_nothing_differs,
     polls_tell_each_once, polls_tell_when_all_is_finished,
 };
+pub use history_laws::{answers_can_be_sent, histories_stay_valid};
 pub use laws::{
     answers_are_few, connects_are_made, connects_stand, dumps_tell_what_stands,
     numbers_have_no_effect, questions_only_ask, states_stay_valid,

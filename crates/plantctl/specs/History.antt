@@ -4,7 +4,7 @@ use Rattle.ctl_io.specs.Sink.{appended}
 use Rattle.plant_config.specs.Plant.{PlantData}
 use Rattle.record_replay.specs.Laws.{Action, history_of, IsHistory}
 use Rattle.record_replay.specs.Answered.{AnswersItsPiece}
-use Rattle.record_replay.specs.TiedReplay.{KeepsTiesValid}
+use Rattle.record_replay.specs.HistoryLaws.{KeepsTiesValid}
 use Rattle.plantctl.specs.World.{World}
 
 -- The lines that were appended show a history of the plant in which the script was worked, and there is no other: in each turn

@@ -14,6 +14,7 @@ use Rattle.plant_core.specs.State.{State, Fits, FitsPlant, start}
 use Rattle.plant_core.specs.Step.{step}
 use Rattle.plant_core.specs.declared.request.Request.{Request}
 use Rattle.plant_core.specs.declared.request.Request.TheVariants as requests
+use Rattle.plant_core.proofs.HistoryLemmas.{fits-run}
 use Rattle.panel_session.specs.Asked.{AllAsk}
 use Rattle.panel_session.specs.Entry.{PlantEntry}
 use Rattle.panel_session.specs.Run.{turned}
@@ -26,7 +27,7 @@ use Rattle.record_replay.specs.Streamed.{packets_by}
 use Rattle.record_replay.specs.PortInside.{packets_at}
 use Rattle.record_replay.specs.Answered.{AnswersItems, AnswersItsPiece}
 use Rattle.record_replay.specs.Laws.{Action, Turned, Left, Polled, work_of, line_of, entries_by, history_of, IsSeated, piece_in, sent_in, pieces_of, sent_of, session_in, AreSessions, IsHistory}
-use Rattle.record_replay.proofs.WorksLemmas.{fits-run, settled-begun, settled-step}
+use Rattle.record_replay.proofs.WorksLemmas.{settled-begun, settled-step}
 use Rattle.record_replay.proofs.WorkAnswers.{work_settled, work_answers}
 use Rattle.record_replay.proofs.IsReplayLemmas.{of_plant}
 use Rattle.record_replay.proofs.SessionsLemmas.{flat_map-push, session-append, session-own, session-other, session-leave, session-polled, swapped, stays-of_session, IsBy, IsPast, past-as, past-bytes, past-session, past-turn}

@@ -30,7 +30,6 @@ pub mod TurnLemmas
 pub mod ItemsFew
 pub mod NeedLemmas
 pub mod SmallLemmas
-pub mod ServesLemmas
 pub mod ReplayerLemmas
 pub mod WorkLineLemmas
 pub mod WorkScriptLemmas

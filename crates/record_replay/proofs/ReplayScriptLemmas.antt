@@ -21,7 +21,7 @@ use Rattle.record_replay.specs.ReplayerInside.{StandsAt, MayDo, DoesScript}
 use Rattle.record_replay.proofs.IsReplayLemmas.{of_plant}
 use Rattle.record_replay.proofs.ActionsInParts.{InParts, history_parts}
 use Rattle.record_replay.proofs.OutputLemmas.{AppendsPart-more}
-use Rattle.record_replay.proofs.TiedReplayLemmas.{keeps_ties_valid}
+use Rattle.plant_core.proofs.HistoryLemmas.{keeps_ties_valid}
 use Rattle.record_replay.proofs.WorksLemmas.{works_exist}
 
 -- A new replayer may do any script.

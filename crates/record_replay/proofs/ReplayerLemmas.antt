@@ -18,16 +18,17 @@ use Rattle.panel_session.specs.Session.{StandsFor}
 use Rattle.panel_session.specs.SettledInside.{Settled}
 use Rattle.panel_session.specs.SoFar.{Progress}
 use Rattle.panel_session.specs.Turns.{entries_in}
+use Rattle.plant_core.proofs.HistoryLemmas.{fits-run, run-valid}
 use Rattle.plant_core.proofs.StepValidity.{IsValid-step}
+use Rattle.panel_session.proofs.ServesLemmas.{serves}
 use Rattle.panel_session.proofs.TurnExists.{turn_exists}
 use Rattle.panel_session.proofs.TurnOnce.{one_turn_lem}
 use Rattle.record_replay.specs.declared.replayer.Replayer.{Replayer}
 use Rattle.record_replay.specs.Script.{Work, Read}
 use Rattle.record_replay.specs.Replay.{ReplayState, with_past, behind_turn, behind_step, turn_line, Advances}
 use Rattle.record_replay.specs.ReplayerInside.{StandsAt, MayDo, IsSmall, HasDone, need_of}
-use Rattle.record_replay.proofs.ServesLemmas.{serves}
 use Rattle.record_replay.proofs.SmallLemmas.{small_later, small_turned, may_go_on}
-use Rattle.record_replay.proofs.WorksLemmas.{fits-run, run-valid, settled-turn, settled-step}
+use Rattle.record_replay.proofs.WorksLemmas.{settled-turn, settled-step}
 
 -- Whatever holds of each session's past holds once one of them has another.
 with_one : (P : ℕ → Progress → Type 0) (panel : ℕ) (past : Progress) (pasts : ℕ → Progress) → P panel past → ((other : ℕ) → other ≢ panel → P other (pasts other)) → (other : ℕ) → P other (with_past panel past pasts other)

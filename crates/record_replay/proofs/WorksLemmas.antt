@@ -2,15 +2,13 @@
 use Rattle.std.proofs.Common.{◌≡◌, ℕ, ◌==◌, true, false, cond, List, [], ◌∷◌, ◌++◌, All, refl, sym, ◌∙◌, ap, subst}
 use Rattle.std.proofs.lemmas.Bool.{eqb-true}
 use Rattle.std.proofs.lemmas.List.Elements.{All-head, All-tail}
-use Rattle.history_lock.specs.History.{run}
 use Rattle.plant_config.specs.Plant.{PlantData}
-use Rattle.plant_core.specs.State.{State, Fits, FitsPlant, IsValid}
+use Rattle.plant_core.specs.State.{Fits}
 use Rattle.plant_core.specs.Step.{step}
 use Rattle.plant_core.specs.declared.request.Request.{Request}
 use Rattle.plant_core.specs.declared.request.Request.TheVariants as requests
-use Rattle.plant_core.proofs.StepValidity.{IsValid-step}
+use Rattle.plant_core.proofs.HistoryLemmas.{run-plant, fits-run}
 use Rattle.plant_core.proofs.StepLeaves.{plant-step}
-use Rattle.panel_session.specs.Entry.{PlantEntry}
 use Rattle.panel_session.specs.Run.{turned}
 use Rattle.panel_session.specs.SettledInside.{Settled}
 use Rattle.panel_session.specs.SoFar.{Progress}
@@ -20,22 +18,6 @@ use Rattle.panel_session.proofs.TurnExists.{settled_nothing, turn_exists}
 use Rattle.record_replay.specs.Script.{Work, Read, Leave, Show, IsOfPlant}
 use Rattle.record_replay.specs.Replay.{ReplayState, begun, with_past, behind_turn, behind_step, turn_line, leave_line, show_line, Advances, AllWork}
 use Rattle.record_replay.specs.StandInside.{IsSettled}
-
--- No history changes the plant.
-pub run-plant : (state : State) (history : List PlantEntry) → (run step state history).plant ≡ state.plant
-run-plant state [] = refl
-run-plant state (entry ∷ later) = run-plant (step state entry.request).state later ∙ plant-step state entry.request
-
--- Each history leaves a valid state valid.
-pub run-valid : (state : State) (history : List PlantEntry) → IsValid state → IsValid (run step state history)
-run-valid state [] valid = valid
-run-valid state (entry ∷ later) valid = run-valid (step state entry.request).state later (IsValid-step state entry.request valid)
-
--- What fits the plant fits behind any history.
-pub fits-run : (plant : PlantData) (state : State) (history : List PlantEntry) (request : Request) → state.plant ≡ plant → FitsPlant plant request → Fits (run step state history) request
-fits-run plant state history request is fits =
-    let FitsOf : PlantData → Type 0 = λ plant. FitsPlant plant request in
-    subst FitsOf (sym (run-plant state history ∙ is)) fits
 
 -- A replay begins with each session between two turns.
 pub settled-begun : (plant : PlantData) → IsSettled plant (begun plant)

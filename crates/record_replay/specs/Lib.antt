@@ -1,6 +1,7 @@
 pub use Rattle.ctl_io.specs.Faults
 pub use Rattle.ctl_io.specs.Sink
 pub use Rattle.plant_core.specs.State
+pub use Rattle.plant_core.specs.HistoryLaws
 pub use Rattle.plant_config.specs.Plant
 pub use Rattle.plant_config.specs.IsPlant
 pub use Rattle.plant_config.specs.Bench

@@ -1,19 +1,9 @@
 -- What a replay is: its text, the history that it shows, and the ties behind it.
-use Rattle.std.specs.Prelude.{◌≡◌, ℕ, List, ◌++◌, Option}
+use Rattle.std.specs.Prelude.{◌≡◌, ℕ, List, Option}
 use Rattle.ctl_io.specs.Sink.{appended, AppendsPart}
-use Rattle.history_lock.specs.History.{run}
 use Rattle.plant_config.specs.Plant.{PlantData}
-use Rattle.crosspoint_state.specs.Ties.{HaveValidTies}
-use Rattle.plant_core.specs.State.{start}
-use Rattle.plant_core.specs.Step.{step}
-use Rattle.panel_session.specs.Entry.{PlantEntry}
+use Rattle.plant_core.specs.HistoryLaws.{KeepsTiesValid}
 use Rattle.record_replay.specs.Laws.{Action, history_of, IsHistory}
-
--- Behind each front of a history, begun at the start of the plant, the ties of the crosspoints are valid: no tie carries two
--- sources.
-abbrev pub KeepsTiesValid : PlantData → List PlantEntry → Type 0
-KeepsTiesValid plant history = (front later : List PlantEntry) → history ≡ front ++ later
-    → HaveValidTies plant (run step (start plant) front).crosspoints
 
 -- At each place of the history behind a replay's text no tie carries two sources.
 abbrev pub NoTieCarriesTwoSources : PlantData → (script output : List ℕ) → Type 0

@@ -6,8 +6,8 @@ use Rattle.plant_core.specs.Answer.{room_of}
 use Rattle.plant_core.specs.State.{State, IsValid, FitsPlant, Fits}
 use Rattle.plant_core.specs.Step.{step}
 use Rattle.plant_core.proofs.AnswerLemmas.{All-sayable}
+use Rattle.plant_core.proofs.HistoryLemmas.{run-valid}
 use Rattle.panel_session.specs.Run.{Serves}
-use Rattle.record_replay.proofs.WorksLemmas.{run-valid}
 
 pub serves : (plant : PlantData) (state : State) → state.plant ≡ plant → IsValid state → Serves step Fits (λ (state : State). room_of state.plant) plant state
 serves plant state is valid = record {
