@@ -1,20 +1,19 @@
 -- What a lock answers to a session.
-use Rattle.std.proofs.Common.{◌≡◌, ℕ, ◌≤◌, List, [], ◌∷◌, ◌++◌, length, All, refl, sym, ap, ◌∙◌, subst, arith}
+use Rattle.std.proofs.Common.{◌≡◌, ℕ, ◌≤◌, List, ◌++◌, length, sym, ap, ◌∙◌, subst, arith}
 use Rattle.history_lock.specs.Calls.{AddsOwn, IsNumbered, OnlyCalled, SeesAnswers, asked_by}
-use Rattle.history_lock.specs.History.{run, IsLegal}
+use Rattle.history_lock.specs.History.{IsLegal}
 use Rattle.history_lock.specs.Locks.{LockData}
 use Rattle.history_lock.specs.Places.{Placed}
 use Rattle.plant_config.specs.IsPlant.{IsPlant}
 use Rattle.plant_config.specs.Plant.{PlantData}
-use Rattle.plant_core.specs.Answer.{IsSayable, room_of}
-use Rattle.plant_core.specs.State.{State, IsValid, start, Fits as Takes}
+use Rattle.plant_core.specs.Answer.{room_of}
+use Rattle.plant_core.specs.State.{State, start, Fits as Takes}
 use Rattle.plant_core.specs.Step.{step}
 use Rattle.plant_core.specs.declared.answer.Answer.{Answer}
 use Rattle.plant_core.specs.declared.request.Request.{Request}
-use Rattle.plant_core.proofs.AnswerLemmas.{All-sayable}
-use Rattle.plant_core.proofs.CountLemmas.{answer_count, answers_within, room_within}
-use Rattle.plant_core.proofs.StepLeaves.{plant-step}
-use Rattle.plant_core.proofs.StepValidity.{IsValid-step}
+use Rattle.plant_core.specs.HistoryLaws.{CanBeSent}
+use Rattle.plant_core.proofs.CountLemmas.{room_within}
+use Rattle.plant_core.proofs.HistoryLemmas.{last_sent}
 use Rattle.plant_core.proofs.Validity.{IsValid-start}
 use Rattle.panel_session.specs.declared.session.Session.{Session}
 use Rattle.panel_session.specs.declared.session.phase.Phase.{Phase}
@@ -30,57 +29,16 @@ use Rattle.panel_session.specs.TraceLine.{MayReply}
 use Rattle.panel_session.proofs.AnsweredLemmas.{says_answers}
 use Rattle.panel_session.proofs.SessionLemmas.{awaits_with}
 
--- a history leaves the plant, and a valid state valid
-run_plant : (state : State) (history : List PlantEntry) → (run step state history).plant ≡ state.plant
-run_plant state [] = refl
-run_plant state (entry ∷ later) = run_plant (step state entry.request).state later ∙ plant-step state entry.request
-
-run_valid : (state : State) (history : List PlantEntry) → IsValid state → IsValid (run step state history)
-run_valid state [] valid = valid
-run_valid state (entry ∷ later) valid = run_valid (step state entry.request).state later (IsValid-step state entry.request valid)
-
--- what is behind a front of a legal history is legal there
-legal_behind : (first : State) (front later : List PlantEntry) → IsLegal step Takes first (front ++ later) → IsLegal step Takes (run step first front) later
-legal_behind first [] later legal = legal
-legal_behind first (entry ∷ front) later legal = legal_behind (step first entry.request).state front later legal.2
-
--- These are the answers of a plant to a request, in some valid state.
-pub record IsAnswerOf (plant : PlantData) (request : Request) (answers : List Answer) : Type 0 where
-  pub state : State
-  pub valid : IsValid state
-  pub plant_is : state.plant ≡ plant
-  pub fits : Takes state request
-  pub answers_are : answers ≡ (step state request).answers
-
--- What a seat was answered is that.
+-- What a seat was answered can be sent,
 pub answer_of : (plant : PlantData) (seat seat_then : PlantSeat) (request : Request) (answers : List Answer) → IsPlant plant → IsLegal step Takes (start plant) seat_then.seen
-    → SeesAnswers seat request answers seat_then → IsAnswerOf plant request answers
+    → SeesAnswers seat request answers seat_then → CanBeSent plant (asked_by seat request answers)
 answer_of plant seat seat_then request answers is legal sees =
-    let front = seat.seen ++ sees.0 in
     let Legal : List PlantEntry → Type 0 = λ history. IsLegal step Takes (start plant) history in
-    let last = legal_behind (start plant) front (asked_by seat request answers ∷ []) (subst Legal sees.1 legal) in
-    record {
-      state = run step (start plant) front;
-      valid = run_valid (start plant) front (IsValid-start plant is);
-      plant_is = run_plant (start plant) front;
-      fits = last.0;
-      answers_are = last.1;
-    }
+    last_sent (start plant) (seat.seen ++ sees.0) (asked_by seat request answers) (IsValid-start plant is) (subst Legal sees.1 legal)
 
--- It can be said,
-pub answer_sayable : (plant : PlantData) (request : Request) (answers : List Answer) → IsAnswerOf plant request answers → All IsSayable answers
-answer_sayable plant request answers is =
-    let Sayable : List Answer → Type 0 = λ answers. All IsSayable answers in
-    subst Sayable (sym is.answers_are) (All-sayable is.state request is.valid is.fits)
-
--- and there is room for it.
-pub answer_within : (plant : PlantData) (request : Request) (answers : List Answer) → IsAnswerOf plant request answers → length answers ≤ room_of plant
-answer_within plant request answers is =
-    let within : length (step is.state request).answers ≤ room_of is.state.plant = answers_within is.state.plant request _ (answer_count is.state request is.fits) in
-    omega (arith, within, ap (length {A = Answer}) is.answers_are, ap room_of is.plant_is)
-
-pub answer_few : (plant : PlantData) (request : Request) (answers : List Answer) → IsPlant plant → IsAnswerOf plant request answers → length answers ≤ most_answers
-answer_few plant request answers is_plant is = omega (arith, answer_within plant request answers is, room_within plant is_plant)
+-- and is few.
+pub answer_few : (plant : PlantData) (entry : PlantEntry) → IsPlant plant → CanBeSent plant entry → length entry.answers ≤ most_answers
+answer_few plant entry is sent = omega (arith, sent.within, room_within plant is)
 
 -- a session asks nothing of a screen
 reply_at : (phase : Phase) (kept : Kept) (request : Request) (plant : PlantData) (answers : List Answer) → AsksAt phase kept request → MayReply plant request answers
@@ -115,7 +73,7 @@ lock_gave plant panel session past request box number session_then seat seat_the
     let Legal : State → Type 0 = λ first. IsLegal step Takes first seat_then.seen in
     let legal_there : Legal (start may.plant) = subst Legal may.first legal in
     let Few : PlantData → Type 0 = λ plant. length answers ≤ room_of plant in
-    let few : Few plant = subst Few same (answer_within may.plant request answers (answer_of may.plant seat seat_then request answers may.is_plant legal_there sees)) in
+    let few : Few plant = subst Few same (answer_of may.plant seat seat_then request answers may.is_plant legal_there sees).within in
     let Taken : Session → Type 0 = λ before. TakesAnswers before request (outbox_of before).items session_then in
     let waits = awaits_with plant panel session past request box awaits places in
     record {

@@ -1,5 +1,6 @@
 use Rattle.std.proofs.Common.{ℕ, ◌<◌, All, sym, ap, ◌∙◌, refl, subst}
 use Rattle.ctl_io.specs.Sink.{appended, AppendsPart}
+use Rattle.history_lock.specs.Calls.{asked_by}
 use Rattle.history_lock.specs.History.{IsLegal}
 use Rattle.history_lock.specs.Places.{Placed}
 use Rattle.plant_config.specs.Plant.{PlantData}
@@ -10,7 +11,7 @@ use Rattle.panel_session.specs.declared.session.Session.{Session}
 use Rattle.panel_session.specs.CallsLeft.{calls_left, IsNearer}
 use Rattle.panel_session.specs.Session.{outbox_of, plant_of, with_outbox}
 use Rattle.panel_session.specs.TraceLine.{trace_line}
-use Rattle.panel_session.proofs.CalledLemmas.{answer_few, answer_of, answer_sayable, awaits_plant, lock_gave, may_reply}
+use Rattle.panel_session.proofs.CalledLemmas.{answer_few, answer_of, awaits_plant, lock_gave, may_reply}
 use Rattle.panel_session.proofs.LeftLemmas.{left-box}
 use Rattle.panel_session.proofs.SessionLemmas.{awaits_with}
 use Rattle.panel_session.proofs.serve.ask_lock.Goals as goal
@@ -19,14 +20,13 @@ pub trace_asked-traced-requires-clause-sayable : goal.trace_asked-traced-require
 trace_asked-traced-requires-clause-sayable g c κs within =
     let may = c.requires.may in
     let Legal : State → Type 0 = λ first. IsLegal step Takes first c.call.new.seat.seen in
-    answer_sayable may.plant c.args.request.now c.call.new.out.items
-    (answer_of may.plant c.args.seat.now c.call.new.seat c.args.request.now c.call.new.out.items may.is_plant (subst Legal may.first c.in-Ok.ensures.legal) c.in-Ok.ensures.seen)
+    (answer_of may.plant c.args.seat.now c.call.new.seat c.args.request.now c.call.new.out.items may.is_plant (subst Legal may.first c.in-Ok.ensures.legal) c.in-Ok.ensures.seen).sayable
 
 pub trace_asked-traced-requires-clause-few : goal.trace_asked-traced-requires-clause-few
 trace_asked-traced-requires-clause-few g c κs within =
     let may = c.requires.may in
     let Legal : State → Type 0 = λ first. IsLegal step Takes first c.call.new.seat.seen in
-    answer_few may.plant c.args.request.now c.call.new.out.items may.is_plant
+    answer_few may.plant (asked_by c.args.seat.now c.args.request.now c.call.new.out.items) may.is_plant
     (answer_of may.plant c.args.seat.now c.call.new.seat c.args.request.now c.call.new.out.items may.is_plant (subst Legal may.first c.in-Ok.ensures.legal) c.in-Ok.ensures.seen)
 
 pub trace_asked-traced-requires-clause-reply : goal.trace_asked-traced-requires-clause-reply
@@ -40,8 +40,7 @@ answered-requires g c =
     let Legal : State → Type 0 = λ first. IsLegal step Takes first c.call.new.seat.seen in
     let Sayable : Session → Type 0 = λ session. All IsSayable (outbox_of session).items in
     subst Sayable (sym c.trace_asked-traced.ensures.same)
-    (answer_sayable may.plant c.args.request.now c.call.new.out.items
-    (answer_of may.plant c.args.seat.now c.call.new.seat c.args.request.now c.call.new.out.items may.is_plant (subst Legal may.first c.in-Ok.ensures.legal) c.in-Ok.ensures.seen))
+    (answer_of may.plant c.args.seat.now c.call.new.seat c.args.request.now c.call.new.out.items may.is_plant (subst Legal may.first c.in-Ok.ensures.legal) c.in-Ok.ensures.seen).sayable
 
 pub returns-then-traced-clause-asked : goal.returns-then-traced-clause-asked
 returns-then-traced-clause-asked g c = λ plant panel past awaits.
