@@ -22,3 +22,4 @@ pub mod LightLemmas
 pub mod DrainLemmas
 pub mod KeptLemmas
 pub mod StartLemmas
+pub mod BoundLemmas

@@ -46,12 +46,17 @@ module _ (plant : PlantData) (is : IsPlant plant) (fed new waiting more : Origin
   light_fed = record {
     more = λ other has. feeds other ∙ or_left (contains fed other) (nat_eq device other) has;
     below = λ other has. by other (or_cases (other == number) (contains waiting other) (sym (waits other) ∙ has));
+    within = λ other has. there other (or_cases (contains fed other) (nat_eq device other) (sym (feeds other) ∙ has));
     work = λ w. omega (arith, fed_weighs w, more_weighs w);
   }
     where
       by : (other : ℕ) → ((other == number) ≡ true) ⊎ (contains waiting other ≡ true) → (contains waiting other ≡ true) ⊎ (other < length plant.devices)
       by other (inl here) = let it : other ≡ device = eqb-true other number here ∙ same in inr (omega (arith, it, now.below))
       by other (inr was) = inl was
+
+      there : (other : ℕ) → (contains fed other ≡ true) ⊎ (nat_eq device other ≡ true) → (contains fed other ≡ true) ⊎ (other < length plant.devices)
+      there other (inl was) = inl was
+      there other (inr here) = let it : device ≡ other = eqb-true device other here in inr (omega (arith, it, now.below))
 
   pub light_news : WaitOnceFed fed new waiting more
   light_news = record {

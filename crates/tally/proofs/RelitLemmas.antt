@@ -31,6 +31,7 @@ pub fed_same : (plant : PlantData) (fed waiting : Origins) → AreFedMore plant 
 fed_same plant fed waiting = record {
   more = λ device has. has;
   below = λ device has. inl has;
+  within = λ device has. inl has;
   work = λ weight. omega arith;
 }
 
@@ -38,12 +39,17 @@ pub fed_then : (plant : PlantData) (a b c u v w : Origins) → AreFedMore plant 
 fed_then plant a b c u v w one two = record {
   more = λ device has. two.more device (one.more device has);
   below = λ device has. by device (two.below device has);
+  within = λ device has. there device (two.within device has);
   work = λ weight. omega (arith, one.work weight, two.work weight);
 }
   where
     by : (device : ℕ) → (contains v device ≡ true) ⊎ (device < length plant.devices) → (contains u device ≡ true) ⊎ (device < length plant.devices)
     by device (inl was) = one.below device was
     by device (inr below) = inr below
+
+    there : (device : ℕ) → (contains b device ≡ true) ⊎ (device < length plant.devices) → (contains a device ≡ true) ⊎ (device < length plant.devices)
+    there device (inl was) = one.within device was
+    there device (inr below) = inr below
 
 module _ (plant : PlantData) (points : Crosspoints) (set : Origins) where
   pub relit_none : (marks : Marks) (waiting : Origins) → AreRelit plant points set [] marks marks waiting waiting
@@ -179,6 +185,7 @@ module _ (plant : PlantData) (points : Crosspoints) (set : Origins) where
     fed_popped fed = record {
       more = λ device is. is;
       below = λ device left. inl (others device left);
+      within = λ device was. inl was;
       work = λ weight. omega (arith, weigh_removed weight waiting v below has);
     }
 

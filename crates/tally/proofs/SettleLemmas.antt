@@ -64,7 +64,7 @@ named_touched plant (change ∷ changes) dest d named with =
 itself : (plant : PlantData) (dest : ℕ) → Contains (with_switched plant dest) dest
 itself plant dest = (0, omega arith, refl)
 
-none_has : (device : ℕ) → contains {R = nat_cmp} empty device ≡ true → ⊥
+pub none_has : (device : ℕ) → contains {R = nat_cmp} empty device ≡ true → ⊥
 none_has device has = both_ways (contains {R = nat_cmp} empty device) (contains-empty nat_cmp device) has
 
 -- what stands carries what it did
@@ -227,7 +227,7 @@ first_devices plant dests old a b idle one sure are none lost device waits = by 
 
 -- the whole update: until all in doubt is dark, and then until all that is live is marked
 module _ (plant : PlantData) (is : IsPlant plant) (old new : Crosspoints) (roots : List ℕ) (set : Origins) (changes : List Change) (a b c : Marks) (idle sure one two all : Origins) (move : IsMove plant old new roots set changes a) (no_wait : idle ≡ empty) (no_doubt : sure ≡ empty) (lost : AreLost plant (touched_by plant changes) a b idle one sure) (spread : HasSpread plant set b c one two all) (gone : two ≡ empty) where
-  through : AreLosing plant old roots (touched_by plant changes) c empty all
+  pub through : AreLosing plant old roots (touched_by plant changes) c empty all
   through =
       let touched = touched_by plant changes in
       let begun : AreLosing plant old roots touched a idle sure =

@@ -11,3 +11,4 @@ pub mod Weight
 pub mod Relit
 pub mod Update
 pub mod Kept
+pub mod Doubt

@@ -56,6 +56,8 @@ pub record AreFedMore (plant : PlantData) (fed new_fed waiting new_waiting : Ori
   pub more : (device : ℕ) → contains fed device ≡ true → contains new_fed device ≡ true
   pub below : (device : ℕ) → contains new_waiting device ≡ true
       → (contains waiting device ≡ true) ⊎ (device < length plant.devices)
+  pub within : (device : ℕ) → contains new_fed device ≡ true
+      → (contains fed device ≡ true) ⊎ (device < length plant.devices)
   pub work : (weight : ℕ → ℕ)
       → weigh weight (contains new_waiting) + weigh weight (contains fed)
       ≤ weigh weight (contains waiting) + weigh weight (contains new_fed)

@@ -1,6 +1,6 @@
 //! A tally that is kept up to date.
 
-ghost use Rattle.std.specs.Prelude.{◌≡◌, ◌<◌, ◌≤◌, ℕ, List, All, IfOk};
+ghost use Rattle.std.specs.Prelude.{◌≡◌, ◌+◌, ◌<◌, ◌≤◌, ℕ, List, All, IfOk};
 ghost use Rattle.std.specs.FinMap.{empty};
 ghost use Rattle.plant_config.specs.Plant.{PlantData, sources_of};
 ghost use Rattle.plant_config.specs.IsPlant.{IsPlant, IsDest};
@@ -9,6 +9,7 @@ ghost use Rattle.crosspoint_state.specs.Taps.{AreTapsOf};
 ghost use Rattle.mixer_effects.specs.Live.{is_live, is_seen};
 ghost use Rattle.mixer_effects.specs.Wiring.{IsWiringOf};
 ghost use Rattle.tally.specs.Tally.{roots_of};
+ghost use Rattle.tally.specs.Doubt.{read_bound};
 ghost use Rattle.tally.specs.Kept.{IsKeptFor, IsUpdate, AreFlipped};
 
 use crate::marks::Marks;
@@ -40,6 +41,7 @@ pub struct KeptTally {
 
 impl Model for KeptTally {
     ghost use Rattle.std.specs.Prelude.{vec_capacity};
+    ghost use Rattle.tally.specs.Doubt.{read_bound};
     ghost use Rattle.tally.specs.Kept.{Kept, kept_code};
 
     ghost Value = { Kept };
@@ -96,6 +98,10 @@ impl KeptTally {
         ensures flipped { (old : carried.Crosspoints) (roots : List ℕ)
             → IsUpdate plant.now old graph.now.crosspoints roots changes.now self.old
             → AreFlipped plant.now old graph.now.crosspoints roots self.new.flipped }
+        ensures counted { (old : carried.Crosspoints) (roots : List ℕ)
+            → IsUpdate plant.now old graph.now.crosspoints roots changes.now self.old
+            → steps.new ≤ steps.old
+            + read_bound plant.now old graph.now.crosspoints roots changes.now }
     {
         settle(
             plant,

@@ -9,6 +9,7 @@ ghost use Rattle.mixer_effects.specs.Wiring.{IsWiringOf};
 ghost use Rattle.tally.specs.MarksInside.{StayTurned};
 ghost use Rattle.tally.specs.MarkLaws.{AreSettled};
 ghost use Rattle.tally.specs.Update.{IsMove};
+ghost use Rattle.tally.specs.Doubt.{read_bound};
 
 use crate::doubt::spread_doubt;
 use crate::losing::lose_touched;
@@ -43,6 +44,10 @@ pub(crate) fn settle<L: Ledger>(
         → IsMove plant.now old graph.now.crosspoints list roots.now changes.now marks.old
         → AreSettled plant.now graph.now.crosspoints list marks.new }
     ensures turned { StayTurned marks.old marks.new }
+    ensures counted { (old : carried.Crosspoints) (list : List ℕ)
+        → IsMove plant.now old graph.now.crosspoints list roots.now changes.now marks.old
+        → steps.new ≤ steps.old
+        + read_bound plant.now old graph.now.crosspoints list changes.now }
     ensures idle { waiting.new ≡ empty }
     ensures sure { doubted.new ≡ empty }
 {

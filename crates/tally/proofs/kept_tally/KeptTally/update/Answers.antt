@@ -39,3 +39,8 @@ returns-clause-flipped g c = λ old roots stood.
     let settled = c.settle.ensures.settled old roots (record { rooted = update.before.rooted; settled = update.before.settled; moved = update.moved }) in
     let turned = c.settle.ensures.turned (is_lit c.self.inside.marks.lit) (turned_none c.self.inside.marks update.before.still) in
     flipped_are c.args.plant.now old c.args.graph.now.crosspoints roots c.self.inside.marks c.settle.new.marks c.take_turned.new.flipped.items update.before.settled settled turned c.take_turned.ensures.members
+
+pub returns-clause-counted : goal.returns-clause-counted
+returns-clause-counted g c = λ old roots stood.
+    let update = rw (← c.self.view_is) at stood in
+    c.settle.ensures.counted old roots (record { rooted = update.before.rooted; settled = update.before.settled; moved = update.moved })
