@@ -1,5 +1,5 @@
 -- What an update goes through is affected.
-use Rattle.std.proofs.Common.{◌≡◌, ◌⊎◌, ℕ, ◌+◌, ◌*◌, ◌<◌, ◌≤◌, ◌==◌, Bool, true, false, not, ◌&&◌, ◌||◌, List, [], ◌++◌, length, slice_get, Option, Some, None, get_or, inl, inr, refl, sym, ap, subst, ◌∙◌, arith, eqb-true}
+use Rattle.std.proofs.Common.{◌≡◌, ◌⊎◌, ℕ, ◌+◌, ◌*◌, ◌<◌, ◌≤◌, ◌==◌, Bool, true, false, not, ◌&&◌, ◌||◌, List, [], length, slice_get, Option, Some, None, get_or, inl, inr, refl, sym, ap, subst, ◌∙◌, arith, eqb-true}
 use Rattle.std.proofs.lemmas.Bool.{or_cases, or_left, or_right, and_parts, and_from, both_ways}
 use Rattle.std.proofs.lemmas.Option.{slice_get-get_or}
 use Rattle.std.proofs.lemmas.Map.Keys.{any_passes_from_place}
@@ -13,17 +13,17 @@ use Rattle.plant_config.specs.Plant.{PlantData}
 use Rattle.plant_config.specs.IsPlant.{IsPlant}
 use Rattle.crosspoint_state.specs.Crosspoints.{Crosspoints}
 use Rattle.crosspoint_state.specs.Taps.{origin_at}
-use Rattle.mixer_effects.specs.Buses.{is_bus_on, bus_at, fed_device, buses_at}
+use Rattle.mixer_effects.specs.Buses.{is_bus_on, fed_device, buses_at}
 use Rattle.mixer_effects.specs.Live.{is_fed_by, live, is_live, is_origin_seen}
 use Rattle.mixer_effects.specs.Laws.{LiveIsLeast}
 use Rattle.mixer_effects.proofs.LiveLemmas.{live_is_least}
 use Rattle.mixer_effects.proofs.AnyLemmas.{any_place}
 use Rattle.tally.specs.Tally.{Origins}
 use Rattle.tally.specs.TallyInside.{seen_origins, feeds, is_root, is_fed_bus}
-use Rattle.tally.specs.Marks.{Marks, is_lit}
+use Rattle.tally.specs.Marks.{Marks}
 use Rattle.tally.specs.MarkLaws.{AreSettled}
-use Rattle.tally.specs.Losing.{feeder_of, WentDark}
-use Rattle.tally.specs.Lost.{WaitsFor, AreLost, HasSpread, FeedsAmong, HaveMarkedBehind, no_roots}
+use Rattle.tally.specs.Losing.{feeder_of}
+use Rattle.tally.specs.Lost.{WaitsFor, AreLost, HasSpread, FeedsAmong, HaveMarkedBehind}
 use Rattle.tally.specs.Relit.{AreRelit}
 use Rattle.tally.specs.Touched.{touched_by}
 use Rattle.tally.specs.Update.{IsMove}

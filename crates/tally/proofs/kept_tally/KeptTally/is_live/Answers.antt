@@ -1,4 +1,4 @@
-use Rattle.std.proofs.Common.{◌≡◌, ℕ, ◌≤◌, sym, ap, ◌∙◌, arith}
+use Rattle.std.proofs.Common.{◌≤◌, ap, ◌∙◌, arith}
 use Rattle.std.specs.FinSet.{contains}
 use Rattle.tally.specs.Kept.{Kept}
 use Rattle.tally.proofs.KeptLemmas.{kept_live, never_live}
