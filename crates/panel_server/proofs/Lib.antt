@@ -1,0 +1,6 @@
+pub mod AnswerLemmas
+pub mod SeatLemmas
+pub mod SendLemmas
+pub mod PollLemmas
+pub mod BeginLemmas
+pub mod DriveLemmas

@@ -1,0 +1,187 @@
+//! One poll of a screen.
+
+ghost use Rattle.std.specs.Prelude.{◌≡◌, ℕ, ◌≤◌, All, Bool, length, not, vec_capacity};
+ghost use Rattle.std.specs.Prelude.{IfErr, IfOk, OnErr};
+ghost use Rattle.std.specs.Bool.{OnFalse, OnTrue};
+ghost use Rattle.ctl_io.specs.Faults.{count_after};
+ghost use Rattle.ctl_io.specs.Sink.{appended, AppendsPart};
+ghost use Rattle.ctl_net.specs.Net.{TakesAll};
+ghost use Rattle.plant_config.specs.IsPlant.{IsPlant};
+ghost use Rattle.plant_core.specs.Answer.{IsSayable};
+ghost use Rattle.plant_core.specs.Displays.{lamp_limit};
+ghost use Rattle.plant_core.specs.State.{FitsPlant};
+ghost use Rattle.plant_core.specs.declared.request.Request.{Request};
+ghost use Rattle.plant_core.specs.declared.request.Request.TheVariants.{DisplayPoll};
+ghost use Rattle.panel_session.specs.DisplayPacket.{AreLamps, longest_packet};
+ghost use Rattle.panel_session.specs.MostAnswers.{most_answers};
+ghost use Rattle.panel_session.specs.TraceLine.{longest_trace_line, trace_limit, trace_line};
+ghost use Rattle.panel_session.specs.TraceLine.{MayReply, MayTrace};
+ghost use Rattle.panel_server.specs.Driven.{ends_by_trace};
+ghost use Rattle.panel_server.specs.DrivenInside.{EndsPolling, HasPolled, HasRoomFor};
+ghost use Rattle.panel_server.specs.DrivenInside.{TellsLamps, outside, polled_by};
+ghost use Rattle.panel_server.specs.Seats.{IsSeatOf};
+
+use crate::displays::DriverEnd;
+use crate::poll_room::PollRoom;
+use ctl_io::{Sink, write_all};
+use ctl_net::{DisplayPort, Sent};
+use history_lock::{HistoryLock, Seat};
+use panel_session::{TraceLines, display_packet};
+use plant_config::Plant;
+use plant_core::{Answer, PlantState, Request};
+use std::sync::Wait;
+
+// What a poll was answered.
+#[derive(Clone, Copy, PartialEq, Eq)]
+pub(crate) enum Polled {
+    // Nothing.
+    Quiet,
+    // Lamps, and the send of their packet was answered so.
+    Lit(Sent),
+    // All is finished.
+    Last,
+}
+
+impl Polled {
+    ghost use Rattle.panel_server.specs.DrivenInside.{lost_by, sent_by, was_last};
+
+    // How many packets it sent.
+    pub(crate) fn sent(self) -> u64
+        ensures sent { result ≡ sent_by self }
+        ensures few { result ≤ 1 }
+    {
+        match self {
+            Polled::Lit(Sent::Done) => 1,
+            Polled::Lit(Sent::Failed) | Polled::Quiet | Polled::Last => 0,
+        }
+    }
+
+    // How many packets it lost.
+    pub(crate) fn lost(self) -> u64
+        ensures lost { result ≡ lost_by self }
+        ensures few { result ≤ 1 }
+    {
+        match self {
+            Polled::Lit(Sent::Failed) => 1,
+            Polled::Lit(Sent::Done) | Polled::Quiet | Polled::Last => 0,
+        }
+    }
+
+    // Whether all is finished.
+    pub(crate) fn is_last(self) -> bool
+        ensures { result ≡ was_last self }
+    {
+        matches!(self, Polled::Last)
+    }
+}
+
+// Polls a screen: it asks the lock, traces the entry, and then sends the packet of its lamps, if it has some. The error is how
+// the worker ends.
+pub(crate) fn poll_screen<W: Wait, P: DisplayPort, K: Sink>(
+    rt: &W,
+    plant: &Plant,
+    lock: &HistoryLock<PlantState>,
+    seat: &mut Seat<PlantState>,
+    port: &mut P,
+    trace: &mut K,
+    room: &mut PollRoom,
+    screen: u16,
+    refresh: bool,
+) -> Result<Polled, DriverEnd>
+    requires plant { IsPlant plant.now }
+    requires seat { IsSeatOf plant.now lock.now seat.old }
+    requires takes { TakesAll P.takes }
+    requires fits { FitsPlant plant.now (DisplayPoll screen refresh) }
+    requires room { HasRoomFor plant.now room.old }
+    ensures polled { IfOk result (λ polled.
+        HasPolled P.was_sent P.faults plant.now (DisplayPoll screen refresh) polled
+        (outside seat.old port.old (K.written trace.old) (K.faults trace.old))
+        (outside seat.new port.new (K.written trace.new) (K.faults trace.new))) }
+    ensures ends { IfErr result (λ end. EndsPolling end plant.now (DisplayPoll screen refresh)
+        seat.old seat.new (K.written trace.old) (K.written trace.new)) }
+    ensures unsent { OnErr result (port.new ≡ port.old) }
+    ensures cause { IfErr result (λ end.
+        K.faults trace.new ≡ count_after (ends_by_trace end) (K.faults trace.old)) }
+    ensures room { HasRoomFor plant.now room.new }
+{
+    let PollRoom {
+        answers,
+        lines,
+        line,
+        packet,
+    } = room;
+    let request = Request::DisplayPoll { screen, refresh };
+    answers.clear();
+    let Ok(position) = lock.call(rt, seat, &request, answers) else {
+        return Err(DriverEnd::Full);
+    };
+    if !trace_poll(
+        plant,
+        position,
+        &request,
+        answers.items(),
+        lines,
+        line,
+        trace,
+    ) {
+        return Err(DriverEnd::TraceFault);
+    }
+    Ok(tell(plant, screen, answers.items(), packet, port))
+}
+
+// Writes the line of a poll's entry. False where that failed.
+fn trace_poll<K: Sink>(
+    plant: &Plant,
+    position: u64,
+    request: &Request,
+    answers: &[Answer],
+    lines: &mut TraceLines,
+    line: &mut Vec<u8>,
+    trace: &mut K,
+) -> bool
+    requires position { position ≤ trace_limit }
+    requires request { MayTrace request.now }
+    requires sayable { All IsSayable answers.now }
+    requires few { length answers.now ≤ most_answers }
+    requires reply { MayReply plant.now request.now answers.now }
+    requires room { longest_trace_line ≤ vec_capacity line.old }
+    ensures all { OnTrue result (K.written trace.new ≡ appended (K.written trace.old)
+        (trace_line plant.now position request.now answers.now)) }
+    ensures part { OnFalse result (AppendsPart
+        (trace_line plant.now position request.now answers.now)
+        (K.written trace.old) (K.written trace.new)) }
+    ensures count { K.faults trace.new ≡ count_after (not result) (K.faults trace.old) }
+    ensures room { vec_capacity line.new ≡ vec_capacity line.old }
+{
+    line.clear();
+    lines.append(plant, position, request, answers, line);
+    write_all(trace, line)
+}
+
+// Sends the packet of the lamps that a poll was answered with, if these are such.
+fn tell<P: DisplayPort>(
+    plant: &Plant,
+    screen: u16,
+    answers: &[Answer],
+    packet: &mut Vec<u8>,
+    port: &mut P,
+) -> Polled
+    requires lamps { AreLamps plant.now answers.now }
+    requires few { length answers.now ≤ lamp_limit }
+    requires takes { TakesAll P.takes }
+    requires room { longest_packet ≤ vec_capacity packet.old }
+    ensures told { (seat : ℕ) (refresh : Bool)
+        → TellsLamps P.was_sent P.faults plant.now (polled_by seat screen refresh answers.now)
+        result port.old port.new }
+    ensures room { vec_capacity packet.new ≡ vec_capacity packet.old }
+{
+    match answers {
+        [] => Polled::Quiet,
+        [Answer::Finished, ..] => Polled::Last,
+        [_, ..] => {
+            packet.clear();
+            display_packet(plant, screen, answers, packet);
+            Polled::Lit(port.send(packet))
+        }
+    }
+}
