@@ -26,11 +26,9 @@ fn the_bench_is_copied(rt: HostRuntime) -> Result<(), Fail> {
 }
 
 #[test]
-fn the_drill_has_remote_sources(rt: HostRuntime) -> Result<(), Fail> {
+fn the_drill_has_two_matrices(rt: HostRuntime) -> Result<(), Fail> {
     let plant = Plant::drill(rt.alloc(), 2)?;
-    let remote = SourceId::of(448);
-    assert_eq!(rt; plant.source(1, 0, 192), Some(remote));
-    assert_eq!(rt; plant.origin(remote), SourceId::of(0));
+    assert_eq!(rt; plant.source(1, 0, 192), Some(SourceId::of(448)));
     assert_eq!(rt; plant.screen(65_536), None);
     Ok(())
 }
