@@ -5,7 +5,7 @@ use Rattle.std.specs.List.{list_any, Any}
 use Rattle.std.specs.Option.{option_map, option_map_or, option_eq}
 use Rattle.std.specs.FinMap as finite
 use Rattle.std.proofs.lemmas.Bool.{cases_eq, eqb-true, eq-eqb, ne_eqb, both_ways, and_parts, or_parts}
-use Rattle.std.proofs.lemmas.List.{get_or_default}
+use Rattle.std.proofs.lemmas.List.{get_or_default, get_or-map, length-map}
 use Rattle.std.proofs.lemmas.List.Elements.{All-nil, All-cons, All-map, All-filter}
 use Rattle.std.proofs.lemmas.List.Folds.{list_all_at, list_any_at, Any-from_list_any}
 use Rattle.plant_config.specs.declared.records.Change.{Change}
@@ -18,6 +18,7 @@ use Rattle.std.proofs.lemmas.Map.Keys.{IsDistinct-cons}
 use Rattle.crosspoint_state.proofs.ChangeLists.{names, find-unnamed, NamesOnce-nil}
 use Rattle.crosspoint_state.proofs.AppliedLemmas.{gone, get-released, get-all_given, is_busy}
 use Rattle.crosspoint_state.proofs.LawLemmas.{ChangesAreMade-applied}
+use Rattle.tally.specs.Update.{MovedOnly}
 use Rattle.protects.specs.Owners.{Owners, allows, IsForeign}
 use Rattle.plant_core.specs.Connects.{are_permitted}
 use Rattle.plant_core.specs.Salvos.{moved}
@@ -209,3 +210,13 @@ is_moved plant crosspoints changes d once h same =
 pub moved-within : (changes : List Change) (crosspoints : Crosspoints) (P : ℕ → Type 0) → All (λ change. P change.dest) changes → All P (moved crosspoints changes)
 moved-within changes crosspoints P all =
     All-map P (λ (change : Change). change.dest) (filter (λ (change : Change). not (is_idle crosspoints change)) changes) (All-filter _ (λ (change : Change). P change.dest) changes all)
+
+-- only what changes name is moved by them
+pub moved-applied : (plant : PlantData) (old new : Crosspoints) (changes : List Change) → new ≡ applied plant old changes → MovedOnly old new changes
+moved-applied plant old new changes made dest unnamed =
+    ap (λ points. finite.get points dest) made
+    ∙ get-applied_other plant old changes dest
+    (λ k change below same. unnamed (k, omega (arith, below, length-map changes dest_of), get_or-map dest_of changes k change dest below ∙ same))
+  where
+    dest_of : Change → ℕ
+    dest_of change = change.dest

@@ -12,7 +12,6 @@ use Rattle.std.proofs.lemmas.Map.Keys.{IsDistinct-head, IsDistinct-tail}
 use Rattle.plant_config.specs.Plant.{PlantData}
 use Rattle.plant_config.specs.IsPlant.{IsPlant}
 use Rattle.crosspoint_state.specs.Crosspoints.{Crosspoints}
-use Rattle.tally.specs.Tally.{CarrySources}
 use Rattle.change_boards.specs.declared.value.Value.{Value}
 use Rattle.change_boards.specs.Board.{Board}
 use Rattle.change_boards.specs.Shown.{Shown, is_same, differs, with_shown}
@@ -20,6 +19,7 @@ use Rattle.plant_core.specs.declared.answer.Answer.{Answer}
 use Rattle.plant_core.specs.declared.answer.Answer.TheVariants.{Lamp}
 use Rattle.plant_core.specs.State.{AreCrosspoints}
 use Rattle.plant_core.specs.Displays.{differing_of, shown_all, lamps_of}
+use Rattle.plant_core.specs.DisplaysInside.{CarrySources}
 use Rattle.plant_core.proofs.Validity.{IsCrosspoint-below}
 
 -- each destination that isn't parked carries a source of the plant

@@ -2,6 +2,7 @@
 use Rattle.std.specs.Prelude.{◌≡◌, ℕ, List}
 use Rattle.crosspoint_state.specs.Table.{Table}
 use Rattle.plant_config.specs.Plant.{PlantData, destinations_of}
+use Rattle.plant_config.specs.declared.records.Change.{Change}
 use Rattle.crosspoint_state.specs.Crosspoints.{Crosspoints}
 use Rattle.crosspoint_state.specs.Taps.{Points, ArePointsOf}
 use Rattle.tie_pools.specs.Counts.{AreCountsOf}
@@ -10,8 +11,10 @@ use Rattle.change_boards.specs.Board.{Board}
 use Rattle.change_boards.specs.Screens.{AreScreensOf}
 use Rattle.change_boards.specs.Shown.{Shown}
 use Rattle.mixer_effects.specs.Wiring.{IsWiringOf}
-use Rattle.tally.specs.Tally.{IsTallyOf}
+use Rattle.tally.specs.Update.{MovedOnly}
+use Rattle.tally.specs.Kept.{IsKeptFor}
 use Rattle.plant_core.specs.declared.tables.Tables.{Tables}
+use Rattle.plant_core.specs.declared.tallies.Tallies.{Tallies}
 use Rattle.plant_core.specs.State.{State, IsValid}
 
 -- the state that its parts stand for
@@ -25,13 +28,26 @@ state_of plant points owners groups boards shown = record {
   shown = shown;
 }
 
+-- Tallies are those of a plant and its crosspoints: one is kept for its air roots, and one for its preview roots.
+pub record AreTalliesOf (plant : PlantData) (crosspoints : Crosspoints) (tallies : Tallies)
+    : Type 0 where
+  pub air : IsKeptFor plant crosspoints plant.air tallies.air
+  pub preview : IsKeptFor plant crosspoints plant.preview tallies.preview
+
+-- Tallies were those of what stood, and since then only what changes name has moved.
+pub record WereTallies (plant : PlantData) (crosspoints : Crosspoints) (changes : List Change)
+    (tallies : Tallies) : Type 0 where
+  pub old : Crosspoints
+  pub before : AreTalliesOf plant old tallies
+  pub moved : MovedOnly old crosspoints changes
+
 -- Tables are those of a plant and its crosspoints: the counts of its ties, the tables of its mixers, its tallies, and the
 -- displays of its screens.
 pub record AreTablesOf (plant : PlantData) (crosspoints : Crosspoints) (tables : Tables)
     : Type 0 where
   pub counted : AreCountsOf plant crosspoints tables.ties
   pub wired : IsWiringOf plant tables.mixers
-  pub tallied : IsTallyOf plant crosspoints tables.tally
+  pub tallied : AreTalliesOf plant crosspoints tables.tallies
   pub screened : AreScreensOf plant tables.screens
 
 -- There is room for what each destination of a plant carries, with its tap lists, and for who protects it.

@@ -5,22 +5,23 @@ ghost use Rattle.std.specs.Prelude.{[], ◌∷◌, ◌++◌, length};
 ghost use Rattle.std.specs.List.{IsDistinct, list_any, range_with_len};
 ghost use Rattle.plant_config.specs.Screens.{has_screen};
 ghost use Rattle.change_boards.specs.Shown.{differs as is_news, with_shown};
-ghost use Rattle.tally.specs.Tally.{IsTallyOf, CarrySources};
 ghost use Rattle.plant_core.specs.declared.answer.Answer.TheVariants.{Lamp};
 ghost use Rattle.plant_core.specs.State.{IsValid};
+ghost use Rattle.plant_core.specs.StateInside.{AreTalliesOf};
 ghost use Rattle.plant_core.specs.Displays.{lamp_limit, display_value, differs};
 ghost use Rattle.plant_core.specs.Displays.{value_in, shown_all, lamps_of};
 ghost use Rattle.plant_core.specs.Displays.{refreshed, is_finished, display_polled};
-ghost use Rattle.plant_core.specs.DisplaysInside.{first_differing, AreBelow, lit_first};
+ghost use Rattle.plant_core.specs.DisplaysInside.{CarrySources, first_differing, AreBelow};
+ghost use Rattle.plant_core.specs.DisplaysInside.{lit_first};
 ghost use Rattle.plant_core.specs.Answer.{room_of};
 
 use crate::answer::{Answer, put};
 use crate::state::PlantState;
+use crate::tallies::Tallies;
 use change_boards::{Shown, Value};
 use crosspoint_state::Crosspoints;
 use history_lock::OutBox;
 use plant_config::{DestId, DisplayId, Plant};
-use tally::{Roots, Tally};
 
 // The most lamps that a display poll is answered with.
 const LAMP_LIMIT: usize = 64;
@@ -30,22 +31,22 @@ const LAMP_LIMIT: usize = 64;
 struct Picture<'a> {
     plant: &'a Plant,
     points: &'a Crosspoints,
-    tally: &'a Tally,
+    tallies: &'a Tallies,
 }
 
 impl Picture<'_> {
     // The value of a destination: the source there, and whether that is on air and on preview.
     fn value_at(&self, dest: DestId) -> Value
-        requires found { IsTallyOf self.now.plant.now self.now.points.now.entries
-            self.now.tally.now }
+        requires found { AreTalliesOf self.now.plant.now self.now.points.now.entries
+            self.now.tallies.now }
         requires carried { CarrySources self.now.plant.now self.now.points.now.entries }
         ensures { result ≡ display_value self.now.plant.now self.now.points.now.entries dest }
     {
         match self.points.source_at(dest) {
             Some(source) => Value {
                 source: Some(source),
-                air: self.tally.is_seen(self.plant, Roots::Air, source),
-                preview: self.tally.is_seen(self.plant, Roots::Preview, source),
+                air: self.tallies.air.on(self.plant, source),
+                preview: self.tallies.preview.on(self.plant, source),
             },
             None => Value {
                 source: None,
@@ -57,8 +58,8 @@ impl Picture<'_> {
 
     // The value of a display: that of the destination that it watches.
     fn value_of(&self, display: DisplayId) -> Value
-        requires found { IsTallyOf self.now.plant.now self.now.points.now.entries
-            self.now.tally.now }
+        requires found { AreTalliesOf self.now.plant.now self.now.points.now.entries
+            self.now.tallies.now }
         requires carried { CarrySources self.now.plant.now self.now.points.now.entries }
         requires below { display < length self.now.plant.now.displays }
         ensures { result ≡ value_in self.now.plant.now self.now.points.now.entries display }
@@ -69,8 +70,8 @@ impl Picture<'_> {
 
     // Shows a display its value where it differs, and answers a lamp for it.
     fn show(&self, display: DisplayId, shown: &mut Shown, out: &mut OutBox<Answer>)
-        requires found { IsTallyOf self.now.plant.now self.now.points.now.entries
-            self.now.tally.now }
+        requires found { AreTalliesOf self.now.plant.now self.now.points.now.entries
+            self.now.tallies.now }
         requires carried { CarrySources self.now.plant.now self.now.points.now.entries }
         requires below { display < length self.now.plant.now.displays }
         requires count { length shown.old ≡ length self.now.plant.now.displays }
@@ -93,8 +94,8 @@ impl Picture<'_> {
 
     // Shows displays that differ their values, the first 64 of these, and answers a lamp for each.
     fn show_first(&self, displays: &[DisplayId], shown: &mut Shown, out: &mut OutBox<Answer>)
-        requires found { IsTallyOf self.now.plant.now self.now.points.now.entries
-            self.now.tally.now }
+        requires found { AreTalliesOf self.now.plant.now self.now.points.now.entries
+            self.now.tallies.now }
         requires carried { CarrySources self.now.plant.now self.now.points.now.entries }
         requires below { AreBelow (length self.now.plant.now.displays) displays.now }
         requires once { IsDistinct nat_eq displays.now }
@@ -171,7 +172,7 @@ impl PlantState {
         let picture = Picture {
             plant: &self.plant,
             points: &self.crosspoints,
-            tally: &self.tables.tally,
+            tallies: &self.tables.tallies,
         };
         picture.show_first(self.tables.screens.displays(screen), &mut self.shown, out);
     }
@@ -204,7 +205,7 @@ impl PlantState {
         let picture = Picture {
             plant: &self.plant,
             points: &self.crosspoints,
-            tally: &self.tables.tally,
+            tallies: &self.tables.tallies,
         };
         self.shown.differs(display, picture.value_of(display))
     }

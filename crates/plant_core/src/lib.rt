@@ -22,6 +22,7 @@ mod salvo;
 mod salvo_laws;
 mod state;
 mod tables;
+mod tallies;
 
 pub use answer::Answer;
 pub use display_laws::{

@@ -22,7 +22,6 @@ use crate::tables::Tables;
 use change_boards::{Notices, Shown};
 use crosspoint_state::Crosspoints;
 use history_lock::OutBox;
-use mixer_effects::Graph;
 use plant_config::{DestId, PanelNo, Plant, SourceId, TieNo};
 use protects::Protects;
 use salvo_groups::Groups;
@@ -129,8 +128,7 @@ impl PlantState {
             (roots_of self.now.plant roots) dest }
         ensures valid { IsValid self.now }
     {
-        let graph = Graph::new(&self.tables.mixers, &self.crosspoints);
-        self.tables.tally.is_live(&self.plant, &graph, roots, dest)
+        self.tables.tallies.at(roots).is_live(dest)
     }
 
     /// The device that protects a destination, 0 to 1023, `None` where it is unprotected.

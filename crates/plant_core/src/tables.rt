@@ -10,12 +10,12 @@ ghost use Rattle.crosspoint_state.specs.Applied.{applied, are_enough};
 ghost use Rattle.plant_core.specs.State.{AreCrosspoints, IsChangeOf};
 ghost use Rattle.plant_core.specs.StateInside.{AreTablesOf};
 
+use crate::tallies::Tallies;
 use change_boards::Screens;
 use crosspoint_state::Crosspoints;
 use mixer_effects::{Graph, Mixers};
 use plant_config::{Change, Plant};
 use std::alloc::{AllocError, Global};
-use tally::Tally;
 use tie_pools::{Planned, Ties};
 
 /// The tables of a plant and its crosspoints.
@@ -23,28 +23,29 @@ use tie_pools::{Planned, Ties};
 pub(crate) struct Tables {
     pub(crate) ties: Ties,
     pub(crate) mixers: Mixers,
-    pub(crate) tally: Tally,
+    pub(crate) tallies: Tallies,
     pub(crate) screens: Screens,
 }
 
 impl Tables {
     // The tables of a plant of which all destinations are parked.
     pub(crate) fn new(alloc: Global, plant: &Plant) -> Result<Tables, AllocError>
+        requires { IsPlant plant.now }
         ensures { IfOk result (AreTablesOf plant.now empty) }
     {
         let ties = Ties::new(alloc, plant)?;
         let mixers = Mixers::new(alloc, plant)?;
-        let tally = Tally::new(alloc, plant)?;
         let screens = Screens::new(alloc, plant)?;
+        let tallies = Tallies::new(alloc, plant)?;
         Ok(Tables {
             ties,
             mixers,
-            tally,
+            tallies,
             screens,
         })
     }
 
-    // Makes changes for which the ties are enough, and finds the tally anew.
+    // Makes changes for which the ties are enough, and follows them in the tallies.
     #[inline(always)]
     pub(crate) fn make(
         &mut self,
@@ -67,6 +68,6 @@ impl Tables {
     {
         self.ties.commit(plant, points, planned, changes);
         let graph = Graph::new(&self.mixers, points);
-        self.tally.find(plant, &graph);
+        self.tallies.follow(plant, &graph, changes);
     }
 }

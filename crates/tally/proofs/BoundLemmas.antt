@@ -1,5 +1,5 @@
 -- What an update goes through is affected.
-use Rattle.std.proofs.Common.{◌≡◌, ◌⊎◌, ℕ, ◌+◌, ◌*◌, ◌<◌, ◌≤◌, ◌==◌, Bool, true, false, not, ◌&&◌, ◌||◌, List, [], length, slice_get, Option, Some, None, get_or, inl, inr, refl, sym, ap, subst, ◌∙◌, arith, eqb-true}
+use Rattle.std.proofs.Common.{◌≡◌, ◌⊎◌, ℕ, ◌+◌, ◌*◌, ◌<◌, ◌≤◌, ◌==◌, Bool, true, false, not, ◌&&◌, ◌||◌, List, [], length, slice_get, Option, Some, None, get_or, inl, inr, refl, sym, ap, subst, ◌∙◌, arith, eqb-true, eq-eqb}
 use Rattle.std.proofs.lemmas.Bool.{or_cases, or_left, or_right, and_parts, and_from, both_ways}
 use Rattle.std.proofs.lemmas.Option.{slice_get-get_or}
 use Rattle.std.proofs.lemmas.Map.Keys.{any_passes_from_place}
@@ -13,13 +13,12 @@ use Rattle.plant_config.specs.Plant.{PlantData}
 use Rattle.plant_config.specs.IsPlant.{IsPlant}
 use Rattle.crosspoint_state.specs.Crosspoints.{Crosspoints}
 use Rattle.crosspoint_state.specs.Taps.{origin_at}
-use Rattle.mixer_effects.specs.Buses.{is_bus_on, fed_device, buses_at}
+use Rattle.mixer_effects.specs.Buses.{is_bus_on, bus_at, fed_device, buses_at}
 use Rattle.mixer_effects.specs.Live.{is_fed_by, live, is_live, is_origin_seen}
-use Rattle.mixer_effects.specs.Laws.{LiveIsLeast}
+use Rattle.mixer_effects.specs.Laws.{AreClosed, LiveIsLeast}
 use Rattle.mixer_effects.proofs.LiveLemmas.{live_is_least}
 use Rattle.mixer_effects.proofs.AnyLemmas.{any_place}
-use Rattle.tally.specs.Tally.{Origins}
-use Rattle.tally.specs.TallyInside.{seen_origins, feeds, is_root, is_fed_bus}
+use Rattle.tally.specs.Tally.{Origins, is_root}
 use Rattle.tally.specs.Marks.{Marks}
 use Rattle.tally.specs.MarkLaws.{AreSettled}
 use Rattle.tally.specs.Losing.{feeder_of}
@@ -31,7 +30,8 @@ use Rattle.tally.specs.Doubt.{lost_by, is_doubtful, is_device_on, is_affected}
 use Rattle.tally.specs.Weight.{weigh, device_weight}
 use Rattle.tally.proofs.DeviceLemmas.{fed_is, fed_found}
 use Rattle.tally.proofs.LitLemmas.{lit_under}
-use Rattle.tally.proofs.LiveLemmas.{bus_found, live_is}
+use Rattle.tally.proofs.LiveLemmas.{bus_found}
+use Rattle.tally.proofs.Searches.{any_stands}
 use Rattle.tally.proofs.ListLemmas.{was_kept, is_kept, bus_among}
 use Rattle.tally.proofs.FedLemmas.{output_there, feeds_marked, is_fed}
 use Rattle.tally.proofs.KeptLemmas.{marks_say}
@@ -53,10 +53,15 @@ feeder_feeds plant old device dest = by (origin_at plant old dest) refl
 -- a bus that is live and no root is on
 on_live : (plant : PlantData) → IsPlant plant → (old : Crosspoints) (roots : List ℕ) (place : ℕ) (bus : Bus) → slice_get plant.buses place ≡ Some bus → is_live plant old roots bus.dest ≡ true → is_root roots bus.dest ≡ false → is_bus_on plant old bus ≡ true
 on_live plant is old roots place bus at lived no_root =
-    let seen = seen_origins plant old roots in
-    let fed : is_fed_bus plant old seen bus.dest ≡ true = ap (λ b. b || is_fed_bus plant old seen bus.dest) (sym no_root) ∙ live_is plant old roots is (live_is_least plant old roots) bus.dest ∙ lived in
-    (and_parts (is_bus_on plant old bus) (feeds plant seen bus.device)
-    (ap (λ (found : Option Bus). option_map_or (λ (bus : Bus). is_bus_on plant old bus && feeds plant seen bus.device) found false) (sym (bus_found plant place bus is at)) ∙ fed)).0
+    let is_on : ℕ → Bool = λ dest. option_map_or (is_bus_on plant old) (bus_at plant dest) false in
+    let may_live : ℕ → Bool = λ dest. is_root roots dest || is_on dest in
+    let are_closed : AreClosed plant old roots may_live = record {
+      has_roots = λ spot root here. or_left (is_root roots root) (is_on root) (any_stands (λ other. other == root) roots spot root here (eq-eqb root root refl));
+      has_buses = λ spot dest other here on among fed. or_right (is_root roots other.dest) (is_on other.dest) (ap (λ found. option_map_or (is_bus_on plant old) found false) (bus_found plant spot other is here) ∙ on);
+    } in
+    sym (ap (λ found. option_map_or (is_bus_on plant old) found false) (bus_found plant place bus is at))
+    ∙ ap (λ b. b || is_on bus.dest) (sym no_root)
+    ∙ (live_is_least plant old roots).least may_live are_closed bus.dest lived
 
 module _ (plant : PlantData) (is : IsPlant plant) (old new : Crosspoints) (roots : List ℕ) (set : Origins) (changes : List Change) (a b c : Marks) (idle sure one two all : Origins) (move : IsMove plant old new roots set changes a) (no_wait : idle ≡ empty) (no_doubt : sure ≡ empty) (lost : AreLost plant (touched_by plant changes) a b idle one sure) (spread : HasSpread plant set b c one two all) (gone : two ≡ empty) where
   abbrev among : ℕ → Bool

@@ -9,7 +9,7 @@ use Rattle.crosspoint_state.specs.Crosspoints.{Crosspoints}
 use Rattle.mixer_effects.specs.Live.{is_live, is_origin_seen}
 use Rattle.mixer_effects.proofs.LiveLemmas.{live_is_least}
 use Rattle.tally.specs.Tally.{Origins}
-use Rattle.tally.specs.Marks.{Marks, is_lit, differs, AreTurned}
+use Rattle.tally.specs.Marks.{Marks, is_lit, are_unlike, AreTurned}
 use Rattle.tally.specs.MarkLaws.{AreSettled, SayWhatIsLive}
 use Rattle.tally.specs.Kept.{Kept, IsKeptFor, AreFlipped, AreMembers}
 use Rattle.tally.proofs.LitLemmas.{under_below}
@@ -38,7 +38,7 @@ kept_seen plant points roots kept origin is = (marks_say plant points roots kept
 pub turned_none : (marks : Marks) → marks.turned ≡ empty → AreTurned (is_lit marks.lit) marks
 turned_none marks none origin = ap (λ (set : Origins). contains set origin) none ∙ contains-empty nat_cmp origin ∙ by (is_lit marks.lit origin)
   where
-    by : (b : Bool) → false ≡ differs b b
+    by : (b : Bool) → false ≡ are_unlike b b
     by true = refl
     by false = refl
 
@@ -48,7 +48,7 @@ lit_below lists origin lit =
     let member = lit_member (list_of lists origin) lit in
     under_below lists origin member.0 member.1
 
-one_of : (a b : Bool) → differs a b ≡ true → (a ≡ true) ⊎ (b ≡ true)
+one_of : (a b : Bool) → are_unlike a b ≡ true → (a ≡ true) ⊎ (b ≡ true)
 one_of true b differ = inl refl
 one_of false b differ = inr differ
 
@@ -78,11 +78,11 @@ same_settled plant points roots m n live lit fed settled =
       buses = settled.buses;
     })))
 
-differ_apart : (a b : Bool) → differs a b ≡ true → a ≢ b
+differ_apart : (a b : Bool) → are_unlike a b ≡ true → a ≢ b
 differ_apart true b differ same = both_ways (not b) (ap not (sym same)) differ
 differ_apart false b differ same = both_ways b (sym same) differ
 
-apart_differ : (a b : Bool) → a ≢ b → differs a b ≡ true
+apart_differ : (a b : Bool) → a ≢ b → are_unlike a b ≡ true
 apart_differ true true apart = absurd (apart refl)
 apart_differ true false apart = refl
 apart_differ false true apart = refl
@@ -97,8 +97,8 @@ flipped_are plant old new roots first marks list before after turned members = r
   once = members.once;
 }
   where
-    same : (origin : ℕ) → differs (is_origin_seen plant old roots origin) (is_origin_seen plant new roots origin) ≡ contains marks.turned origin
+    same : (origin : ℕ) → are_unlike (is_origin_seen plant old roots origin) (is_origin_seen plant new roots origin) ≡ contains marks.turned origin
     same origin =
-        ap (λ a. differs a (is_origin_seen plant new roots origin)) (sym ((marks_say plant old roots first before).seen origin))
-        ∙ ap (differs (is_lit first.lit origin)) (sym ((marks_say plant new roots marks after).seen origin))
+        ap (λ a. are_unlike a (is_origin_seen plant new roots origin)) (sym ((marks_say plant old roots first before).seen origin))
+        ∙ ap (are_unlike (is_lit first.lit origin)) (sym ((marks_say plant new roots marks after).seen origin))
         ∙ sym (turned origin)

@@ -12,15 +12,15 @@ use Rattle.mixer_effects.specs.Buses.{is_bus_on, output_of}
 use Rattle.mixer_effects.specs.Live.{is_fed_by, is_live}
 use Rattle.mixer_effects.specs.Laws.{AreClosed, LiveIsLeast}
 use Rattle.mixer_effects.proofs.AnyLemmas.{any_place}
-use Rattle.tally.specs.TallyInside.{is_root}
-use Rattle.tally.specs.Left.{AreLeft, LeftAreLive}
+use Rattle.tally.specs.Tally.{is_root}
+use Rattle.tally.specs.Left.{AreLeftOver, LeftAreLive}
 
 -- what stands where nothing moved is fed as it was
 same_fed : (plant : PlantData) (old new : Crosspoints) (device dest : ℕ) → get new dest ≡ get old dest → is_fed_by plant new device dest ≡ is_fed_by plant old device dest
 same_fed plant old new device dest same =
     ap (λ spot. option_map_or (λ output. option_eq nat_eq (option_and_then (origin_of plant) (option_map (λ (spot : Spot). spot.source) spot)) (Some output)) (output_of plant device) false) same
 
-module _ (plant : PlantData) (old new : Crosspoints) (roots : List ℕ) (is_left : ℕ → Bool) (before : LiveIsLeast plant old roots) (after : LiveIsLeast plant new roots) (are : AreLeft plant old new roots is_left) where
+module _ (plant : PlantData) (old new : Crosspoints) (roots : List ℕ) (is_left : ℕ → Bool) (before : LiveIsLeast plant old roots) (after : LiveIsLeast plant new roots) (are : AreLeftOver plant old new roots is_left) where
   -- what was live, and is live where it is left
   abbrev stays : ℕ → Bool
   stays dest = is_live plant old roots dest && (not (is_left dest) || is_live plant new roots dest)

@@ -1,8 +1,5 @@
 pub mod Searches
-pub mod SetLemmas
-pub mod RoundLemmas
 pub mod LiveLemmas
-pub mod CarryLemmas
 pub mod LeftLemmas
 pub mod MarkLemmas
 pub mod CarriedLemmas

@@ -10,7 +10,7 @@ use Rattle.number_tables.proofs.Members.{contains_inserted, contains_removed}
 use Rattle.tap_lists.specs.Lists.{Lists, list_of, IsUnder, IsHeadOf, StandOnce}
 use Rattle.tap_lists.specs.Laws.{PutsFirst, TakesOut}
 use Rattle.tally.specs.Tally.{Origins}
-use Rattle.tally.specs.Marks.{is_lit, differs}
+use Rattle.tally.specs.Marks.{is_lit, are_unlike}
 use Rattle.tally.specs.MarksInside.{Toggles, Turns}
 
 -- a head under which something stands is one of the heads
@@ -60,7 +60,7 @@ lit_unlinked old new origin dest other once under takes apart =
     ap (λ (list : List ℕ). nat_lt 0 (length list)) (takes.others other (λ there. apart (once.one_head other origin dest there under)))
 
 -- a toggle of what was lit or went dark
-same_or_turned : (c b : Bool) → c ≡ differs c (differs b b)
+same_or_turned : (c b : Bool) → c ≡ are_unlike c (are_unlike b b)
 same_or_turned true true = refl
 same_or_turned true false = refl
 same_or_turned false true = refl
@@ -69,37 +69,37 @@ same_or_turned false false = refl
 pub turns_same : (old new : Lists) (set : Origins) → ((origin : ℕ) → is_lit new origin ≡ is_lit old origin) → Turns old new set set
 turns_same old new set same origin =
     same_or_turned (contains set origin) (is_lit old origin)
-    ∙ ap (λ b. differs (contains set origin) (differs (is_lit old origin) b)) (sym (same origin))
+    ∙ ap (λ b. are_unlike (contains set origin) (are_unlike (is_lit old origin) b)) (sym (same origin))
 
 pub turns_toggled : (old new : Lists) (before after : Origins) (origin : ℕ) → Toggles before after origin → is_lit new origin ≡ not (is_lit old origin) → ((other : ℕ) → other ≢ origin → is_lit new other ≡ is_lit old other) → Turns old new before after
 turns_toggled old new before after origin toggles turned others other = by (cases_eq other origin)
   where
-    here : (c b : Bool) → differs true c ≡ differs c (differs b (not b))
+    here : (c b : Bool) → are_unlike true c ≡ are_unlike c (are_unlike b (not b))
     here true true = refl
     here true false = refl
     here false true = refl
     here false false = refl
 
-    by : (other ≡ origin) ⊎ (other ≢ origin) → contains after other ≡ differs (contains before other) (differs (is_lit old other) (is_lit new other))
+    by : (other ≡ origin) ⊎ (other ≢ origin) → contains after other ≡ are_unlike (contains before other) (are_unlike (is_lit old other) (is_lit new other))
     by (inl same) =
         toggles other
-        ∙ ap (λ b. differs b (contains before other)) (eq-eqb other origin same)
+        ∙ ap (λ b. are_unlike b (contains before other)) (eq-eqb other origin same)
         ∙ here (contains before other) (is_lit old other)
-        ∙ ap (λ b. differs (contains before other) (differs (is_lit old other) b)) (sym (subst (λ o. is_lit new o ≡ not (is_lit old o)) (sym same) turned))
+        ∙ ap (λ b. are_unlike (contains before other) (are_unlike (is_lit old other) b)) (sym (subst (λ o. is_lit new o ≡ not (is_lit old o)) (sym same) turned))
     by (inr apart) =
         toggles other
-        ∙ ap (λ b. differs b (contains before other)) (ne_eqb other origin apart)
+        ∙ ap (λ b. are_unlike b (contains before other)) (ne_eqb other origin apart)
         ∙ same_or_turned (contains before other) (is_lit old other)
-        ∙ ap (λ b. differs (contains before other) (differs (is_lit old other) b)) (sym (others other apart))
+        ∙ ap (λ b. are_unlike (contains before other) (are_unlike (is_lit old other) b)) (sym (others other apart))
 
 -- so what was turned since an update began stays known
-pub stays_turned : (was : ℕ → Bool) (old new : Lists) (before after : Origins) → Turns old new before after → ((origin : ℕ) → contains before origin ≡ differs (was origin) (is_lit old origin)) → (origin : ℕ) → contains after origin ≡ differs (was origin) (is_lit new origin)
+pub stays_turned : (was : ℕ → Bool) (old new : Lists) (before after : Origins) → Turns old new before after → ((origin : ℕ) → contains before origin ≡ are_unlike (was origin) (is_lit old origin)) → (origin : ℕ) → contains after origin ≡ are_unlike (was origin) (is_lit new origin)
 stays_turned was old new before after turns known origin =
     turns origin
-    ∙ ap (λ b. differs b (differs (is_lit old origin) (is_lit new origin))) (known origin)
+    ∙ ap (λ b. are_unlike b (are_unlike (is_lit old origin) (is_lit new origin))) (known origin)
     ∙ twice (was origin) (is_lit old origin) (is_lit new origin)
   where
-    twice : (a b c : Bool) → differs (differs a b) (differs b c) ≡ differs a c
+    twice : (a b c : Bool) → are_unlike (are_unlike a b) (are_unlike b c) ≡ are_unlike a c
     twice true true true = refl
     twice true true false = refl
     twice true false true = refl
@@ -113,14 +113,14 @@ stays_turned was old new before after turns known origin =
 pub toggled_in : (set : Origins) (number : ℕ) → contains set number ≡ true → Toggles set (remove set number) number
 toggled_in set number member n = contains_removed set number n ∙ by (cases_eq n number)
   where
-    by : (n ≡ number) ⊎ (n ≢ number) → (not (n == number) && contains set n) ≡ differs (n == number) (contains set n)
+    by : (n ≡ number) ⊎ (n ≢ number) → (not (n == number) && contains set n) ≡ are_unlike (n == number) (contains set n)
     by (inl same) = rw (same, eq-eqb number number refl, member) refl
     by (inr apart) = rw (ne_eqb n number apart) refl
 
 pub toggled_out : (set : Origins) (number : ℕ) → contains set number ≡ false → Toggles set (insert set number) number
 toggled_out set number absent n = contains_inserted set number n ∙ by (cases_eq n number)
   where
-    by : (n ≡ number) ⊎ (n ≢ number) → ((n == number) || contains set n) ≡ differs (n == number) (contains set n)
+    by : (n ≡ number) ⊎ (n ≢ number) → ((n == number) || contains set n) ≡ are_unlike (n == number) (contains set n)
     by (inl same) = rw (same, eq-eqb number number refl, absent) refl
     by (inr apart) = rw (ne_eqb n number apart) refl
 

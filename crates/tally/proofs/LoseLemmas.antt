@@ -12,7 +12,7 @@ use Rattle.crosspoint_state.specs.Taps.{origin_at}
 use Rattle.mixer_effects.specs.Buses.{fed_device}
 use Rattle.tally.proofs.DeviceLemmas.{fed_within}
 use Rattle.tally.specs.Lost.{WaitsFor}
-use Rattle.tally.specs.Losing.{in_doubt, feeder_of, WentDark, HasCause, AreLosing, MarksNoMore}
+use Rattle.tally.specs.Losing.{in_doubt, feeder_of, WentDark, MayGoDark, AreLosing, MarksNoMore}
 
 -- what is in doubt stays so
 pub record DoubtsMore (before after : Origins) : Type 0 where
@@ -26,7 +26,7 @@ pub no_more : (old new : Marks) (dest : ℕ) → new.live ≡ remove old.live de
 no_more old new dest live other marked =
     (and_parts (not (other == dest)) (contains old.live other) (sym (contains_removed old.live dest other) ∙ sym (ap (λ set. contains set other) live) ∙ marked)).1
 
-pub loses_one : (plant : PlantData) (dest : ℕ) (marks new : Marks) (waiting more doubted : Origins) (old : Crosspoints) (roots touched : List ℕ) → AreLosing plant old roots touched marks waiting doubted → HasCause plant roots touched doubted dest →
+pub loses_one : (plant : PlantData) (dest : ℕ) (marks new : Marks) (waiting more doubted : Origins) (old : Crosspoints) (roots touched : List ℕ) → AreLosing plant old roots touched marks waiting doubted → MayGoDark plant roots touched doubted dest →
     AreMarksOf plant old new → new.live ≡ remove marks.live dest → DoubtsMore waiting more → ((device : ℕ) → feeder_of plant old dest ≡ Some device → in_doubt more doubted device ≡ true) → AreLosing plant old roots touched new more doubted
 loses_one plant dest marks new waiting more doubted old roots touched losing cause kept live wider feeds = record {
   kept = kept;
@@ -52,8 +52,8 @@ loses_one plant dest marks new waiting more doubted old roots touched losing cau
     follow other device dark fed (inr apart) =
         wide (contains waiting device) (contains doubted device) (contains more device) (wider.more device) (losing.followed other device (before other apart dark) fed)
 
-    because : (other : ℕ) → WentDark plant old roots new other → (other ≡ dest) ⊎ (other ≢ dest) → HasCause plant roots touched doubted other
-    because other dark (inl same) = subst (HasCause plant roots touched doubted) (sym same) cause
+    because : (other : ℕ) → WentDark plant old roots new other → (other ≡ dest) ⊎ (other ≢ dest) → MayGoDark plant roots touched doubted other
+    because other dark (inl same) = subst (MayGoDark plant roots touched doubted) (sym same) cause
     because other dark (inr apart) = losing.caused other (before other apart dark)
 
 pub doubts_inserted : (before after : Origins) (number : ℕ) → after ≡ insert before number → DoubtsMore before after

@@ -15,8 +15,7 @@ use Rattle.mixer_effects.specs.Buses.{is_bus_on, is_on, device_at, buses_at}
 use Rattle.mixer_effects.specs.Live.{is_live}
 use Rattle.mixer_effects.proofs.LiveLemmas.{live_is_least}
 use Rattle.mixer_effects.proofs.AnyLemmas.{any_place}
-use Rattle.tally.specs.Tally.{Origins}
-use Rattle.tally.specs.TallyInside.{is_root}
+use Rattle.tally.specs.Tally.{Origins, is_root}
 use Rattle.tally.specs.Marks.{Marks, AreMarksOf}
 use Rattle.tally.specs.MarksInside.{StayTurned}
 use Rattle.tally.specs.MarkLaws.{AreSound}

@@ -23,11 +23,10 @@ use Rattle.mixer_effects.specs.Laws.{LiveIsLeast}
 use Rattle.mixer_effects.proofs.LiveLemmas.{live_is_least}
 use Rattle.mixer_effects.proofs.PlantLemmas.{bus_device_below}
 use Rattle.mixer_effects.proofs.AnyLemmas.{any_place}
-use Rattle.tally.specs.Tally.{Origins}
-use Rattle.tally.specs.TallyInside.{is_root}
+use Rattle.tally.specs.Tally.{Origins, is_root}
 use Rattle.tally.specs.Marks.{Marks, AreMarksOf}
 use Rattle.tally.specs.MarkLaws.{AreSound, AreSettled}
-use Rattle.tally.specs.Left.{AreLeft}
+use Rattle.tally.specs.Left.{AreLeftOver}
 use Rattle.tally.specs.Losing.{feeder_of, WentDark, AreLosing}
 use Rattle.tally.specs.Lost.{WaitsFor, AreLost, AreGoneThrough, HasSpread}
 use Rattle.tally.specs.Relit.{IsMarkedOrLeft, AreLighting, AreRelit}
@@ -128,7 +127,7 @@ module _ (plant : PlantData) (is : IsPlant plant) (old new : Crosspoints) (roots
           | inr here ↦ here
         ]
 
-    pub are_left : AreLeft plant old new roots (contains marks.live)
+    pub are_left : AreLeftOver plant old new roots (contains marks.live)
     are_left = record {
       stood = λ dest marked. stands dest (untouched dest marked);
       switches = λ place bus at marked. same_on bus.dest (untouched bus.dest marked) place bus at refl;

@@ -11,7 +11,7 @@ use Rattle.crosspoint_state.specs.Crosspoints.{Crosspoints}
 use Rattle.mixer_effects.specs.Buses.{buses_at}
 use Rattle.tally.specs.Tally.{Origins}
 use Rattle.tally.specs.Marks.{Marks, AreMarksOf}
-use Rattle.tally.specs.Losing.{in_doubt, IsBehindDoubt, HasCause, AreLosing}
+use Rattle.tally.specs.Losing.{in_doubt, IsBehindDoubt, MayGoDark, AreLosing}
 use Rattle.tally.specs.Lost.{WaitsFor, AreLost, no_roots, AreRoots, FeedsAmong, HaveMarkedBehind, AreDevices, HasSpread}
 use Rattle.tally.proofs.ListLemmas.{was_kept}
 use Rattle.tally.proofs.LostLemmas.{stays_dark}
@@ -86,7 +86,7 @@ module _ (plant : PlantData) (is : IsPlant plant) (waiting doubted : Origins) (v
     caused = λ dest dark. by dest (losing.caused dest dark);
   }
     where
-      by : (dest : ℕ) → HasCause plant roots touched doubted dest → HasCause plant roots touched (insert doubted v) dest
+      by : (dest : ℕ) → MayGoDark plant roots touched doubted dest → MayGoDark plant roots touched (insert doubted v) dest
       by dest (inl here) = inl here
       by dest (inr behind) = inr (record {
         device = behind.device;

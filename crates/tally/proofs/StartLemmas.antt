@@ -24,8 +24,7 @@ use Rattle.mixer_effects.proofs.LiveLemmas.{live_is_least}
 use Rattle.mixer_effects.proofs.AnyLemmas.{any_place}
 use Rattle.tally.specs.declared.roots.Roots.{Roots}
 use Rattle.tally.specs.declared.roots.Roots.TheVariants.{Air, Preview}
-use Rattle.tally.specs.Tally.{Origins, roots_of}
-use Rattle.tally.specs.TallyInside.{is_root}
+use Rattle.tally.specs.Tally.{Origins, roots_of, is_root}
 use Rattle.tally.specs.MarkLaws.{AreSettled}
 use Rattle.tally.specs.Lost.{AreRoots}
 use Rattle.tally.proofs.ListLemmas.{taken_more}

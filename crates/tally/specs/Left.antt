@@ -6,7 +6,7 @@ use Rattle.plant_config.specs.Plant.{PlantData}
 use Rattle.crosspoint_state.specs.Crosspoints.{Crosspoints}
 use Rattle.mixer_effects.specs.Buses.{is_bus_on}
 use Rattle.mixer_effects.specs.Live.{is_fed_by, is_live}
-use Rattle.tally.specs.TallyInside.{is_root}
+use Rattle.tally.specs.Tally.{is_root}
 
 -- What a destination that is left carries hasn't moved.
 abbrev pub HaveStood : Crosspoints → Crosspoints → (ℕ → Bool) → Type 0
@@ -25,8 +25,8 @@ AreFollowed plant old roots is_left = (place dest : ℕ) (bus : Bus)
     → is_left dest ≡ false → is_fed_by plant old bus.device dest ≡ true
     → is_root roots bus.dest ≡ false → is_left bus.dest ≡ false
 
--- These destinations are left.
-pub record AreLeft (plant : PlantData) (old new : Crosspoints) (roots : List ℕ)
+-- These destinations are left over.
+pub record AreLeftOver (plant : PlantData) (old new : Crosspoints) (roots : List ℕ)
     (is_left : ℕ → Bool) : Type 0 where
   pub stood : HaveStood old new is_left
   pub switches : HaveSwitchesStood plant old new is_left

@@ -1,5 +1,4 @@
 pub mod Tally
-pub mod TallyInside
 pub mod Marks
 pub mod MarksInside
 pub mod Left

@@ -7,8 +7,7 @@ use Rattle.crosspoint_state.specs.Crosspoints.{Crosspoints}
 use Rattle.crosspoint_state.specs.Taps.{origin_at}
 use Rattle.mixer_effects.specs.Buses.{fed_device, device_at}
 use Rattle.mixer_effects.specs.Live.{is_live}
-use Rattle.tally.specs.Tally.{Origins}
-use Rattle.tally.specs.TallyInside.{is_root}
+use Rattle.tally.specs.Tally.{Origins, is_root}
 use Rattle.tally.specs.Marks.{Marks, AreMarksOf}
 use Rattle.tally.specs.MarkLaws.{AreSound}
 
@@ -35,8 +34,8 @@ pub record IsBehindDoubt (plant : PlantData) (roots : List ℕ) (doubted : Origi
   pub no_root : is_root roots dest ≡ false
 
 -- Why a destination may go dark: it is one of these that moved, or whose switch did, or it is behind a device in doubt.
-abbrev pub HasCause : PlantData → List ℕ → List ℕ → Origins → ℕ → Type 0
-HasCause plant roots touched doubted dest =
+abbrev pub MayGoDark : PlantData → List ℕ → List ℕ → Origins → ℕ → Type 0
+MayGoDark plant roots touched doubted dest =
     Contains touched dest ⊎ IsBehindDoubt plant roots doubted dest
 
 -- Whoever went dark had a cause, and put the device that fed it in doubt. Nothing is marked that wasn't live.
@@ -47,14 +46,14 @@ pub record AreLosing (plant : PlantData) (old : Crosspoints) (roots touched : Li
   pub followed : (dest device : ℕ) → WentDark plant old roots marks dest
       → feeder_of plant old dest ≡ Some device → in_doubt waiting doubted device ≡ true
   pub caused : (dest : ℕ) → WentDark plant old roots marks dest
-      → HasCause plant roots touched doubted dest
+      → MayGoDark plant roots touched doubted dest
 
 -- With one destination more that has a cause, marks are losing as they were.
 abbrev pub KeepLosing : PlantData → ℕ → Marks → Marks → Origins → Origins → Origins → Type 0
 KeepLosing plant dest marks new_marks waiting new_waiting doubted =
     (old : Crosspoints) (roots touched : List ℕ)
     → AreLosing plant old roots touched marks waiting doubted
-    → HasCause plant roots touched doubted dest
+    → MayGoDark plant roots touched doubted dest
     → AreLosing plant old roots touched new_marks new_waiting doubted
 
 -- No destination is marked that wasn't.

@@ -4,11 +4,10 @@ use Rattle.std.specs.FinSet.{empty, contains}
 use Rattle.plant_config.specs.Plant.{PlantData}
 use Rattle.crosspoint_state.specs.Crosspoints.{Crosspoints}
 use Rattle.mixer_effects.specs.Buses.{buses_at}
-use Rattle.tally.specs.Tally.{Origins}
-use Rattle.tally.specs.TallyInside.{is_root}
+use Rattle.tally.specs.Tally.{Origins, is_root}
 use Rattle.tally.specs.Marks.{Marks, AreMarksOf}
 use Rattle.tally.specs.MarksInside.{StayTurned}
-use Rattle.tally.specs.Losing.{in_doubt, feeder_of, HasCause, AreLosing, MarksNoMore}
+use Rattle.tally.specs.Losing.{in_doubt, feeder_of, MayGoDark, AreLosing, MarksNoMore}
 
 -- Why a device waits: it fed one of these destinations, which was marked, and it wasn't gone through.
 pub record WaitsFor (plant : PlantData) (old : Crosspoints) (dests : List ℕ) (marks : Marks)
@@ -28,9 +27,9 @@ WaitMore plant dests marks waiting new_waiting doubted =
     → (contains waiting device ≡ true) ⊎ WaitsFor plant old dests marks doubted device
 
 -- Each of these destinations has a cause to go dark.
-abbrev pub HaveCauses : PlantData → List ℕ → List ℕ → Origins → List ℕ → Type 0
-HaveCauses plant roots touched doubted dests =
-    (dest : ℕ) → Contains dests dest → HasCause plant roots touched doubted dest
+abbrev pub EachMayGoDark : PlantData → List ℕ → List ℕ → Origins → List ℕ → Type 0
+EachMayGoDark plant roots touched doubted dests =
+    (dest : ℕ) → Contains dests dest → MayGoDark plant roots touched doubted dest
 
 -- Marks are losing as they were, if these destinations had a cause.
 abbrev pub KeepLosingAll : PlantData → List ℕ → Marks → Marks → Origins → Origins → Origins
@@ -38,7 +37,7 @@ abbrev pub KeepLosingAll : PlantData → List ℕ → Marks → Marks → Origin
 KeepLosingAll plant dests marks new_marks waiting new_waiting doubted =
     (old : Crosspoints) (roots touched : List ℕ)
     → AreLosing plant old roots touched marks waiting doubted
-    → HaveCauses plant roots touched doubted dests
+    → EachMayGoDark plant roots touched doubted dests
     → AreLosing plant old roots touched new_marks new_waiting doubted
 
 -- Marks go with the crosspoints with which they went.

@@ -31,8 +31,8 @@ marks_code =
     }) (λ _. refl)
 
 -- whether one of two things is so and the other isn't
-abbrev pub differs : Bool → Bool → Bool
-differs a b = cond a (not b) b
+abbrev pub are_unlike : Bool → Bool → Bool
+are_unlike a b = cond a (not b) b
 
 -- whether a destination that is marked live carries the picture of a local source
 abbrev pub is_lit : Lists → ℕ → Bool
@@ -59,4 +59,4 @@ pub record AreMarksOf (plant : PlantData) (points : Crosspoints) (marks : Marks)
 -- A source is turned where it is lit now and wasn't when the update began, or the other way round.
 abbrev pub AreTurned : (ℕ → Bool) → Marks → Type 0
 AreTurned was_lit marks = (origin : ℕ)
-    → contains marks.turned origin ≡ differs (was_lit origin) (is_lit marks.lit origin)
+    → contains marks.turned origin ≡ are_unlike (was_lit origin) (is_lit marks.lit origin)

@@ -5,17 +5,17 @@ use Rattle.std.specs.FinSet.{contains}
 use Rattle.tap_lists.specs.Lists.{Lists}
 use Rattle.plant_config.specs.Plant.{PlantData}
 use Rattle.tally.specs.Tally.{Origins}
-use Rattle.tally.specs.Marks.{Marks, is_lit, differs, AreTurned}
+use Rattle.tally.specs.Marks.{Marks, is_lit, are_unlike, AreTurned}
 
 -- A number is a member now where it wasn't, and isn't where it was. Every other number is as it was.
 abbrev pub Toggles : Origins → Origins → ℕ → Type 0
 Toggles old new number =
-    (n : ℕ) → contains new n ≡ differs (n == number) (contains old n)
+    (n : ℕ) → contains new n ≡ are_unlike (n == number) (contains old n)
 
 -- What came to be lit or went dark was turned.
 abbrev pub Turns : Lists → Lists → Origins → Origins → Type 0
 Turns old new before after = (origin : ℕ) → contains after origin
-    ≡ differs (contains before origin) (differs (is_lit old origin) (is_lit new origin))
+    ≡ are_unlike (contains before origin) (are_unlike (is_lit old origin) (is_lit new origin))
 
 -- What was turned is known from what was lit when the update began, if it was known before.
 abbrev pub StayTurned : Marks → Marks → Type 0

@@ -6,8 +6,7 @@ use Rattle.plant_config.specs.declared.records.Bus.{Bus}
 use Rattle.plant_config.specs.Plant.{PlantData}
 use Rattle.crosspoint_state.specs.Crosspoints.{Crosspoints}
 use Rattle.mixer_effects.specs.Buses.{is_bus_on, is_on, device_at}
-use Rattle.tally.specs.Tally.{Origins}
-use Rattle.tally.specs.TallyInside.{is_root}
+use Rattle.tally.specs.Tally.{Origins, is_root}
 use Rattle.tally.specs.Marks.{Marks, AreMarksOf}
 use Rattle.tally.specs.MarksInside.{StayTurned}
 use Rattle.tally.specs.MarkLaws.{AreSound}

@@ -3,14 +3,14 @@
 ghost use Rattle.std.specs.Prelude.{ℕ, Bool, List};
 ghost use Rattle.plant_config.specs.Plant.{PlantData};
 ghost use Rattle.crosspoint_state.specs.Crosspoints.{Crosspoints};
-ghost use Rattle.tally.specs.Left.{AreLeft, LeftAreLive};
+ghost use Rattle.tally.specs.Left.{AreLeftOver, LeftAreLive};
 ghost use Rattle.tally.specs.Marks.{Marks};
 ghost use Rattle.tally.specs.MarkLaws.{AreSettled, SayWhatIsLive};
 
 /// Of all that was live, what is left is live, once all is dark that may have lost its way to the roots.
 pub fn what_is_left_is_live()
     ensures { (plant : PlantData) (old new : Crosspoints) (roots : List ℕ)
-        (is_left : ℕ → Bool) → AreLeft plant old new roots is_left
+        (is_left : ℕ → Bool) → AreLeftOver plant old new roots is_left
         → LeftAreLive plant old new roots is_left }
 {}
 

@@ -3,7 +3,6 @@
 ghost use Rattle.std.specs.Prelude.{◌≡◌, ◌<◌, All, IfOk};
 ghost use Rattle.number_tables.specs.Numbers.{number_limit};
 ghost use Rattle.tally.specs.Tally.{roots_of};
-ghost use Rattle.tally.specs.TallyInside.{is_root};
 ghost use Rattle.tally.specs.Lost.{AreRoots};
 
 use number_tables::NumberSet;
@@ -28,12 +27,6 @@ impl Roots {
             Roots::Air => plant.air(),
             Roots::Preview => plant.preview(),
         }
-    }
-    // Whether a destination is one of them.
-    pub(crate) fn has(self, plant: &Plant, dest: DestId) -> bool
-        ensures { result ≡ is_root (roots_of plant.now self) dest }
-    {
-        self.of(plant).contains(&dest)
     }
 }
 

@@ -1,145 +1,150 @@
-//! The tally of a plant.
+//! A tally that is kept up to date.
 
-ghost use Rattle.std.specs.Prelude.{◌≡◌, ◌<◌, IfOk};
+ghost use Rattle.std.specs.Prelude.{◌≡◌, ◌+◌, ◌<◌, ◌≤◌, ℕ, List, All, IfOk};
 ghost use Rattle.std.specs.FinMap.{empty};
-ghost use Rattle.plant_config.specs.Plant.{sources_of};
-ghost use Rattle.plant_config.specs.IsPlant.{IsPlant};
+ghost use Rattle.plant_config.specs.Plant.{PlantData, sources_of};
+ghost use Rattle.plant_config.specs.IsPlant.{IsPlant, IsDest};
 ghost use Rattle.crosspoint_state.specs.Crosspoints as carried;
+ghost use Rattle.crosspoint_state.specs.Taps.{AreTapsOf};
 ghost use Rattle.mixer_effects.specs.Live.{is_live, is_seen};
 ghost use Rattle.mixer_effects.specs.Wiring.{IsWiringOf};
-ghost use Rattle.tally.specs.Tally.{IsTallyOf, roots_of, CarrySources};
-ghost use Rattle.tally.specs.TallyInside.{feeds, seen_at, is_fed_bus};
+ghost use Rattle.tally.specs.Tally.{roots_of};
+ghost use Rattle.tally.specs.Doubt.{read_bound};
+ghost use Rattle.tally.specs.Kept.{IsKeptFor, IsUpdate, AreFlipped};
 
-use crate::roots::Roots;
-use crate::rounds::find_seen;
-use mixer_effects::{Graph, live_is_least};
-use number_tables::NumberSet;
-use plant_config::{DestId, DeviceId, Plant, SourceId};
+use crate::marks::Marks;
+use crate::roots::{Roots, set_of};
+use crate::settle::settle;
+use mixer_effects::Graph;
+use number_tables::{MAX_NUMBERS, NumberSet};
+use plant_config::{Change, DestId, Plant, SourceId};
 use std::alloc::{AllocError, Global};
 use std::marker::{Brand, Model};
 use std::sync::ledger::{Blank, Ledger};
 use tap_lists::Steps;
 
-/// Which sources of a plant are on air, and which are on preview.
+/// Which destinations of a plant are live for some roots, and which sources are seen there. Each update looks at what moved and
+/// at what this reaches, and at nothing else.
 #[derive(Debug, Drop)]
 pub struct Tally {
-    /// The local sources whose pictures are seen at the air roots.
-    air: NumberSet,
-    /// Those whose pictures are seen at the preview roots.
-    preview: NumberSet,
+    /// What is live, and what is on by it.
+    marks: Marks,
+    /// The roots.
+    roots: NumberSet,
+    /// The devices that an update has still to go through.
+    waiting: NumberSet,
+    /// Those that are in doubt.
+    doubted: NumberSet,
+    /// The local sources that the last update turned on or off.
+    flipped: Vec<SourceId>,
 }
 
 impl Model for Tally {
-    ghost use Rattle.tally.specs.Tally.{Tallies, code};
+    ghost use Rattle.std.specs.Prelude.{vec_capacity};
+    ghost use Rattle.tally.specs.Doubt.{read_bound};
+    ghost use Rattle.tally.specs.Kept.{Kept, kept_code};
 
-    ghost Value = { Tallies };
+    ghost Value = { Kept };
 
-    ghost coded = { code };
+    ghost coded = { kept_code };
 
-    ghost view = { λ tally. record { air = tally.air; preview = tally.preview } };
+    ghost view = { λ tally. record {
+      marks = tally.marks;
+      roots = tally.roots;
+      waiting = tally.waiting;
+      doubted = tally.doubted;
+      flipped = tally.flipped.items;
+      room = vec_capacity tally.flipped;
+    } };
 }
 
 impl Tally {
-    /// The tally of a plant of which all destinations are parked.
-    pub fn new(alloc: Global, plant: &Plant) -> Result<Tally, AllocError>
-        ensures { IfOk result (IsTallyOf plant.now empty) }
+    /// The tally for these roots of a plant of which all destinations are parked.
+    pub fn new(alloc: Global, plant: &Plant, roots: Roots) -> Result<Tally, AllocError>
+        requires { IsPlant plant.now }
+        ensures { IfOk result (IsKeptFor plant.now empty (roots_of plant.now roots)) }
     {
-        let air = NumberSet::new(alloc)?;
-        let preview = NumberSet::new(alloc)?;
-        Ok(Tally { air, preview })
+        let dests = roots.of(plant);
+        let marks = Marks::new(alloc, plant, dests)?;
+        let roots = set_of(alloc, dests)?;
+        let waiting = NumberSet::new(alloc)?;
+        let doubted = NumberSet::new(alloc)?;
+        let flipped = Vec::with_capacity(alloc, plant.source_count() as usize)?;
+        Ok(Tally {
+            marks,
+            roots,
+            waiting,
+            doubted,
+            flipped,
+        })
     }
 
-    /// Finds the tally anew, from what the destinations carry.
-    #[inline]
-    pub fn find(&mut self, plant: &Plant, graph: &Graph<'_>)
-        requires wired { IsWiringOf plant.now graph.now.wiring }
-        requires carried { CarrySources plant.now graph.now.crosspoints }
-        ensures { IsTallyOf plant.now graph.now.crosspoints self.new }
-    {
-        self.find_counted::<Brand>(plant, graph, Blank::new(1));
-    }
-
-    // The same, with a count of its own of what is read.
-    #[inline]
-    fn find_counted<L: Ledger>(&mut self, plant: &Plant, graph: &Graph<'_>, blank: Blank)
-        requires name { blank.name ≡ L.name }
-        requires parts { blank.parts ≡ L.parts }
-        requires some { 0 < blank.parts }
-        requires wired { IsWiringOf plant.now graph.now.wiring }
-        requires carried { CarrySources plant.now graph.now.crosspoints }
-        ensures { IsTallyOf plant.now graph.now.crosspoints self.new }
-    {
-        let (book, share) = blank.open::<L>();
-        let mut steps = Steps::begin(book, share);
-        find_seen(plant, graph, plant.air(), &mut self.air, &mut steps);
-        find_seen(plant, graph, plant.preview(), &mut self.preview, &mut steps);
-    }
-
-    /// Whether a source is seen at the air roots, or at the preview roots, with the crosspoints from which the tally was found.
-    pub fn is_seen(&self, plant: &Plant, roots: Roots, source: SourceId) -> bool
-        requires { source < sources_of plant.now }
-        ensures { (points : carried.Crosspoints) → IsTallyOf plant.now points self.now
-            → result ≡ is_seen plant.now points (roots_of plant.now roots) source }
-    {
-        // So it is known that the plant is within its limits.
-        let _sources = plant.source_count();
-        self.seen(roots).contains(plant.origin(source).get())
-    }
-
-    /// Whether a destination is live for the air roots, or for the preview roots.
-    pub fn is_live(&self, plant: &Plant, graph: &Graph<'_>, roots: Roots, dest: DestId) -> bool
-        requires wired { IsWiringOf plant.now graph.now.wiring }
-        requires found { IsTallyOf plant.now graph.now.crosspoints self.now }
-        ensures { result ≡ is_live plant.now graph.now.crosspoints
-            (roots_of plant.now roots) dest }
-    {
-        live_is_least();
-        roots.has(plant, dest) || self.is_fed_bus::<Brand>(plant, graph, roots, dest, Blank::new(1))
-    }
-
-    // Whether a destination is a bus that is on, of a device that puts out a source that is seen. It has a count of its own
-    // of what is read.
-    fn is_fed_bus<L: Ledger>(
-        &self,
+    /// Follows changes that were made: at most what they name has moved since the tally was made or last updated.
+    pub fn update<L: Ledger>(
+        &mut self,
         plant: &Plant,
         graph: &Graph<'_>,
-        roots: Roots,
-        dest: DestId,
-        blank: Blank,
-    ) -> bool
-        requires name { blank.name ≡ L.name }
-        requires parts { blank.parts ≡ L.parts }
-        requires some { 0 < blank.parts }
+        changes: &[Change],
+        steps: &mut Steps<L>,
+    )
         requires wired { IsWiringOf plant.now graph.now.wiring }
-        ensures { result ≡ is_fed_bus plant.now graph.now.crosspoints
-            (seen_at self.now roots) dest }
+        requires tapped { AreTapsOf plant.now graph.now.crosspoints graph.now.taps }
+        requires dests { All (λ change. IsDest plant.now change.dest) changes.now }
+        requires before { (old : carried.Crosspoints) × ((roots : List ℕ) × IsUpdate plant.now
+            old graph.now.crosspoints roots changes.now self.old) }
+        ensures kept { (old : carried.Crosspoints) (roots : List ℕ)
+            → IsUpdate plant.now old graph.now.crosspoints roots changes.now self.old
+            → IsKeptFor plant.now graph.now.crosspoints roots self.new }
+        ensures flipped { (old : carried.Crosspoints) (roots : List ℕ)
+            → IsUpdate plant.now old graph.now.crosspoints roots changes.now self.old
+            → AreFlipped plant.now old graph.now.crosspoints roots self.new.flipped }
+        ensures counted { (old : carried.Crosspoints) (roots : List ℕ)
+            → IsUpdate plant.now old graph.now.crosspoints roots changes.now self.old
+            → steps.new ≤ steps.old
+            + read_bound plant.now old graph.now.crosspoints roots changes.now }
     {
-        let (book, share) = blank.open::<L>();
-        let mut steps = Steps::begin(book, share);
-        let Some(device) = graph.device_of(dest, &mut steps) else {
+        settle(
+            plant,
+            graph,
+            &self.roots,
+            changes,
+            &mut self.marks,
+            &mut self.waiting,
+            &mut self.doubted,
+            steps,
+        );
+        self.marks.take_turned(&mut self.flipped);
+    }
+
+    /// Whether a destination is live.
+    pub fn is_live(&self, dest: DestId) -> bool
+        ensures { (plant : PlantData) (points : carried.Crosspoints) (roots : List ℕ)
+            → IsKeptFor plant points roots self.now
+            → result ≡ is_live plant points roots dest }
+    {
+        let dest = dest.get();
+        if dest >= MAX_NUMBERS {
             return false;
-        };
-        graph.is_on(dest, &mut steps) && self.feeds(plant, roots, device)
+        }
+        self.marks.is_live(dest)
     }
 
-    // Whether a device puts out a source that is seen.
-    fn feeds(&self, plant: &Plant, roots: Roots, device: DeviceId) -> bool
-        requires { IsPlant plant.now }
-        ensures { result ≡ feeds plant.now (seen_at self.now roots) device }
+    /// Whether a source is seen at the roots.
+    pub fn on(&self, plant: &Plant, source: SourceId) -> bool
+        requires { source < sources_of plant.now }
+        ensures { (points : carried.Crosspoints) (roots : List ℕ)
+            → IsKeptFor plant.now points roots self.now
+            → result ≡ is_seen plant.now points roots source }
     {
-        match plant.devices().get(device.get() as usize) {
-            Some(device) => self.seen(roots).contains(device.output.get()),
-            None => false,
-        }
+        let origin = plant.origin(source);
+        self.marks.is_on::<Brand>(origin, Blank::new(1))
     }
 
-    // The local sources whose pictures are seen at these roots.
-    fn seen(&self, roots: Roots) -> &NumberSet
-        ensures { result.now ≡ seen_at self.now roots }
+    /// The local sources that are seen since the last update and weren't, or were seen and aren't, in the order of their
+    /// numbers.
+    pub fn flipped(&self) -> &[SourceId]
+        ensures { result.now ≡ self.now.flipped }
     {
-        match roots {
-            Roots::Air => &self.air,
-            Roots::Preview => &self.preview,
-        }
+        &self.flipped
     }
 }

@@ -1,16 +1,16 @@
 //! `tally` in use.
 
-use plant_config::{Plant, SourceId};
+use plant_config::{DestId, Plant, SourceId};
 use std::test::Fail;
 use tally::{Roots, Tally};
 
 #[test]
 fn nothing_is_on_air_at_the_start(rt: HostRuntime) -> Result<(), Fail> {
     let plant = Plant::bench(rt.alloc())?;
-    let tally = Tally::new(rt.alloc(), &plant)?;
     assert!(rt; 3 < plant.source_count());
-    let camera = SourceId::of(3);
-    assert!(rt; !tally.is_seen(&plant, Roots::Air, camera));
-    assert!(rt; !tally.is_seen(&plant, Roots::Preview, camera));
+    let tally = Tally::new(rt.alloc(), &plant, Roots::Air)?;
+    assert!(rt; !tally.on(&plant, SourceId::of(3)));
+    assert!(rt; !tally.is_live(DestId::of(5)));
+    assert!(rt; tally.flipped().is_empty());
     Ok(())
 }

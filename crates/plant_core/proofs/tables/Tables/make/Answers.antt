@@ -1,9 +1,10 @@
 use Rattle.std.proofs.Common.{sym, subst, ◌∙◌}
 use Rattle.crosspoint_state.specs.Crosspoints.{Crosspoints}
+use Rattle.crosspoint_state.specs.Taps.{AreTapsOf}
+use Rattle.tap_lists.specs.Lists.{Lists}
 use Rattle.mixer_effects.specs.Wiring.{IsWiringOf}
-use Rattle.tally.specs.Tally.{IsTallyOf, CarrySources}
-use Rattle.plant_core.proofs.Validity.{AreCrosspoints-applied}
-use Rattle.plant_core.proofs.DisplayLemmas.{carried}
+use Rattle.plant_core.specs.StateInside.{AreTalliesOf}
+use Rattle.plant_core.proofs.Changes.{moved-applied}
 use Rattle.plant_core.proofs.tables.Tables.make.Goals as goal
 
 pub commit-requires : goal.commit-requires
@@ -16,18 +17,24 @@ commit-requires c = record {
   enough = c.requires.enough;
 }
 
-pub find-requires : goal.find-requires
-find-requires c = record {
+pub follow-requires : goal.follow-requires
+follow-requires c = record {
   wired = subst (IsWiringOf c.args.plant.now) (sym c.new-graph.ensures.wiring) c.requires.tables.wired;
-  carried =
-      subst (CarrySources c.args.plant.now) (sym (c.new-graph.ensures.crosspoints ∙ c.commit.ensures.made))
-      (carried c.args.plant.now _ c.requires.plant (AreCrosspoints-applied c.args.plant.now c.args.points.now.entries c.args.changes.now c.requires.points c.requires.changes));
+  tapped =
+      subst (λ (points : Crosspoints). AreTapsOf c.args.plant.now points c.new-graph.result.taps) (sym c.new-graph.ensures.crosspoints)
+      (subst (λ (taps : Lists). AreTapsOf c.args.plant.now c.commit.new.points.entries taps) (sym c.new-graph.ensures.taps) c.commit.ensures.kept.tapped);
+  dests = λ k d below. (c.requires.changes k d below).dest;
+  before = record {
+    old = c.args.points.now.entries;
+    before = c.requires.tables.tallied;
+    moved = moved-applied c.args.plant.now c.args.points.now.entries _ c.args.changes.now (c.new-graph.ensures.crosspoints ∙ c.commit.ensures.made);
+  };
 }
 
 pub returns-clause-tables : goal.returns-clause-tables
 returns-clause-tables c = record {
   counted = c.commit.ensures.counts;
   wired = c.requires.tables.wired;
-  tallied = subst (λ (points : Crosspoints). IsTallyOf c.args.plant.now points c.find.new.self) c.new-graph.ensures.crosspoints c.find.ensures;
+  tallied = subst (λ (points : Crosspoints). AreTalliesOf c.args.plant.now points c.follow.new.self) c.new-graph.ensures.crosspoints c.follow.ensures;
   screened = c.requires.tables.screened;
 }

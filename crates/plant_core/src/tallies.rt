@@ -1,0 +1,87 @@
+//! What is live and what is seen in a plant, kept up to date for both kinds of roots.
+
+ghost use Rattle.std.specs.Prelude.{◌≡◌, ◌<◌, All, IfOk};
+ghost use Rattle.std.specs.FinMap.{empty};
+ghost use Rattle.plant_config.specs.Plant.{PlantData};
+ghost use Rattle.plant_config.specs.IsPlant.{IsPlant, IsDest};
+ghost use Rattle.crosspoint_state.specs.Crosspoints as carried;
+ghost use Rattle.crosspoint_state.specs.Taps.{AreTapsOf};
+ghost use Rattle.mixer_effects.specs.Wiring.{IsWiringOf};
+ghost use Rattle.tally.specs.Tally.{roots_of};
+ghost use Rattle.tally.specs.Kept.{IsKeptFor};
+ghost use Rattle.plant_core.specs.StateInside.{AreTalliesOf, WereTallies};
+
+use mixer_effects::Graph;
+use plant_config::{Change, Plant};
+use std::alloc::{AllocError, Global};
+use std::marker::Brand;
+use std::sync::ledger::{Blank, Ledger};
+use tally::{Roots, Tally};
+use tap_lists::Steps;
+
+/// The tally for the air roots of a plant, and the one for its preview roots.
+#[derive(Debug, Drop)]
+pub(crate) struct Tallies {
+    pub(crate) air: Tally,
+    pub(crate) preview: Tally,
+}
+
+impl Tallies {
+    // The tallies of a plant of which all destinations are parked.
+    pub(crate) fn new(alloc: Global, plant: &Plant) -> Result<Tallies, AllocError>
+        requires { IsPlant plant.now }
+        ensures { IfOk result (AreTalliesOf plant.now empty) }
+    {
+        let air = Tally::new(alloc, plant, Roots::Air)?;
+        let preview = Tally::new(alloc, plant, Roots::Preview)?;
+        Ok(Tallies { air, preview })
+    }
+
+    // Follows changes that were made.
+    #[inline]
+    pub(crate) fn follow(&mut self, plant: &Plant, graph: &Graph<'_>, changes: &[Change])
+        requires wired { IsWiringOf plant.now graph.now.wiring }
+        requires tapped { AreTapsOf plant.now graph.now.crosspoints graph.now.taps }
+        requires dests { All (λ change. IsDest plant.now change.dest) changes.now }
+        requires before { WereTallies plant.now graph.now.crosspoints changes.now self.old }
+        ensures { AreTalliesOf plant.now graph.now.crosspoints self.new }
+    {
+        self.follow_counted::<Brand>(plant, graph, changes, Blank::new(1));
+    }
+
+    // The same, with a count of its own of what is read.
+    #[inline]
+    fn follow_counted<L: Ledger>(
+        &mut self,
+        plant: &Plant,
+        graph: &Graph<'_>,
+        changes: &[Change],
+        blank: Blank,
+    )
+        requires name { blank.name ≡ L.name }
+        requires parts { blank.parts ≡ L.parts }
+        requires some { 0 < blank.parts }
+        requires wired { IsWiringOf plant.now graph.now.wiring }
+        requires tapped { AreTapsOf plant.now graph.now.crosspoints graph.now.taps }
+        requires dests { All (λ change. IsDest plant.now change.dest) changes.now }
+        requires before { WereTallies plant.now graph.now.crosspoints changes.now self.old }
+        ensures { AreTalliesOf plant.now graph.now.crosspoints self.new }
+    {
+        let (book, share) = blank.open::<L>();
+        let mut steps = Steps::begin(book, share);
+        self.air.update(plant, graph, changes, &mut steps);
+        self.preview.update(plant, graph, changes, &mut steps);
+    }
+
+    // The tally for such roots.
+    pub(crate) fn at(&self, roots: Roots) -> &Tally
+        ensures { (plant : PlantData) (points : carried.Crosspoints)
+            → AreTalliesOf plant points self.now
+            → IsKeptFor plant points (roots_of plant roots) result.now }
+    {
+        match roots {
+            Roots::Air => &self.air,
+            Roots::Preview => &self.preview,
+        }
+    }
+}
