@@ -10,7 +10,7 @@ use Rattle.dle_framing.specs.Items.{Reading, items}
 use Rattle.dle_framing.proofs.Readings.{reading-by_start}
 use Rattle.panel_session.specs.Entry.{PlantEntry}
 use Rattle.panel_session.specs.OutgoingInside.{emptied}
-use Rattle.panel_session.specs.Turns.{bytes_of, IsTurn}
+use Rattle.panel_session.specs.Turns.{bytes_read, IsTurn}
 use Rattle.dle_framing.proofs.FeedLemmas.{take-add}
 use Rattle.plant_config.specs.Plant.{PlantData}
 use Rattle.plant_core.specs.declared.answer.Answer.{Answer}
@@ -93,8 +93,8 @@ stands_polled_more plant panel seat session past polls answers unsent stands pol
 pub polls_below : (plant : PlantData) (panel : ℕ) (session : Session) (past : Progress) → Stands plant panel session past → session.phase ≡ PollStage → session.polls < 32
 polls_below plant panel session past stands poll =
     let k = stands.keeps in
-    let at : IsAtStage PollStage session.panel (length (items (bytes_of past.turns))) k.before k.asked past =
-    (let P : Phase → Type 0 = λ phase. IsAtStage phase session.panel (length (items (bytes_of past.turns))) k.before k.asked past in subst P poll k.phase) in
+    let at : IsAtStage PollStage session.panel (length (items (bytes_read past.turns))) k.before k.asked past =
+    (let P : Phase → Type 0 = λ phase. IsAtStage phase session.panel (length (items (bytes_read past.turns))) k.before k.asked past in subst P poll k.phase) in
     let are : session.polls ≡ length past.now.polls = k.polls_are in
     omega (arith, at.1.more)
 
@@ -108,7 +108,7 @@ stands_turn plant panel session past stands over none small =
     let turns_are : session.counts.turns ≡ length past.turns = k.turns_are in
     let one_more : next session.counts.turns ≡ session.counts.turns + 1 = next-small session.counts.turns (omega arith) in
     let TurnOf : ℕ → Type 0 = λ panel. IsTurn panel past.turns past.now in
-    let read : read_so_far (with_turn past) ≡ read_so_far past = append-nil (bytes_of (past.turns ++ past.now ∷ [])) ∙ bytes_of-append past.turns past.now in (
+    let read : read_so_far (with_turn past) ≡ read_so_far past = append-nil (bytes_read (past.turns ++ past.now ∷ [])) ∙ bytes_of-append past.turns past.now in (
       record {
         turn = subst TurnOf stands.panel_is (turn_over plant session.panel session.items session.counts.turns session.polls session.sender.output past k);
         text = keeps_text plant (kept_of session) past none stands.keeps;

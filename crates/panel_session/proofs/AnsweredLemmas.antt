@@ -13,7 +13,7 @@ use Rattle.panel_session.specs.declared.session.Session.{Session}
 use Rattle.panel_session.specs.declared.session.phase.Phase.{Phase}
 use Rattle.panel_session.specs.declared.session.phase.Phase.TheVariants.{Read, Tell, Poll as PollStage, End}
 use Rattle.panel_session.specs.Entry.{PlantEntry}
-use Rattle.panel_session.specs.OneSend.{joined}
+use Rattle.panel_session.specs.OneSend.{bytes_in}
 use Rattle.panel_session.specs.OutgoingInside.{emptied}
 use Rattle.panel_session.specs.PolledInside.{HasPolled}
 use Rattle.panel_session.specs.RoomsInside.{fitting}
@@ -22,7 +22,7 @@ use Rattle.panel_session.specs.ServedInside.{KeepsAnswered, SaysWith}
 use Rattle.panel_session.specs.Session.{Awaits, AsksAt, StandsFor, kept_of}
 use Rattle.panel_session.specs.SoFar.{Progress, entries_so_far, nothing_yet, read_so_far, with_bytes, with_entry, with_sent}
 use Rattle.panel_session.specs.Text.{IsText, frames_of, nothing_sent, output_from, with_frames}
-use Rattle.panel_session.specs.Turns.{bytes_of}
+use Rattle.panel_session.specs.Turns.{bytes_read}
 use Rattle.panel_session.proofs.KeptTurnLemmas.{keeps_text}
 use Rattle.panel_session.proofs.RoomLemmas.{fits-all}
 use Rattle.panel_session.proofs.SentLemmas.{polled_sent, told_sent}
@@ -42,7 +42,7 @@ stands_front bytes one other stands front = (
 
 all_front : (entries : List PlantEntry) (one other : List ℕ) → IsPrefix one other → All (IsAnsweredIn one) entries → All (IsAnsweredIn other) entries
 all_front entries one other front all =
-    All-weaker (IsAnsweredIn one) (IsAnsweredIn other) (λ entry stands. stands_front (joined (frames_of entry.answers)) one other stands front) entries all
+    All-weaker (IsAnsweredIn one) (IsAnsweredIn other) (λ entry stands. stands_front (bytes_in (frames_of entry.answers)) one other stands front) entries all
 
 pub answered_front : (entries : List PlantEntry) (one other : List ℕ) → IsPrefix one other → AnsweredButLast entries one → AnsweredButLast entries other
 answered_front entries one other front answered = λ before last is. all_front before one other front (answered before last is)
@@ -77,7 +77,7 @@ answered_bytes plant past bytes keeps = record {
       let is_had : IsText plant (items read) entries had = record { asked = ask.0; items_ask = ask.1; bytes = refl } in
       let whole = text_front plant read bytes entries had is_had in
       let TextOf : List ℕ → Type 0 = λ read. IsText plant (items read) entries text in
-      let here : IsText plant (items (read ++ bytes)) entries text = subst TextOf (sym (append_assoc (bytes_of past.turns) past.now.piece bytes)) is in
+      let here : IsText plant (items (read ++ bytes)) entries text = subst TextOf (sym (append_assoc (bytes_read past.turns) past.now.piece bytes)) is in
       let FrontOf : List ℕ → Type 0 = λ text. IsPrefix had text in
       let front = subst FrontOf (text_once plant (items (read ++ bytes)) entries whole.0 text whole.1 here) whole.2 in
       all_front entries had text front (keeps.text had is_had);
@@ -96,7 +96,7 @@ pub answered_entry : (plant : PlantData) (entry : PlantEntry) (past : Progress) 
 answered_entry plant entry past entries text says keeps =
     let before = entries_so_far past in
     let all : All (IsAnsweredIn past.sent) before = keeps.text past.sent text in
-    let frames = joined (frames_of entry.answers) in
+    let frames = bytes_in (frames_of entry.answers) in
     let whole = past.sent ++ frames in
     record {
       sent = λ front last is. (let Of : List PlantEntry → Type 0 = λ front. All (IsAnsweredIn past.sent) front in subst Of (sym ((same_from_push front before last entry (sym is ∙ entries)).0)) all);
@@ -122,8 +122,8 @@ unfolding StandsFor
 says_sent plant panel session after past entry fit fits none stands =
     let now = with_entry entry past in
     let sent = (with_frames (frames_of fit) (emptied session.sender.output)).bytes in
-    let bytes : sent ≡ joined (frames_of entry.answers) =
-    frames-bytes (frames_of fit) (emptied session.sender.output) ∙ ap (λ (answers : List Answer). joined (frames_of answers)) fits in
+    let bytes : sent ≡ bytes_in (frames_of entry.answers) =
+    frames-bytes (frames_of fit) (emptied session.sender.output) ∙ ap (λ (answers : List Answer). bytes_in (frames_of answers)) fits in
     let Says : List ℕ → Type 0 = λ bytes. IsText plant (items (read_so_far now)) (entries_so_far now) (past.sent ++ bytes) in
     subst Says bytes (keeps_text plant (kept_of after) (with_sent sent now) none stands.0.keeps)
 

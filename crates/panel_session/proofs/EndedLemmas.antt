@@ -19,7 +19,7 @@ use Rattle.panel_session.specs.ServedInside.{HasBrokenOff, GavePiece, HasTurned,
 use Rattle.panel_session.specs.Session.{Awaits, StandsFor, plant_of}
 use Rattle.panel_session.specs.SoFar.{Progress, FitsOn, IsSoFar, entries_so_far, nothing_yet, read_so_far}
 use Rattle.panel_session.specs.Text.{IsText}
-use Rattle.panel_session.specs.Turns.{Fits, Turn, bytes_of, entries_of_turns}
+use Rattle.panel_session.specs.Turns.{FitsReads, Turn, bytes_read, entries_of_turns}
 use Rattle.panel_session.proofs.ActsLemmas.{stands_so_far_lem}
 use Rattle.panel_session.proofs.FitsOnLemmas.{stands_fit}
 use Rattle.panel_session.proofs.BrokenOffLemmas.{broken_both}
@@ -100,9 +100,9 @@ module _ {plant : PlantData} {panel : ℕ} where
       let half : link_then.read_half ≡ record link_now.read_half { faults = count_after (read_failed_at end) link_now.read_half.faults } = ap (λ (link : LinkEnd). link.read_half) ended in
       let left : link_then.read_half.left ≡ link_now.read_half.left = ap (λ (half : ReadHalf). half.left) half in
       let of_turns : entries_of_turns past.turns ≡ entries = turned_entries t ∙ t.gone.entries in
-      let FitReads : List (List ℕ) → Type 0 = λ reads. Fits panel reads (entries_of_turns past.turns) in
-      let FitEntries : List PlantEntry → Type 0 = λ entries. Fits panel reads entries in
-      let fit : Fits panel reads entries = subst FitEntries of_turns (subst FitReads t.pieces (turns_fit_lem plant panel session past t.stands.0)) in
+      let FitReads : List (List ℕ) → Type 0 = λ reads. FitsReads panel reads (entries_of_turns past.turns) in
+      let FitEntries : List PlantEntry → Type 0 = λ entries. FitsReads panel reads entries in
+      let fit : FitsReads panel reads entries = subst FitEntries of_turns (subst FitReads t.pieces (turns_fit_lem plant panel session past t.stands.0)) in
       let TextOf : List ℕ → Type 0 = λ read. IsText plant (items read) (entries_of_turns past.turns) past.sent in
       let TextIn : List PlantEntry → Type 0 = λ entries. IsText plant (items (all_read reads)) entries past.sent in
       let TextIs : List ℕ → Type 0 = λ bytes. IsText plant (items (all_read reads)) entries bytes in
@@ -161,15 +161,15 @@ module _ {plant : PlantData} {panel : ℕ} where
       ap (λ (turns : List Turn). map (λ (turn : Turn). turn.piece) turns ++ (now.now.piece ++ s.rest) ∷ []) s.turns
       ∙ ap (λ (pieces : List (List ℕ)). pieces ++ (now.now.piece ++ s.rest) ∷ []) t.pieces
       ∙ ap (λ (piece : List ℕ). reads ++ piece ∷ []) s.piece_is in
-      let FitReads : List (List ℕ) → Type 0 = λ reads. Fits panel reads on.entries in
-      let FitEntries : List PlantEntry → Type 0 = λ entries. Fits panel all entries in
+      let FitReads : List (List ℕ) → Type 0 = λ reads. FitsReads panel reads on.entries in
+      let FitEntries : List PlantEntry → Type 0 = λ entries. FitsReads panel all entries in
       let behind : on.entries ≡ entries ++ on.front.0 = sym on.front.1 ∙ ap (λ (entries : List PlantEntry). entries ++ on.front.0) b.entries in
       let so_far = left_so_far plant panel session_then now s.left in
       let whole = text_front plant (read_so_far now) s.rest (entries_so_far now) so_far.text so_far.is_text in
       let read : read_so_far now ++ s.rest ≡ all_read all =
-      append_assoc (bytes_of now.turns) now.now.piece s.rest
-      ∙ ap (λ (turns : List Turn). bytes_of turns ++ (now.now.piece ++ s.rest)) s.turns
-      ∙ ap (λ (piece : List ℕ). bytes_of past.turns ++ piece) s.piece_is
+      append_assoc (bytes_read now.turns) now.now.piece s.rest
+      ∙ ap (λ (turns : List Turn). bytes_read turns ++ (now.now.piece ++ s.rest)) s.turns
+      ∙ ap (λ (piece : List ℕ). bytes_read past.turns ++ piece) s.piece_is
       ∙ ap (λ (bytes : List ℕ). bytes ++ piece) (read-pieces past.turns ∙ ap all_read t.pieces)
       ∙ sym (read-more reads piece) in
       let TextOf : List ℕ → Type 0 = λ read. IsText plant (items read) (entries_so_far now) whole.0 in

@@ -19,7 +19,7 @@ use Rattle.panel_session.specs.Entry.{PlantEntry}
 use Rattle.panel_session.specs.Session.{Stands, kept_of}
 use Rattle.panel_session.specs.SoFar.{Progress, FitsOn, poll_now}
 use Rattle.panel_session.specs.StandsInside.{Kept, Keeps, IsAtStage}
-use Rattle.panel_session.specs.Turns.{Turn, AreTurns, ArePolls, IsTurn, bytes_of, entries_of_turns, poll_behind, requests}
+use Rattle.panel_session.specs.Turns.{Turn, AreTurns, ArePolls, IsTurn, bytes_read, entries_of_turns, poll_behind, requests}
 use Rattle.panel_session.proofs.EntryLemmas.{all_ask-append}
 use Rattle.panel_session.proofs.KeptTurnLemmas.{are_turns-append, entries_of-append, told_all, told_front}
 use Rattle.panel_session.proofs.TextFronts.{all_ask}
@@ -72,7 +72,7 @@ fits_turn panel past turn are is front =
 fits_unpolled : (plant : PlantData) (kept : Kept) (past : Progress) (rest : List ℕ) → Keeps plant kept past → past.now.polls ≡ [] → FitsOn kept.panel past (past.now.piece ++ rest)
 fits_unpolled plant kept past rest k none =
     let panel = kept.panel in
-    let text = bytes_of past.turns in
+    let text = bytes_read past.turns in
     let first = length (items text) in
     let n = first + length k.asked in
     let more = items_front (text ++ past.now.piece) ((text ++ past.now.piece) ++ rest) (rest, refl) in
@@ -117,7 +117,7 @@ fits_polled : (plant : PlantData) (kept : Kept) (past : Progress) (polls : List 
 fits_polled plant kept past polls k some are front =
     let panel = kept.panel in
     let turn : Turn = record { piece = past.now.piece; told = past.now.told; polls = polls } in
-    let first = length (items (bytes_of past.turns)) in
+    let first = length (items (bytes_read past.turns)) in
     let is_turn : IsTurn panel past.turns turn = record {
       ended = k.ended;
       end_in = k.end_in;
@@ -133,15 +133,15 @@ fits_polled plant kept past polls k some are front =
 polls_on : (plant : PlantData) (kept : Kept) (past : Progress) (k : Keeps plant kept past) → past.now.polls ≢ [] → (phase : Phase) → kept.phase ≡ phase
     → (polls : List PlantEntry) × ArePolls (poll_now kept.panel past) polls × IsPrefix past.now.polls polls
 polls_on plant kept past k some Read is =
-    let P : Phase → Type 0 = λ phase. IsAtStage phase kept.panel (length (items (bytes_of past.turns))) k.before k.asked past in
+    let P : Phase → Type 0 = λ phase. IsAtStage phase kept.panel (length (items (bytes_read past.turns))) k.before k.asked past in
     let at = subst P is k.phase in
     absurd (some at.1)
 polls_on plant kept past k some (Tell message) is =
-    let P : Phase → Type 0 = λ phase. IsAtStage phase kept.panel (length (items (bytes_of past.turns))) k.before k.asked past in
+    let P : Phase → Type 0 = λ phase. IsAtStage phase kept.panel (length (items (bytes_read past.turns))) k.before k.asked past in
     let at = subst P is k.phase in
     absurd (some at.3)
 polls_on plant kept past k some PollStage is =
-    let P : Phase → Type 0 = λ phase. IsAtStage phase kept.panel (length (items (bytes_of past.turns))) k.before k.asked past in
+    let P : Phase → Type 0 = λ phase. IsAtStage phase kept.panel (length (items (bytes_read past.turns))) k.before k.asked past in
     let at = subst P is k.phase in
     let last = unanswered kept.panel (poll_now kept.panel past) in (
       past.now.polls ++ last ∷ [],
@@ -157,7 +157,7 @@ polls_on plant kept past k some PollStage is =
       (last ∷ [], refl),
     )
 polls_on plant kept past k some End is =
-    let P : Phase → Type 0 = λ phase. IsAtStage phase kept.panel (length (items (bytes_of past.turns))) k.before k.asked past in
+    let P : Phase → Type 0 = λ phase. IsAtStage phase kept.panel (length (items (bytes_read past.turns))) k.before k.asked past in
     let at = subst P is k.phase in
     (past.now.polls, at.1, ([], append-nil past.now.polls))
 

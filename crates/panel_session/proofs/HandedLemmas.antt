@@ -19,7 +19,7 @@ use Rattle.panel_session.specs.Asked.{GoodAsks, Asks, AllAsk}
 use Rattle.panel_session.specs.AskedInside.{FoundAsks, MayAsk}
 use Rattle.panel_session.specs.MovesInside.{apart, goes_apart, took}
 use Rattle.panel_session.specs.NamePages.{name_frames}
-use Rattle.panel_session.specs.OneSend.{IsOneSend, IsSentAgain, joined}
+use Rattle.panel_session.specs.OneSend.{IsOneSend, IsSentAgain, bytes_in}
 use Rattle.panel_session.specs.OutgoingInside.{emptied}
 use Rattle.panel_session.specs.ReadingInside.{IsReading, HasRead, HasReadOn, HasTaken}
 use Rattle.panel_session.specs.Session.{Stands, made_by}
@@ -27,7 +27,7 @@ use Rattle.panel_session.specs.SoFar.{Progress, read_so_far, entries_so_far, wit
 use Rattle.panel_session.specs.StandsInside.{Kept, Keeps}
 use Rattle.panel_session.specs.TakenInside.{sent_by, IsSending}
 use Rattle.panel_session.specs.Text.{Output, repeated, with_control, with_frames}
-use Rattle.panel_session.specs.Turns.{bytes_of}
+use Rattle.panel_session.specs.Turns.{bytes_read}
 use Rattle.panel_session.proofs.ActsLemmas.{has_taken_item}
 use Rattle.panel_session.proofs.EntryLemmas.{all_ask-append}
 use Rattle.panel_session.proofs.KeptItemLemmas.{read-more}
@@ -90,7 +90,7 @@ sent_again plant panel session past bytes item stands none adds asks some =
       before = items (read_so_far past);
       last_item = adds ∙ ap (λ (item : Item (List ℕ)). items (read_so_far past) ++ item ∷ []) (nak_of item asks);
       asked = k.before ++ k.asked;
-      ask = subst AskOf (sym k.end_in) (all_ask-append (items (bytes_of past.turns)) k.ended k.before k.asked k.ask_before k.ask);
+      ask = subst AskOf (sym k.end_in) (all_ask-append (items (bytes_read past.turns)) k.ended k.before k.asked k.ask_before k.ask);
       last_frame = ap (λ (output : Output). output.last) k.output ∙ sent_last session.sender.output.last session.sender.output.repeats some;
     }
 
@@ -106,7 +106,7 @@ whole plant panel session now false has one = record {
 }
 
 -- the bytes of an ACK and the pages of names behind it
-pages_behind_ack : (plant : PlantData) (message : Message) (output : Output) → (with_frames (name_frames plant message) (with_control ack (emptied output))).bytes ≡ ack ++ joined (name_frames plant message)
+pages_behind_ack : (plant : PlantData) (message : Message) (output : Output) → (with_frames (name_frames plant message) (with_control ack (emptied output))).bytes ≡ ack ++ bytes_in (name_frames plant message)
 pages_behind_ack plant message output = frames-bytes (name_frames plant message) (with_control ack (emptied output))
 
 -- a list of at most two behind two is empty
@@ -121,15 +121,15 @@ some_behind rest bytes is more none = absurd (omega (arith, ltb-true 2 (length b
 
 -- An ACK goes by itself where pages of names are behind it.
 named_apart : (plant : PlantData) (panel : ℕ) (session : Session) (now : Progress) (before : List (Item (List ℕ))) (carried : List ℕ) (message : Message) (parted : Bool)
-    → HasTaken plant panel now true session → made_by session ≡ ack ++ joined (name_frames plant message) → parted ≡ nat_lt 2 (length (made_by session))
+    → HasTaken plant panel now true session → made_by session ≡ ack ++ bytes_in (name_frames plant message) → parted ≡ nat_lt 2 (length (made_by session))
     → items (read_so_far now) ≡ before ++ Good carried ∷ [] → GoodAsks carried (Named message)
     → HasRead plant panel now true (apart parted session)
 named_apart plant panel session now before carried message false has made few adds asks =
-    let rest = joined (name_frames plant message) in
+    let rest = bytes_in (name_frames plant message) in
     let none : rest ≡ [] = none_behind rest (made_by session) made (sym few) in
     whole plant panel session now true has (λ _. inl (made ∙ ap (λ (rest : List ℕ). ack ++ rest) none))
 named_apart plant panel session now before carried message true has made more adds asks =
-    let rest = joined (name_frames plant message) in
+    let rest = bytes_in (name_frames plant message) in
     let pages : drop 2 (made_by session) ≡ rest = ap (λ (bytes : List ℕ). drop 2 bytes) made in
     let front : take 2 (made_by session) ≡ ack = ap (λ (bytes : List ℕ). take 2 bytes) made in
     let some : drop 2 (made_by session) ≢ [] = λ none. some_behind rest (made_by session) made (sym more) (sym pages ∙ none) in (

@@ -16,7 +16,7 @@ use Rattle.panel_session.specs.declared.session.phase.Phase.{Phase}
 use Rattle.panel_session.specs.declared.session.phase.Phase.TheVariants.{Read, Tell, Poll as PollStage, End}
 use Rattle.panel_session.specs.Entry.{PlantEntry}
 use Rattle.panel_session.specs.Asked.{sent_to_plant}
-use Rattle.panel_session.specs.Turns.{bytes_of, entries_of_turns, Turn}
+use Rattle.panel_session.specs.Turns.{bytes_read, entries_of_turns, Turn}
 use Rattle.panel_session.specs.Text.{Output, frames_of, with_frames, nothing_sent, output_from, told_at, polled_by, polled_at, with_control}
 use Rattle.panel_session.specs.OutgoingInside.{emptied}
 use Rattle.panel_session.specs.SoFar.{Progress, read_so_far, entries_so_far, with_sent, with_entry}
@@ -49,7 +49,7 @@ keeps_sent plant kept past is k =
       polls_are = k.polls_are;
       within = k.within;
       polls = k.polls;
-      phase = phase-sent kept.phase kept.panel (length (items (bytes_of past.turns))) k.before k.asked past kept.output.bytes k.phase;
+      phase = phase-sent kept.phase kept.panel (length (items (bytes_read past.turns))) k.before k.asked past kept.output.bytes k.phase;
       none_from = k.none_from;
       output = k.output ∙ ap (behind past.sent) all ∙ sent-behind past.sent kept.output;
     }
@@ -103,7 +103,7 @@ keeps_unsent plant kept past front rest k = record {
   polls_are = k.polls_are;
   within = k.within;
   polls = k.polls;
-  phase = phase-unsent kept.phase kept.panel (length (items (bytes_of past.turns))) k.before k.asked past (front ++ rest) front k.phase;
+  phase = phase-unsent kept.phase kept.panel (length (items (bytes_read past.turns))) k.before k.asked past (front ++ rest) front k.phase;
   none_from = k.none_from;
   output = k.output ∙ ap (λ (bytes : List ℕ). record kept.output { bytes = bytes }) (append-nil (past.sent ++ (front ++ rest)) ∙ sym (append_assoc past.sent front rest));
 }
@@ -135,7 +135,7 @@ keeps_told plant panel count turns polls seat message output past answers unsent
     let kept : Kept = record { panel = panel; phase = Tell message; items = count; turns = turns; polls = polls; output = output; unsent = false } in
     let front = k.phase.0 in
     let asked_is : k.asked ≡ front ++ Sent message ∷ [] = k.phase.1 in
-    let first = length (items (bytes_of past.turns)) in
+    let first = length (items (bytes_read past.turns)) in
     let E = entries_so_far past in
     let all = length-asked plant kept past k in
     let before_all = length-before plant kept past k in
@@ -215,9 +215,9 @@ polled_phase (answer ∷ answers) polls = if nat_eq (polls + 1) 32 then End else
 pub keeps_polled_to : (plant : PlantData) (phase : Phase) (panel count turns polls seat : ℕ) (output : Output) (past : Progress) (answers : List Answer) (unsent : Bool)
     → Keeps plant (record { panel = panel; phase = PollStage; items = count; turns = turns; polls = polls; output = output; unsent = false }) past
     → (unsent ≡ false → (with_frames (frames_of answers) (emptied output)).bytes ≡ [])
-    → ((before asked : List Asked) → IsAtStage PollStage panel (length (items (bytes_of past.turns))) before asked past
+    → ((before asked : List Asked) → IsAtStage PollStage panel (length (items (bytes_read past.turns))) before asked past
     → AllTold 0 (before ++ asked) (entries_so_far (with_entry (record { seat = seat; request = Poll panel count turns; answers = answers }) past))
-    → IsAtStage phase panel (length (items (bytes_of past.turns))) before asked (with_entry (record { seat = seat; request = Poll panel count turns; answers = answers }) past))
+    → IsAtStage phase panel (length (items (bytes_read past.turns))) before asked (with_entry (record { seat = seat; request = Poll panel count turns; answers = answers }) past))
     → Keeps plant (record { panel = panel; phase = phase; items = count; turns = turns; polls = polls + 1; output = with_frames (frames_of answers) (emptied output); unsent = unsent })
     (with_entry (record { seat = seat; request = Poll panel count turns; answers = answers }) past)
 keeps_polled_to plant phase panel count turns polls seat output past answers unsent k none phase_then =

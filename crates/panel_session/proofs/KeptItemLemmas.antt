@@ -19,7 +19,7 @@ use Rattle.panel_session.specs.declared.session.phase.Phase.TheVariants.{Read, T
 use Rattle.panel_session.specs.Entry.{PlantEntry}
 use Rattle.plant_core.specs.State.{IsForPlant}
 use Rattle.panel_session.specs.Asked.{Asks, sent_to_plant}
-use Rattle.panel_session.specs.Turns.{bytes_of}
+use Rattle.panel_session.specs.Turns.{bytes_read}
 use Rattle.panel_session.specs.Text.{Output, with_frames, nothing_sent, output_from, polled_at, with_control, repeated, with_polls}
 use Rattle.panel_session.specs.NamePages.{name_frames}
 use Rattle.panel_session.specs.OutgoingInside.{emptied}
@@ -32,15 +32,15 @@ use Rattle.panel_session.proofs.EntryLemmas.{length-ask, all_ask-append, all_tol
 -- as many things are asked as there are items
 pub length-asked : (plant : PlantData) (kept : Kept) (past : Progress) (k : Keeps plant kept past) → length (k.before ++ k.asked) ≡ length (items (read_so_far past))
 length-asked plant kept past k =
-    length-ask (items (bytes_of past.turns) ++ k.ended) (k.before ++ k.asked) (all_ask-append (items (bytes_of past.turns)) k.ended k.before k.asked k.ask_before k.ask)
+    length-ask (items (bytes_read past.turns) ++ k.ended) (k.before ++ k.asked) (all_ask-append (items (bytes_read past.turns)) k.ended k.before k.asked k.ask_before k.ask)
     ∙ ap (length {A = Item (List ℕ)}) (sym k.end_in)
 
-pub length-before : (plant : PlantData) (kept : Kept) (past : Progress) (k : Keeps plant kept past) → length k.before ≡ length (items (bytes_of past.turns))
-length-before plant kept past k = length-ask (items (bytes_of past.turns)) k.before k.ask_before
+pub length-before : (plant : PlantData) (kept : Kept) (past : Progress) (k : Keeps plant kept past) → length k.before ≡ length (items (bytes_read past.turns))
+length-before plant kept past k = length-ask (items (bytes_read past.turns)) k.before k.ask_before
 
 -- bytes more of the present piece
 pub read-more : (past : Progress) (bytes : List ℕ) → read_so_far past ++ bytes ≡ read_so_far (with_bytes bytes past)
-read-more past bytes = append_assoc (bytes_of past.turns) past.now.piece bytes
+read-more past bytes = append_assoc (bytes_read past.turns) past.now.piece bytes
 
 -- where no item is behind, polls there give nothing
 pub no_polls : (n : ℕ) (entries : List PlantEntry) (output : Output) → polled_at n entries ≡ [] → with_polls n entries output ≡ output
@@ -142,7 +142,7 @@ pub keeps_item : (plant : PlantData) (a : Asked) (item : Item (List ℕ)) (panel
     → Keeps plant (taken plant a panel count turns polls output) (with_sent (sent_by plant a output) (with_bytes bytes past))
 keeps_item plant a item panel count turns polls output past bytes k adds asks =
     let text = read_so_far past in
-    let first = length (items (bytes_of past.turns)) in
+    let first = length (items (bytes_read past.turns)) in
     let more : items (read_so_far (with_bytes bytes past)) ≡ items text ++ item ∷ [] = ap items (sym (read-more past bytes)) ∙ adds in
     let counted : length (items (read_so_far (with_bytes bytes past))) ≡ length (items text) + 1 = ap (length {A = Item (List ℕ)}) more ∙ length-append (items text) (item ∷ []) in
     let all : length (k.before ++ k.asked) ≡ length (items text) = length-asked plant (reading panel count turns polls output) past k in
@@ -157,7 +157,7 @@ keeps_item plant a item panel count turns polls output past bytes k adds asks =
       before = k.before;
       ask_before = k.ask_before;
       ended = k.ended ++ item ∷ [];
-      end_in = more ∙ ap (λ (its : List (Item (List ℕ))). its ++ item ∷ []) k.end_in ∙ append_assoc (items (bytes_of past.turns)) k.ended (item ∷ []);
+      end_in = more ∙ ap (λ (its : List (Item (List ℕ))). its ++ item ∷ []) k.end_in ∙ append_assoc (items (bytes_read past.turns)) k.ended (item ∷ []);
       asked = k.asked ++ a ∷ [];
       ask = all_ask-append k.ended (item ∷ []) k.asked (a ∷ []) k.ask (asks, tt);
       items_are = ap (λ (n : ℕ). n + 1) k.items_are ∙ sym counted;

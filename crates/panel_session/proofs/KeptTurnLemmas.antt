@@ -16,7 +16,7 @@ use Rattle.panel_session.specs.declared.session.phase.Phase.{Phase}
 use Rattle.panel_session.specs.declared.session.phase.Phase.TheVariants.{Read, Tell, Poll as PollStage, End}
 use Rattle.panel_session.specs.Entry.{PlantEntry}
 use Rattle.panel_session.specs.Asked.{AllAsk, sent_to_plant}
-use Rattle.panel_session.specs.Turns.{bytes_of, entries_of_turns, requests, AreTurns, IsTurn, Turn}
+use Rattle.panel_session.specs.Turns.{bytes_read, entries_of_turns, requests, AreTurns, IsTurn, Turn}
 use Rattle.panel_session.specs.Text.{Output, frames_of, with_frames, nothing_sent, output_from, IsText}
 use Rattle.panel_session.specs.OutgoingInside.{emptied}
 use mathlib.Core.List.{IsPrefix}
@@ -66,8 +66,8 @@ are_turns-append panel turns turn are is before after other split =
     ]
 
 -- the bytes and the entries of one turn more
-pub bytes_of-append : (turns : List Turn) (turn : Turn) → bytes_of (turns ++ turn ∷ []) ≡ bytes_of turns ++ turn.piece
-bytes_of-append turns turn = flat_map-append (λ (turn : Turn). turn.piece) turns (turn ∷ []) ∙ ap (λ (piece : List ℕ). bytes_of turns ++ piece) (append-nil turn.piece)
+pub bytes_of-append : (turns : List Turn) (turn : Turn) → bytes_read (turns ++ turn ∷ []) ≡ bytes_read turns ++ turn.piece
+bytes_of-append turns turn = flat_map-append (λ (turn : Turn). turn.piece) turns (turn ∷ []) ∙ ap (λ (piece : List ℕ). bytes_read turns ++ piece) (append-nil turn.piece)
 
 pub entries_of-append : (turns : List Turn) (turn : Turn) → entries_of_turns (turns ++ turn ∷ []) ≡ entries_of_turns turns ++ (turn.told ++ turn.polls)
 entries_of-append turns turn =
@@ -84,8 +84,8 @@ pub keeps_turn : (plant : PlantData) (panel count turns polls : ℕ) (output : O
     → Keeps plant (reading panel count (turns + 1) 0 output) (with_turn past)
 keeps_turn plant panel count turns polls output past k =
     let later = with_turn past in
-    let bytes : bytes_of later.turns ≡ read_so_far past = bytes_of-append past.turns past.now in
-    let read : read_so_far later ≡ read_so_far past = append-nil (bytes_of later.turns) ∙ bytes in
+    let bytes : bytes_read later.turns ≡ read_so_far past = bytes_of-append past.turns past.now in
+    let read : read_so_far later ≡ read_so_far past = append-nil (bytes_read later.turns) ∙ bytes in
     let entries : entries_so_far later ≡ entries_so_far past = append-nil (entries_of_turns later.turns) ∙ entries_of-append past.turns past.now in
     let AskOf : List (Item (List ℕ)) → Type 0 = λ its. AllAsk its (k.before ++ k.asked) in
     let Told_of : List Asked → Type 0 = λ asked. AllTold 0 asked (entries_so_far past) in
@@ -96,9 +96,9 @@ keeps_turn plant panel count turns polls output past k =
     record {
       turns = are_turns-append panel past.turns past.now k.turns (turn_over plant panel count turns polls output past k);
       before = k.before ++ k.asked;
-      ask_before = subst AskOf (sym (ap items bytes ∙ k.end_in)) (all_ask-append (items (bytes_of past.turns)) k.ended k.before k.asked k.ask_before k.ask);
+      ask_before = subst AskOf (sym (ap items bytes ∙ k.end_in)) (all_ask-append (items (bytes_read past.turns)) k.ended k.before k.asked k.ask_before k.ask);
       ended = [];
-      end_in = ap items (append-nil (bytes_of later.turns)) ∙ sym (append-nil (items (bytes_of later.turns)));
+      end_in = ap items (append-nil (bytes_read later.turns)) ∙ sym (append-nil (items (bytes_read later.turns)));
       asked = [];
       ask = tt;
       items_are = k.items_are ∙ sym counted;
@@ -145,7 +145,7 @@ keeps_text plant kept past is k =
     let nothing : pending kept ≡ emptied kept.output = ap (λ (test : Bool). if test then kept.output else emptied kept.output) is in
     record {
       asked = k.before ++ k.asked;
-      items_ask = subst AskOf (sym k.end_in) (all_ask-append (items (bytes_of past.turns)) k.ended k.before k.asked k.ask_before k.ask);
+      items_ask = subst AskOf (sym k.end_in) (all_ask-append (items (bytes_read past.turns)) k.ended k.before k.asked k.ask_before k.ask);
       bytes = sym (ap (λ (output : Output). output.bytes) (k.output ∙ ap (behind past.sent) nothing) ∙ append-nil past.sent);
     }
 
@@ -171,7 +171,7 @@ told_all End panel first before asked past at some = at.0
 pub keeps_so_far : (plant : PlantData) (kept : Kept) (past : Progress) → Keeps plant kept past → IsSoFar plant kept.panel past
 keeps_so_far plant kept past k =
     let AskOf : List (Item (List ℕ)) → Type 0 = λ its. AllAsk its (k.before ++ k.asked) in
-    let first = length (items (bytes_of past.turns)) in
+    let first = length (items (bytes_read past.turns)) in
     record {
       turns = k.turns;
       ended = k.ended;
@@ -185,7 +185,7 @@ keeps_so_far plant kept past k =
       text = (output_from plant 0 (k.before ++ k.asked) (entries_so_far past) nothing_sent).bytes;
       is_text = record {
         asked = k.before ++ k.asked;
-        items_ask = subst AskOf (sym k.end_in) (all_ask-append (items (bytes_of past.turns)) k.ended k.before k.asked k.ask_before k.ask);
+        items_ask = subst AskOf (sym k.end_in) (all_ask-append (items (bytes_read past.turns)) k.ended k.before k.asked k.ask_before k.ask);
         bytes = refl;
       };
       sent = ((pending kept).bytes, sym (ap (λ (output : Output). output.bytes) k.output));

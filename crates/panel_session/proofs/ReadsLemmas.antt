@@ -9,7 +9,7 @@ use Rattle.dle_framing.specs.declared.item.Item.{Item}
 use Rattle.dle_framing.specs.Items.{Reading as ItemReading, items}
 use Rattle.dle_framing.proofs.Readings.{reading-by_start}
 use Rattle.panel_session.specs.Served.{AreTaken, all_read, idles_after, read_of, read_room}
-use Rattle.panel_session.specs.Turns.{Turn, bytes_of}
+use Rattle.panel_session.specs.Turns.{Turn, bytes_read}
 use Rattle.panel_session.proofs.ByteEnds.{byte_ends}
 
 -- a byte ends at most one item, so there are no more of them than bytes
@@ -44,7 +44,7 @@ read-append (read ∷ one) other = ap (λ (bytes : List ℕ). read ++ bytes) (re
 pub read-more : (reads : List (List ℕ)) (piece : List ℕ) → all_read (reads ++ piece ∷ []) ≡ all_read reads ++ piece
 read-more reads piece = read-append reads (piece ∷ []) ∙ ap (λ (bytes : List ℕ). all_read reads ++ bytes) (append-nil piece)
 
-pub read-pieces : (turns : List Turn) → bytes_of turns ≡ all_read (map (λ turn. turn.piece) turns)
+pub read-pieces : (turns : List Turn) → bytes_read turns ≡ all_read (map (λ turn. turn.piece) turns)
 read-pieces [] = refl
 read-pieces (turn ∷ turns) = ap (λ (bytes : List ℕ). turn.piece ++ bytes) (read-pieces turns)
 

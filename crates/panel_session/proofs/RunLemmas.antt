@@ -19,8 +19,8 @@ use Rattle.panel_session.specs.Entry.{PlantEntry}
 use Rattle.panel_session.specs.Run.{MayTurn, HasRun}
 use Rattle.panel_session.specs.RunInside.{IsUnderWay}
 use Rattle.panel_session.specs.Session.{StandsFor}
-use Rattle.panel_session.specs.SoFar.{Progress, unread, read_so_far, with_bytes, with_sent, with_entry}
-use Rattle.panel_session.specs.Turns.{Turn, bytes_of, entries_in, entries_of_turns, IsTurn}
+use Rattle.panel_session.specs.SoFar.{Progress, unstarted, read_so_far, with_bytes, with_sent, with_entry}
+use Rattle.panel_session.specs.Turns.{Turn, bytes_read, entries_in, entries_of_turns, IsTurn}
 use Rattle.panel_session.specs.Text.{IsText}
 
 -- nothing is left of nothing
@@ -62,11 +62,11 @@ module _ {State : Type 0} {step : State → Request → Stepped State Answer} {F
       → IsUnderWay step Fits plant panel past piece machine machine_now session_now rest now more → MayGoOn now rest
   may_go_on {now = now} {rest = rest} may way =
       let read : read_so_far now ++ rest ≡ read_so_far past ++ piece =
-      append_assoc (bytes_of now.turns) now.now.piece rest
-      ∙ ap (λ (bytes : List ℕ). bytes_of now.turns ++ bytes) way.piece_is
-      ∙ ap (λ (turns : List Turn). bytes_of turns ++ piece) way.turns
+      append_assoc (bytes_read now.turns) now.now.piece rest
+      ∙ ap (λ (bytes : List ℕ). bytes_read now.turns ++ bytes) way.piece_is
+      ∙ ap (λ (turns : List Turn). bytes_read turns ++ piece) way.turns
       ∙ ap (λ (bytes : List ℕ). bytes ++ piece)
-      (sym (append-nil (bytes_of past.turns)) ∙ ap (λ (turn : Turn). bytes_of past.turns ++ turn.piece) (sym may.begins)) in
+      (sym (append-nil (bytes_read past.turns)) ∙ ap (λ (turn : Turn). bytes_read past.turns ++ turn.piece) (sym may.begins)) in
       let Few : List ℕ → Type 0 = λ text. length (items text) < 2 ^ 62 in
       let FewTurns : ℕ → Type 0 = λ n. n < 2 ^ 62 in
       record {
@@ -186,8 +186,8 @@ module _ {State : Type 0} {step : State → Request → Stepped State Answer} {F
       let turn : Turn = record now.now { piece = now.now.piece ++ take used rest } in
       let all : take used rest ≡ rest = take_all used rest (omega (arith, acts.0)) in
       let TurnBehind : List Turn → Type 0 = λ turns. IsTurn panel turns turn in
-      let TextBehind : List Turn → Type 0 = λ turns. IsText plant (items (bytes_of turns ++ turn.piece)) (entries_of_turns turns ++ entries_in turn) now.sent in
-      let TextOf : List ℕ → Type 0 = λ sent. IsText plant (items (bytes_of past.turns ++ turn.piece)) (entries_of_turns past.turns ++ entries_in turn) sent in
+      let TextBehind : List Turn → Type 0 = λ turns. IsText plant (items (bytes_read turns ++ turn.piece)) (entries_of_turns turns ++ entries_in turn) now.sent in
+      let TextOf : List ℕ → Type 0 = λ sent. IsText plant (items (bytes_read past.turns ++ turn.piece)) (entries_of_turns past.turns ++ entries_in turn) sent in
       let At : Progress → Type 0 = λ past. StandsFor plant panel after past in
       record {
         turn = turn;
@@ -200,8 +200,8 @@ module _ {State : Type 0} {step : State → Request → Stepped State Answer} {F
         };
         machine_is = way.machine_is;
         stands = subst At
-            (ap (λ (turns : List Turn). record { turns = turns ++ turn ∷ []; now = unread; sent = now.sent }) way.turns
-            ∙ ap (λ (sent : List ℕ). record { turns = past.turns ++ turn ∷ []; now = unread; sent = sent }) way.sent) acts.2;
+            (ap (λ (turns : List Turn). record { turns = turns ++ turn ∷ []; now = unstarted; sent = now.sent }) way.turns
+            ∙ ap (λ (sent : List ℕ). record { turns = past.turns ++ turn ∷ []; now = unstarted; sent = sent }) way.sent) acts.2;
       }
 
 -- A turn that went on, with bytes more,

@@ -23,10 +23,10 @@ use Rattle.panel_session.specs.ReadingInside.{IsReading, HasTaken}
 use Rattle.panel_session.specs.RoomsInside.{fitting}
 use Rattle.panel_session.specs.SenderKept.{sending}
 use Rattle.panel_session.specs.Session.{StandsFor, Awaits, AsksAt, kept_of, made_by, with_outbox}
-use Rattle.panel_session.specs.SoFar.{Progress, unread, read_so_far, with_sent, with_entry}
+use Rattle.panel_session.specs.SoFar.{Progress, unstarted, read_so_far, with_sent, with_entry}
 use Rattle.panel_session.specs.StandsInside.{Kept, Keeps, IsAtStage, behind}
 use Rattle.panel_session.specs.Text.{Output, frames_of, with_frames}
-use Rattle.panel_session.specs.Turns.{Turn, bytes_of}
+use Rattle.panel_session.specs.Turns.{Turn, bytes_read}
 use Rattle.panel_session.proofs.ActsLemmas.{no_bytes}
 use Rattle.panel_session.proofs.KeptItemLemmas.{length-asked, length-before}
 use Rattle.panel_session.proofs.OutputLemmas.{frames-behind}
@@ -122,23 +122,23 @@ told_is plant panel session past request message awaits tell =
 pub polls_none : (plant : PlantData) (panel : ℕ) (session : Session) (past : Progress) → IsReading plant panel session past → session.polls ≡ 0
 polls_none plant panel session past reading =
     let k = reading.stands.keeps in
-    let StageAt : Phase → Type 0 = λ phase. IsAtStage phase session.panel (length (items (bytes_of past.turns))) k.before k.asked past in
+    let StageAt : Phase → Type 0 = λ phase. IsAtStage phase session.panel (length (items (bytes_read past.turns))) k.before k.asked past in
     let at = subst StageAt reading.phase k.phase in
     let polls_are : session.polls ≡ length past.now.polls = k.polls_are in
     polls_are ∙ ap (length {A = PlantEntry}) at.1
 
 -- A session that stands for a past whose present turn read nothing and made no poll reads.
-pub reads_unread : (plant : PlantData) (panel : ℕ) (session : Session) (past : Progress) (phase : Phase) → session.phase ≡ phase → StandsFor plant panel session past → past.now ≡ unread → session.phase ≡ Read
+pub reads_unread : (plant : PlantData) (panel : ℕ) (session : Session) (past : Progress) (phase : Phase) → session.phase ≡ phase → StandsFor plant panel session past → past.now ≡ unstarted → session.phase ≡ Read
 unfolding StandsFor
 reads_unread plant panel session past Read is stands begins = is
 reads_unread plant panel session past (Tell message) is stands begins =
     let k = stands.0.keeps in
-    let StageAt : Phase → Type 0 = λ phase. IsAtStage phase session.panel (length (items (bytes_of past.turns))) k.before k.asked past in
+    let StageAt : Phase → Type 0 = λ phase. IsAtStage phase session.panel (length (items (bytes_read past.turns))) k.before k.asked past in
     let at = subst StageAt is k.phase in
     let all = length-asked plant (kept_of session) past k in
     let front = length-before plant (kept_of session) past k in
     let asked_is : k.asked ≡ at.0 ++ Sent message ∷ [] = at.1 in
-    let read : read_so_far past ≡ bytes_of past.turns = ap (λ (turn : Turn). bytes_of past.turns ++ turn.piece) begins ∙ append-nil (bytes_of past.turns) in
+    let read : read_so_far past ≡ bytes_read past.turns = ap (λ (turn : Turn). bytes_read past.turns ++ turn.piece) begins ∙ append-nil (bytes_read past.turns) in
     absurd (omega (
       arith,
       all,
@@ -151,7 +151,7 @@ reads_unread plant panel session past (Tell message) is stands begins =
 reads_unread plant panel session past PollStage is stands begins = absurd (stands.2 is (ap (λ (turn : Turn). turn.polls) begins))
 reads_unread plant panel session past End is stands begins =
     let k = stands.0.keeps in
-    let StageAt : Phase → Type 0 = λ phase. IsAtStage phase session.panel (length (items (bytes_of past.turns))) k.before k.asked past in
+    let StageAt : Phase → Type 0 = λ phase. IsAtStage phase session.panel (length (items (bytes_read past.turns))) k.before k.asked past in
     let at = subst StageAt is k.phase in
     let none : past.now.polls ≡ [] = ap (λ (turn : Turn). turn.polls) begins in
     absurd (omega (arith, ap (length {A = PlantEntry}) at.1.polls_are, ap (length {A = PlantEntry}) none, length-append at.1.answered (at.1.last ∷ [])))

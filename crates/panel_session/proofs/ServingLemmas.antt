@@ -17,9 +17,9 @@ use Rattle.panel_session.specs.Run.{turned}
 use Rattle.panel_session.specs.Served.{PlantSeat, was_cut, write_failed_at}
 use Rattle.panel_session.specs.ServedInside.{Outside, EndsAtRequest, HasServed, IsTraced, IsGiven, IsServing, KeepsAnswered, WasStopped, outside}
 use Rattle.panel_session.specs.Session.{StandsFor}
-use Rattle.panel_session.specs.SoFar.{Progress, entries_so_far, read_so_far, unread, with_bytes, with_entry, with_sent}
+use Rattle.panel_session.specs.SoFar.{Progress, entries_so_far, read_so_far, unstarted, with_bytes, with_entry, with_sent}
 use Rattle.panel_session.specs.Text.{IsText}
-use Rattle.panel_session.specs.Turns.{Turn, bytes_of, entries_in, entries_of_turns}
+use Rattle.panel_session.specs.Turns.{Turn, bytes_read, entries_in, entries_of_turns}
 use Rattle.panel_session.proofs.AnsweredLemmas.{answered_bytes, answered_entry, answered_same, answered_sent}
 use Rattle.panel_session.proofs.BrokenOffLemmas.{broken_asked, broken_both, broken_full, broken_sent}
 use Rattle.panel_session.proofs.GoneOnLemmas.{appended-none, entries-more, gone_asked, gone_both, gone_sent, sees_none, sees_own}
@@ -67,7 +67,7 @@ given_answered plant panel now rest {seat = seat} used request answers number ke
 
 module _ {plant : PlantData} {panel : ℕ} {past : Progress} {piece : List ℕ} where
   -- A turn begins.
-  pub serving_begins : (session : Session) (begun : Outside) → StandsFor plant panel session past → past.now ≡ unread → KeepsAnswered plant past → IsServing plant panel past piece session begun begun piece
+  pub serving_begins : (session : Session) (begun : Outside) → StandsFor plant panel session past → past.now ≡ unstarted → KeepsAnswered plant past → IsServing plant panel past piece session begun begun piece
   serving_begins session begun stands begins keeps = record {
     now = past;
     gone = record {
@@ -88,15 +88,15 @@ module _ {plant : PlantData} {panel : ℕ} {past : Progress} {piece : List ℕ} 
   }
 
   -- What is left of the piece may go on the turn so far.
-  pub serving_may : {session : Session} {begun now_outside : Outside} {rest : List ℕ} (w : IsServing plant panel past piece session begun now_outside rest) → past.now ≡ unread → MayGoOn past piece → MayGoOn w.now rest
+  pub serving_may : {session : Session} {begun now_outside : Outside} {rest : List ℕ} (w : IsServing plant panel past piece session begun now_outside rest) → past.now ≡ unstarted → MayGoOn past piece → MayGoOn w.now rest
   serving_may {rest = rest} w begins may =
       let now = w.now in
       let read : read_so_far now ++ rest ≡ read_so_far past ++ piece =
-      append_assoc (bytes_of now.turns) now.now.piece rest
-      ∙ ap (λ (bytes : List ℕ). bytes_of now.turns ++ bytes) w.piece_is
-      ∙ ap (λ (turns : List Turn). bytes_of turns ++ piece) w.turns
+      append_assoc (bytes_read now.turns) now.now.piece rest
+      ∙ ap (λ (bytes : List ℕ). bytes_read now.turns ++ bytes) w.piece_is
+      ∙ ap (λ (turns : List Turn). bytes_read turns ++ piece) w.turns
       ∙ ap (λ (bytes : List ℕ). bytes ++ piece)
-      (sym (append-nil (bytes_of past.turns)) ∙ ap (λ (turn : Turn). bytes_of past.turns ++ turn.piece) (sym begins)) in
+      (sym (append-nil (bytes_read past.turns)) ∙ ap (λ (turn : Turn). bytes_read past.turns ++ turn.piece) (sym begins)) in
       let Few : List ℕ → Type 0 = λ text. length (items text) < 2 ^ 62 in
       let FewTurns : ℕ → Type 0 = λ n. n < 2 ^ 62 in
       record {
@@ -211,12 +211,12 @@ module _ {plant : PlantData} {panel : ℕ} {past : Progress} {piece : List ℕ} 
       let sent = w.gone.sent in
       let later = turned turn sent past in
       let read : read_so_far later ≡ read_so_far used_now =
-      append-nil (bytes_of (past.turns ++ turn ∷ [])) ∙ bytes_of-append past.turns turn ∙ ap (λ (turns : List Turn). bytes_of turns ++ turn.piece) (sym w.turns) in
+      append-nil (bytes_read (past.turns ++ turn ∷ [])) ∙ bytes_of-append past.turns turn ∙ ap (λ (turns : List Turn). bytes_read turns ++ turn.piece) (sym w.turns) in
       let entries : entries_so_far later ≡ entries_so_far now =
       append-nil (entries_of_turns (past.turns ++ turn ∷ [])) ∙ entries_of-append past.turns turn
       ∙ ap (λ (turns : List Turn). entries_of_turns turns ++ entries_in now.now) (sym w.turns) in
-      let TextBehind : List Turn → Type 0 = λ turns. IsText plant (items (bytes_of turns ++ turn.piece)) (entries_of_turns turns ++ entries_in turn) now.sent in
-      let TextOf : List ℕ → Type 0 = λ sent. IsText plant (items (bytes_of past.turns ++ turn.piece)) (entries_of_turns past.turns ++ entries_in turn) sent in
+      let TextBehind : List Turn → Type 0 = λ turns. IsText plant (items (bytes_read turns ++ turn.piece)) (entries_of_turns turns ++ entries_in turn) now.sent in
+      let TextOf : List ℕ → Type 0 = λ sent. IsText plant (items (bytes_read past.turns ++ turn.piece)) (entries_of_turns past.turns ++ entries_in turn) sent in
       let At : Progress → Type 0 = λ past. StandsFor plant panel after past in
       record {
         turn = turn;
@@ -233,8 +233,8 @@ module _ {plant : PlantData} {panel : ℕ} {past : Progress} {piece : List ℕ} 
           traced = w.gone.traced;
         };
         stands = subst At
-            (ap (λ (turns : List Turn). record { turns = turns ++ turn ∷ []; now = unread; sent = now.sent }) w.turns
-            ∙ ap (λ (sent : List ℕ). record { turns = past.turns ++ turn ∷ []; now = unread; sent = sent }) w.gone.sent_is) acts.2;
+            (ap (λ (turns : List Turn). record { turns = turns ++ turn ∷ []; now = unstarted; sent = now.sent }) w.turns
+            ∙ ap (λ (sent : List ℕ). record { turns = past.turns ++ turn ∷ []; now = unstarted; sent = sent }) w.gone.sent_is) acts.2;
         answered = answered_same plant used_now later read entries (sym w.gone.sent_is) (answered_bytes plant now (take used rest) w.answered);
         text = subst TextOf w.gone.sent_is (subst TextBehind w.turns acts.1.text);
       }

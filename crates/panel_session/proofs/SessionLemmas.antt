@@ -5,7 +5,7 @@ use Rattle.std.proofs.lemmas.List.{length-append}
 use Rattle.dle_framing.specs.Items.{items}
 use Rattle.swp08_messages.specs.declared.message.Message.{Message}
 use Rattle.panel_session.specs.OutgoingInside.{emptied}
-use Rattle.panel_session.specs.Turns.{bytes_of}
+use Rattle.panel_session.specs.Turns.{bytes_read}
 use Rattle.plant_config.specs.Plant.{PlantData}
 use Rattle.history_lock.specs.Places.{Placed}
 use Rattle.plant_core.specs.Answer.{room_of}
@@ -111,7 +111,7 @@ pub asks_told : (plant : PlantData) (panel : ℕ) (session : Session) (past : Pr
 unfolding StandsFor Awaits
 asks_told plant panel session past piece request message stands may tell none is =
     let k = stands.0.keeps in
-    let StageAt : Phase → Type 0 = λ phase. IsAtStage phase session.panel (length (items (bytes_of past.turns))) k.before k.asked past in
+    let StageAt : Phase → Type 0 = λ phase. IsAtStage phase session.panel (length (items (bytes_read past.turns))) k.before k.asked past in
     let at = subst StageAt tell k.phase in
     let items_are : session.items ≡ length (items (read_so_far past)) = k.items_are in
     let all = length-asked plant (kept_of session) past k in
@@ -140,7 +140,7 @@ unfolding StandsFor
 rests plant panel session past piece stands may over none =
     let P : Progress → Type 0 = λ now. Acts plant panel now piece 0 Rest (ended_turn session) in
     let k = stands.0.keeps in
-    let StageAt : Phase → Type 0 = λ phase. IsAtStage phase session.panel (length (items (bytes_of past.turns))) k.before k.asked past in
+    let StageAt : Phase → Type 0 = λ phase. IsAtStage phase session.panel (length (items (bytes_read past.turns))) k.before k.asked past in
     let at = subst StageAt over k.phase in
     let gone : piece ≡ [] = may.rest (some_polls at.1.answered at.1.last past.now.polls at.1.polls_are) in
     let after = stands_turn plant panel session past stands.0 over none may.turns in

@@ -24,7 +24,7 @@ use Rattle.panel_session.specs.Entry.{PlantEntry}
 use Rattle.panel_session.specs.OutgoingInside.{emptied}
 use Rattle.panel_session.specs.Run.{IsWorked, turned}
 use Rattle.panel_session.specs.SettledInside.{Settled}
-use Rattle.panel_session.specs.SoFar.{Progress, nothing_yet, unread, read_so_far, with_sent}
+use Rattle.panel_session.specs.SoFar.{Progress, nothing_yet, unstarted, read_so_far, with_sent}
 use Rattle.panel_session.specs.StandsInside.{Kept, Keeps}
 use Rattle.panel_session.specs.TakenInside.{taken_output, taken_phase, sent_by}
 use Rattle.panel_session.specs.Text.{Output, nothing_sent, with_frames, frames_of}
@@ -71,10 +71,10 @@ module _ {State : Type 0} (step : State → Request → Stepped State Answer) (F
     legal : IsLegal step Fits machine (entries_in turn)
 
   -- The turn begins.
-  goes_begin : Settled plant panel past → Goes Read unread
+  goes_begin : Settled plant panel past → Goes Read unstarted
   goes_begin settled =
       let kept : Kept = record { panel = panel; phase = Read; items = settled.count; turns = settled.turns; polls = 0; output = settled.output; unsent = false } in
-      let begun : past ≡ at unread [] = λ i. record { turns = past.turns; now = settled.begins i; sent = (sym (append-nil past.sent)) i } in
+      let begun : past ≡ at unstarted [] = λ i. record { turns = past.turns; now = settled.begins i; sent = (sym (append-nil past.sent)) i } in
       record {
         count = settled.count;
         turns = settled.turns;
@@ -227,7 +227,7 @@ module _ {State : Type 0} (step : State → Request → Stepped State Answer) (F
       → ((history : List PlantEntry) (request : Request) → IsLegal step Fits machine history → FitsPlant plant request → Fits (run step machine history) request)
       → (turn : Turn) × (more : List ℕ) × (turn.piece ≡ piece) × IsWorked step Fits plant panel past machine turn more × Settled plant panel (turned turn more past)
   turn_exists piece has_panel settled fits =
-      let read = goes_bytes has_panel fits piece unread (goes_begin settled) in
+      let read = goes_bytes has_panel fits piece unstarted (goes_begin settled) in
       let done = goes_polls has_panel fits 32 read.0 (goes_on read.0 read.2) (omega arith) in
       let goes = done.2 in
       let kept : Kept = record { panel = panel; phase = End; items = goes.count; turns = goes.turns; polls = goes.polls; output = goes.output; unsent = false } in (

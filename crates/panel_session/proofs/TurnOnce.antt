@@ -23,7 +23,7 @@ use Rattle.panel_session.specs.Entry.{PlantEntry}
 use Rattle.panel_session.specs.Run.{IsWorked}
 use Rattle.panel_session.specs.SoFar.{Progress}
 use Rattle.panel_session.specs.Text.{nothing_sent, output_from}
-use Rattle.panel_session.specs.Turns.{Turn, ArePolls, EndIn, bytes_of, entries_in, entries_of_turns, requests}
+use Rattle.panel_session.specs.Turns.{Turn, ArePolls, EndIn, bytes_read, entries_in, entries_of_turns, requests}
 
 -- The kinds of messages differ.
 plant≢report : Plant ≢ Report
@@ -182,27 +182,27 @@ module _ {State : Type 0} (step : State → Request → Stepped State Answer) (F
       let Seated : PlantEntry → Type 0 = λ entry. entry.seat ≡ panel in
       let seats = all_parts Seated turn.told turn.polls w.seats in
       let seats' = all_parts Seated other.told other.polls v.seats in
-      let EndBehind : List ℕ → Type 0 = λ piece. EndIn (bytes_of past.turns) piece v.is_turn.ended in
+      let EndBehind : List ℕ → Type 0 = λ piece. EndIn (bytes_read past.turns) piece v.is_turn.ended in
       let ended : w.is_turn.ended ≡ v.is_turn.ended =
-      append_cancel_left (items (bytes_of past.turns)) w.is_turn.ended v.is_turn.ended (sym w.is_turn.end_in ∙ subst EndBehind (sym same) v.is_turn.end_in) in
+      append_cancel_left (items (bytes_read past.turns)) w.is_turn.ended v.is_turn.ended (sym w.is_turn.end_in ∙ subst EndBehind (sym same) v.is_turn.end_in) in
       let asked : w.is_turn.asked ≡ v.is_turn.asked = all_ask-same w.is_turn.ended v.is_turn.ended w.is_turn.asked v.is_turn.asked ended w.is_turn.ask v.is_turn.ask in
       let requested : requests turn.told ≡ requests other.told =
-      w.is_turn.told ∙ ap (sent_to_plant panel (length (items (bytes_of past.turns)))) asked ∙ sym v.is_turn.told in
+      w.is_turn.told ∙ ap (sent_to_plant panel (length (items (bytes_read past.turns)))) asked ∙ sym v.is_turn.told in
       let told : turn.told ≡ other.told =
       same_answers step Fits machine turn.told other.told (legal_front step Fits machine turn.told turn.polls w.legal) (legal_front step Fits machine other.told other.polls v.legal)
       (seated panel turn.told seats.0 ∙ ap (map (λ (request : Request). (panel, request))) requested ∙ sym (seated panel other.told seats'.0)) in
       let LegalBehind : List PlantEntry → Type 0 = λ told. IsLegal step Fits (run step machine told) other.polls in
-      let PollsBehind : List ℕ → Type 0 = λ piece. PollsFrom (Poll panel (length (items (bytes_of past.turns ++ piece))) (length past.turns)) 0 other.polls in
+      let PollsBehind : List ℕ → Type 0 = λ piece. PollsFrom (Poll panel (length (items (bytes_read past.turns ++ piece))) (length past.turns)) 0 other.polls in
       let polls : turn.polls ≡ other.polls =
-      polls_one (Poll panel (length (items (bytes_of past.turns ++ turn.piece))) (length past.turns)) panel 0 (run step machine turn.told) turn.polls other.polls
-      (are_polls (Poll panel (length (items (bytes_of past.turns ++ turn.piece))) (length past.turns)) turn.polls w.is_turn.polls)
-      (subst PollsBehind (sym same) (are_polls (Poll panel (length (items (bytes_of past.turns ++ other.piece))) (length past.turns)) other.polls v.is_turn.polls))
+      polls_one (Poll panel (length (items (bytes_read past.turns ++ turn.piece))) (length past.turns)) panel 0 (run step machine turn.told) turn.polls other.polls
+      (are_polls (Poll panel (length (items (bytes_read past.turns ++ turn.piece))) (length past.turns)) turn.polls w.is_turn.polls)
+      (subst PollsBehind (sym same) (are_polls (Poll panel (length (items (bytes_read past.turns ++ other.piece))) (length past.turns)) other.polls v.is_turn.polls))
       seats.1 seats'.1
       (legal_later machine turn.told turn.polls w.legal) (subst LegalBehind (sym told) (legal_later machine other.told other.polls v.legal)) in
       let turns : turn ≡ other = λ i. record { piece = same i; told = told i; polls = polls i } in
       let all_asked : w.text.asked ≡ v.text.asked =
-      all_ask-same (items (bytes_of past.turns ++ turn.piece)) (items (bytes_of past.turns ++ other.piece)) w.text.asked v.text.asked
-      (ap (λ (piece : List ℕ). items (bytes_of past.turns ++ piece)) same) w.text.items_ask v.text.items_ask in
+      all_ask-same (items (bytes_read past.turns ++ turn.piece)) (items (bytes_read past.turns ++ other.piece)) w.text.asked v.text.asked
+      (ap (λ (piece : List ℕ). items (bytes_read past.turns ++ piece)) same) w.text.items_ask v.text.items_ask in
       let sent : past.sent ++ more ≡ past.sent ++ less =
       w.text.bytes
       ∙ ap (λ (asked : List Asked). (output_from plant 0 asked (entries_of_turns past.turns ++ entries_in turn) nothing_sent).bytes) all_asked

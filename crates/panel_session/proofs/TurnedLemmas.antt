@@ -15,7 +15,7 @@ use Rattle.panel_session.specs.ServedInside.{HasGoneOn, GavePiece, HasServed, Ha
 use Rattle.panel_session.specs.Session.{StandsFor}
 use Rattle.panel_session.specs.SoFar.{entries_so_far, nothing_yet, read_so_far}
 use Rattle.panel_session.specs.Text.{IsText, nothing_sent}
-use Rattle.panel_session.specs.Turns.{Turn, bytes_of, entries_in, entries_of_turns}
+use Rattle.panel_session.specs.Turns.{Turn, bytes_read, entries_in, entries_of_turns}
 use Rattle.panel_session.proofs.AnsweredLemmas.{answered_begins}
 use Rattle.panel_session.proofs.GoneOnLemmas.{appended-none, gone_both, sees_none}
 use Rattle.panel_session.proofs.KeptItemLemmas.{reading}
@@ -55,8 +55,8 @@ module _ {plant : PlantData} {panel : ℕ} where
   pub turned_read : {reads : List (List ℕ)} {session : Session} {seat seat_now : PlantSeat} {link link_now : LinkEnd} {trace trace_now : TraceData} (t : HasTurned plant panel reads session seat seat_now link link_now trace trace_now)
       → read_so_far t.past ≡ all_read reads
   turned_read t =
-      ap (λ (now : Turn). bytes_of t.past.turns ++ now.piece) t.begins
-      ∙ append-nil (bytes_of t.past.turns)
+      ap (λ (now : Turn). bytes_read t.past.turns ++ now.piece) t.begins
+      ∙ append-nil (bytes_read t.past.turns)
       ∙ read-pieces t.past.turns
       ∙ ap all_read t.pieces
 
@@ -92,7 +92,7 @@ module _ {plant : PlantData} {panel : ℕ} where
   turned_more {reads = reads} {seat = seat} {seat_now = seat_now} {seat_then = seat_then} {link = link} {link_now = link_now} {link_read = link_read} {link_then = link_then} {trace = trace} {trace_now = trace_now} {trace_then = trace_then} {piece = piece} t r s half writes traces =
       let past = t.past in
       let TextOf : List ℕ → Type 0 = λ read. IsText plant (items read) (entries_of_turns past.turns ++ entries_in s.turn) (past.sent ++ s.sent) in
-      let TextIn : List PlantEntry → Type 0 = λ entries. IsText plant (items (bytes_of (past.turns ++ s.turn ∷ []))) entries (past.sent ++ s.sent) in
+      let TextIn : List PlantEntry → Type 0 = λ entries. IsText plant (items (bytes_read (past.turns ++ s.turn ∷ []))) entries (past.sent ++ s.sent) in
       let From : Option (List ℕ) → Type 0 = λ written. HasGoneOn plant (outside seat_now written trace_now.written) (outside seat_then link_then.written trace_then.written) past (turned s.turn s.sent past) in
       let Taken : List ℕ → Type 0 = λ bytes. AreTaken bytes link.read_half.left link_read.read_half.left in
       let TakenOf : ReadHalf → Type 0 = λ half. AreTaken (all_read (reads ++ piece ∷ [])) link.read_half.left half.left in

@@ -8,7 +8,7 @@ use Rattle.dle_framing.specs.Items.{items}
 use Rattle.panel_session.specs.declared.session.asked.Asked.{Asked}
 use Rattle.panel_session.specs.Asked.{AllAsk, sent_to_plant}
 use Rattle.panel_session.specs.Entry.{PlantEntry}
-use Rattle.panel_session.specs.Turns.{Turn, bytes_of, entries_in, entries_of_turns, AreTurns, IsTurn}
+use Rattle.panel_session.specs.Turns.{Turn, bytes_read, entries_in, entries_of_turns, AreTurns, IsTurn}
 use Rattle.panel_session.proofs.TurnOnce.{all_ask-one}
 
 -- Two fronts of one list that ask as much are the same.
@@ -54,11 +54,11 @@ turn-front : (panel : ℕ) (before : List Turn) (turn other : Turn) (later after
     → entries_in turn ++ later ≡ entries_in other ++ after → (turn ≡ other) × (later ≡ after)
 turn-front panel before turn other later after is is' same fronts =
     let ended : is.ended ≡ is'.ended =
-    append_cancel_left (items (bytes_of before)) is.ended is'.ended (sym is.end_in ∙ ap (λ (piece : List ℕ). items (bytes_of before ++ piece)) same ∙ is'.end_in) in
+    append_cancel_left (items (bytes_read before)) is.ended is'.ended (sym is.end_in ∙ ap (λ (piece : List ℕ). items (bytes_read before ++ piece)) same ∙ is'.end_in) in
     let AskOf : List (Item (List ℕ)) → Type 0 = λ its. AllAsk its is'.asked in
     let asked : is.asked ≡ is'.asked = all_ask-one is.ended is.asked is'.asked is.ask (subst AskOf (sym ended) is'.ask) in
     let told = told-front turn.told other.told (turn.polls ++ later) (other.polls ++ after)
-    (is.told ∙ ap (λ (asked : List Asked). sent_to_plant panel (length (items (bytes_of before))) asked) asked ∙ sym is'.told)
+    (is.told ∙ ap (λ (asked : List Asked). sent_to_plant panel (length (items (bytes_read before))) asked) asked ∙ sym is'.told)
     (sym (append_assoc turn.told turn.polls later) ∙ fronts ∙ append_assoc other.told other.polls after) in
     let p = is.polls in
     let q = is'.polls in

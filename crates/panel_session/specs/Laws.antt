@@ -14,9 +14,9 @@ use Rattle.panel_session.specs.Entry.{PlantEntry}
 use Rattle.panel_session.specs.declared.session.Session.{Session}
 use Rattle.panel_session.specs.Run.{IsWorked}
 use Rattle.panel_session.specs.Session.{StandsFor, Awaits, later_of}
-use Rattle.panel_session.specs.SoFar.{Progress, FitsOn, IsSoFar, unread}
+use Rattle.panel_session.specs.SoFar.{Progress, FitsOn, IsSoFar, unstarted}
 use Rattle.panel_session.specs.Text.{IsText}
-use Rattle.panel_session.specs.Turns.{Turn, Fits, bytes_of, entries_of_turns}
+use Rattle.panel_session.specs.Turns.{Turn, FitsReads, bytes_read, entries_of_turns}
 
 -- what a session stands for is what one may have done so far
 abbrev pub StandsSoFar : Type 0
@@ -42,14 +42,14 @@ TurnsAreOne {State} step Takes =
 abbrev pub TurnsFit : Type 0
 TurnsFit = (plant : PlantData) (panel : ℕ) (session : Session) (past : Progress)
     → StandsFor plant panel session past
-    → Fits panel (map (λ turn. turn.piece) past.turns) (entries_of_turns past.turns)
+    → FitsReads panel (map (λ turn. turn.piece) past.turns) (entries_of_turns past.turns)
 
 -- Before anything was done of a turn, the text of those that are over was sent, or is once the outgoing bytes are.
 abbrev pub TurnsAreSent : Type 0
 TurnsAreSent = (plant : PlantData) (panel : ℕ) (session : Session) (past : Progress)
-    → StandsFor plant panel session past → past.now ≡ unread
-    → IsText plant (items (bytes_of past.turns)) (entries_of_turns past.turns) past.sent
-    ⊎ IsText plant (items (bytes_of past.turns)) (entries_of_turns past.turns)
+    → StandsFor plant panel session past → past.now ≡ unstarted
+    → IsText plant (items (bytes_read past.turns)) (entries_of_turns past.turns) past.sent
+    ⊎ IsText plant (items (bytes_read past.turns)) (entries_of_turns past.turns)
     (past.sent ++ later_of session)
 
 -- what a session stands for begins a list of entries that fits what was read of it and the rest of the present piece, of which

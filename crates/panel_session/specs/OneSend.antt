@@ -16,8 +16,8 @@ use Rattle.panel_session.specs.SoFar.{Progress, read_so_far, entries_so_far}
 use Rattle.panel_session.specs.Text.{frames_of, nothing_sent, output_from}
 
 -- the bytes of frames, one behind the other
-abbrev pub joined : List (List ℕ) → List ℕ
-joined frames = flat_map (λ sent. sent) frames
+abbrev pub bytes_in : List (List ℕ) → List ℕ
+bytes_in frames = flat_map (λ sent. sent) frames
 
 -- The last item is a NAK, and these bytes are the last message frame before it.
 pub record IsSentAgain (plant : PlantData) (read : List ℕ) (entries : List PlantEntry)
@@ -35,14 +35,14 @@ pub record ArePages (plant : PlantData) (read bytes : List ℕ) : Type 0 where
   pub message : Message
   pub last_item : items read ≡ before ++ Good carried ∷ []
   pub asks : GoodAsks carried (Named message)
-  pub bytes_are : bytes ≡ joined (name_frames plant message)
+  pub bytes_are : bytes ≡ bytes_in (name_frames plant message)
 
 -- These bytes are all frames of the answers to what was asked last.
 pub record AreAnswers (entries : List PlantEntry) (bytes : List ℕ) : Type 0 where
   pub before : List PlantEntry
   pub last : PlantEntry
   pub entries_are : entries ≡ before ++ last ∷ []
-  pub bytes_are : bytes ≡ joined (frames_of last.answers)
+  pub bytes_are : bytes ≡ bytes_in (frames_of last.answers)
 
 -- What is sent at once: one ACK, one NAK, one frame that is sent again, the pages of names of one message, or the frames of
 -- the answers to one request.

@@ -12,20 +12,20 @@ use Rattle.panel_session.specs.declared.session.Session.{Session}
 use Rattle.panel_session.specs.Acting.{MayGoOn}
 use Rattle.panel_session.specs.Entry.{PlantEntry}
 use Rattle.panel_session.specs.Session.{StandsFor}
-use Rattle.panel_session.specs.SoFar.{Progress, unread}
+use Rattle.panel_session.specs.SoFar.{Progress, unstarted}
 use Rattle.panel_session.specs.Text.{IsText}
-use Rattle.panel_session.specs.Turns.{Turn, bytes_of, entries_in, entries_of_turns, IsTurn}
+use Rattle.panel_session.specs.Turns.{Turn, bytes_read, entries_in, entries_of_turns, IsTurn}
 
 -- the past with one turn more, in which these bytes were sent
 abbrev pub turned : Turn → List ℕ → Progress → Progress
 turned turn more past =
-    record { turns = past.turns ++ turn ∷ []; now = unread; sent = past.sent ++ more }
+    record { turns = past.turns ++ turn ∷ []; now = unstarted; sent = past.sent ++ more }
 
 -- All that was sent in a past, and then these bytes of a turn, is the session's text of what was read and answered in
 -- both.
 abbrev pub CompletesText : PlantData → Progress → Turn → List ℕ → Type 0
 CompletesText plant past turn more =
-    IsText plant (items (bytes_of past.turns ++ turn.piece))
+    IsText plant (items (bytes_read past.turns ++ turn.piece))
     (entries_of_turns past.turns ++ entries_in turn) (past.sent ++ more)
 
 -- A turn of a panel's session is worked behind a past, by a machine from this state on, and these bytes are sent in it: it
@@ -63,7 +63,7 @@ pub record MayTurn {State : Type 0} (step : State → Request → Stepped State 
     (plant : PlantData) (panel : ℕ) (session : Session) (past : Progress) (machine : State)
     (piece : List ℕ) : Type 0 where
   pub stands : StandsFor plant panel session past
-  pub begins : past.now ≡ unread
+  pub begins : past.now ≡ unstarted
   pub may : MayGoOn past piece
   pub serves : Serves step Fits most plant machine
 

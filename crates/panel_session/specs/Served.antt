@@ -22,12 +22,12 @@ use Rattle.panel_session.specs.declared.serve.SessionEnd.{SessionEnd}
 use Rattle.panel_session.specs.declared.serve.SessionEnd.TheVariants.{Ended, ReadFault, WriteFault, TraceFault, IdleOut, Spent, Full}
 use Rattle.panel_session.specs.declared.session.Session.{Session}
 use Rattle.panel_session.specs.Entry.{PlantEntry}
-use Rattle.panel_session.specs.OneSend.{joined}
+use Rattle.panel_session.specs.OneSend.{bytes_in}
 use Rattle.panel_session.specs.Session.{StandsFor, Awaits}
-use Rattle.panel_session.specs.SoFar.{Progress, nothing_yet, unread}
+use Rattle.panel_session.specs.SoFar.{Progress, nothing_yet, unstarted}
 use Rattle.panel_session.specs.Text.{IsText, frames_of}
 use Rattle.panel_session.specs.TraceLine.{trace_line}
-use Rattle.panel_session.specs.Turns.{Fits}
+use Rattle.panel_session.specs.Turns.{FitsReads}
 
 -- what a seat of a plant's lock shows
 abbrev pub PlantSeat : Type 0
@@ -55,7 +55,7 @@ read_room = 4096
 abbrev pub read_of : List ℕ → Reading
 read_of bytes = record { room = read_room; bytes = bytes }
 
--- the bytes of reads, joined
+-- the bytes of reads, bytes_in
 abbrev pub all_read : List (List ℕ) → List ℕ
 all_read reads = flat_map (λ read. read) reads
 
@@ -77,7 +77,7 @@ StandsIn bytes all = (front : List ℕ) × (rest : List ℕ) × (all ≡ front +
 
 -- The frames of all answers of an entry stand among the bytes.
 abbrev pub IsAnsweredIn : List ℕ → PlantEntry → Type 0
-IsAnsweredIn bytes entry = StandsIn (joined (frames_of entry.answers)) bytes
+IsAnsweredIn bytes entry = StandsIn (bytes_in (frames_of entry.answers)) bytes
 
 -- So it is with each of these entries but the last.
 abbrev pub AnsweredButLast : List PlantEntry → List ℕ → Type 0
@@ -134,8 +134,8 @@ full_after other new before = mark_after new before
 -- The entries fit the reads, all of them, or, of a session that was cut short, begin a list that does.
 abbrev pub FitAsEnded : SessionEnd → ℕ → List (List ℕ) → List PlantEntry → Type 0
 FitAsEnded end panel reads entries =
-    (was_cut end ≡ false → Fits panel reads entries)
-    × ((more : List PlantEntry) × Fits panel reads (entries ++ more))
+    (was_cut end ≡ false → FitsReads panel reads entries)
+    × ((more : List PlantEntry) × FitsReads panel reads (entries ++ more))
 
 -- The bytes are the session's text of all reads and the entries, or, of a session that was cut short, a front of it.
 abbrev pub SaysAsEnded : SessionEnd → PlantData → List (List ℕ) → List PlantEntry → List ℕ
@@ -181,7 +181,7 @@ pub record HasWorked (plant : PlantData) (panel : ℕ) (reads : List (List ℕ))
     : Type 0 where
   pub past : Progress
   pub stands : StandsFor plant panel session past
-  pub begins : past.now ≡ unread
+  pub begins : past.now ≡ unstarted
   pub pieces : map (λ turn. turn.piece) past.turns ≡ reads
 
 -- A session stands for some past, or awaits the answers to a request in one.

@@ -19,9 +19,9 @@ use Rattle.plant_core.specs.declared.answer.Answer.{Answer}
 use Rattle.plant_core.specs.declared.request.Request.{Request}
 use Rattle.panel_session.specs.declared.session.Session.{Session}
 use Rattle.panel_session.specs.Acting.{MayGoOn}
-use Rattle.panel_session.specs.OneSend.{joined}
+use Rattle.panel_session.specs.OneSend.{bytes_in}
 use Rattle.panel_session.specs.Run.{CompletesText, turned}
-use Rattle.panel_session.specs.Turns.{Turn, bytes_of, entries_of_turns}
+use Rattle.panel_session.specs.Turns.{Turn, bytes_read, entries_of_turns}
 use Rattle.panel_session.specs.declared.serve.SessionEnd.{SessionEnd}
 use Rattle.panel_session.specs.declared.serve.SessionEnd.TheVariants.{Ended, ReadFault, TraceFault, Full}
 use Rattle.panel_session.specs.Entry.{PlantEntry}
@@ -29,7 +29,7 @@ use Rattle.panel_session.specs.Served.{PlantSeat, TraceData, AnsweredButLast, Ar
 use Rattle.panel_session.specs.Session.{StandsFor, Awaits, outbox_of}
 use Rattle.panel_session.specs.Text.{IsText, frames_of}
 use Rattle.panel_session.specs.TraceLine.{trace_line}
-use Rattle.panel_session.specs.SoFar.{Progress, nothing_yet, entries_so_far, read_so_far, unread, with_entry}
+use Rattle.panel_session.specs.SoFar.{Progress, nothing_yet, entries_so_far, read_so_far, unstarted, with_entry}
 
 -- A session waits for the answers to this request, which it may ask its plant's lock by its seat.
 pub record MayCall (session : Session) (lock : LockData State) (seat : PlantSeat)
@@ -48,7 +48,7 @@ pub record MayCall (session : Session) (lock : LockData State) (seat : PlantSeat
 abbrev pub SaysWith : PlantData → PlantEntry → Progress → Type 0
 SaysWith plant entry past =
     IsText plant (items (read_so_far (with_entry entry past)))
-    (entries_so_far (with_entry entry past)) (past.sent ++ joined (frames_of entry.answers))
+    (entries_so_far (with_entry entry past)) (past.sent ++ bytes_in (frames_of entry.answers))
 
 -- The lock answered a request of a session behind a past: its entry is the last of a legal history that goes on from the one
 -- that the seat had seen, and the seat's only new one. The session took the answers.
@@ -155,7 +155,7 @@ pub record MayServeTurn (session : Session) (lock : LockData State) (seat : Plan
   pub panel : ℕ
   pub past : Progress
   pub stands : StandsFor plant panel session past
-  pub begins : past.now ≡ unread
+  pub begins : past.now ≡ unstarted
   pub may : MayGoOn past piece
   pub answered : KeepsAnswered plant past
   pub is_plant : IsPlant plant
@@ -223,11 +223,11 @@ pub record HasTurned (plant : PlantData) (panel : ℕ) (reads : List (List ℕ))
     (trace trace_now : TraceData) : Type 0 where
   pub past : Progress
   pub stands : StandsFor plant panel session_now past
-  pub begins : past.now ≡ unread
+  pub begins : past.now ≡ unstarted
   pub pieces : map (λ turn. turn.piece) past.turns ≡ reads
   pub gone : HasGoneOn plant (outside seat link.written trace.written)
       (outside seat_now link_now.written trace_now.written) nothing_yet past
-  pub text : IsText plant (items (bytes_of past.turns)) (entries_of_turns past.turns) past.sent
+  pub text : IsText plant (items (bytes_read past.turns)) (entries_of_turns past.turns) past.sent
   pub answered : KeepsAnswered plant past
   pub short : All (λ read. length read ≤ read_room) reads
   pub told : link_now.read_half.reads

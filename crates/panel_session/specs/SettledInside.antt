@@ -2,7 +2,7 @@
 use Rattle.std.specs.Prelude.{◌≡◌, ℕ, false}
 use Rattle.plant_config.specs.Plant.{PlantData}
 use Rattle.panel_session.specs.declared.session.phase.Phase.TheVariants.{Read}
-use Rattle.panel_session.specs.SoFar.{Progress, unread}
+use Rattle.panel_session.specs.SoFar.{Progress, unstarted}
 use Rattle.panel_session.specs.StandsInside.{Kept, Keeps}
 use Rattle.panel_session.specs.Text.{Output}
 
@@ -24,5 +24,5 @@ pub record Settled (plant : PlantData) (panel : ℕ) (past : Progress) : Type 0 
   pub count : ℕ
   pub turns : ℕ
   pub output : Output
-  pub begins : past.now ≡ unread
+  pub begins : past.now ≡ unstarted
   pub keeps : Keeps plant (between_turns panel count turns output) past

@@ -9,7 +9,7 @@ use Rattle.plant_core.specs.declared.request.Request.TheVariants.{Told, Poll, Le
 use Rattle.panel_session.specs.Entry.{PlantEntry}
 use Rattle.panel_session.specs.declared.session.asked.Asked.{Asked}
 use Rattle.panel_session.specs.Asked.{AllAsk, sent_to_plant}
-use Rattle.panel_session.specs.Turns.{Turn, bytes_of, entries_of_turns, requests, item_count, poll_behind, EndIn, AreTurns, Fits, IsTurn}
+use Rattle.panel_session.specs.Turns.{Turn, bytes_read, entries_of_turns, requests, item_count, poll_behind, EndIn, AreTurns, FitsReads, IsTurn}
 use Rattle.panel_session.specs.Text.{IsText}
 
 -- The turns that are over, the present one so far (the bytes of its piece that were used, and its entries), and the bytes
@@ -19,12 +19,12 @@ pub record Progress : Type 0 where
   pub now : Turn
   pub sent : List ℕ
 
-abbrev pub unread : Turn
-unread = record { piece = []; told = []; polls = [] }
+abbrev pub unstarted : Turn
+unstarted = record { piece = []; told = []; polls = [] }
 
 -- nothing was read, asked or sent
 abbrev pub nothing_yet : Progress
-nothing_yet = record { turns = []; now = unread; sent = [] }
+nothing_yet = record { turns = []; now = unstarted; sent = [] }
 
 -- more bytes of the present piece were used
 abbrev pub with_bytes : List ℕ → Progress → Progress
@@ -45,10 +45,10 @@ with_entry entry past = record past { now = added entry.request entry past.now }
 
 -- the present turn is over
 abbrev pub with_turn : Progress → Progress
-with_turn past = record past { turns = past.turns ++ past.now ∷ []; now = unread }
+with_turn past = record past { turns = past.turns ++ past.now ∷ []; now = unstarted }
 
 abbrev pub read_so_far : Progress → List ℕ
-read_so_far past = bytes_of past.turns ++ past.now.piece
+read_so_far past = bytes_read past.turns ++ past.now.piece
 
 abbrev pub entries_so_far : Progress → List PlantEntry
 entries_so_far past = entries_of_turns past.turns ++ (past.now.told ++ past.now.polls)
@@ -68,7 +68,7 @@ TellsFirst panel past asked =
 pub record IsSoFar (plant : PlantData) (panel : ℕ) (past : Progress) : Type 0 where
   pub turns : AreTurns panel past.turns
   pub ended : List (Item (List ℕ))
-  pub end_in : EndIn (bytes_of past.turns) past.now.piece ended
+  pub end_in : EndIn (bytes_read past.turns) past.now.piece ended
   pub asked : List Asked
   pub ask : AllAsk ended asked
   pub told : IsPrefix (requests past.now.told) (sent_to_plant panel (item_count past.turns) asked)
@@ -82,7 +82,7 @@ pub record IsSoFar (plant : PlantData) (panel : ℕ) (past : Progress) : Type 0 
 -- What was done so far begins a list of entries that fits the reads, of which the last is this piece.
 pub record FitsOn (panel : ℕ) (past : Progress) (piece : List ℕ) : Type 0 where
   pub entries : List PlantEntry
-  pub fits : Fits panel (map (λ turn. turn.piece) past.turns ++ piece ∷ []) entries
+  pub fits : FitsReads panel (map (λ turn. turn.piece) past.turns ++ piece ∷ []) entries
   pub front : IsPrefix (entries_so_far past) entries
 
 -- A front of the session's text of what was read and answered was sent.

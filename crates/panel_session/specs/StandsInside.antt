@@ -11,7 +11,7 @@ use Rattle.panel_session.specs.declared.session.phase.Phase.{Phase}
 use Rattle.panel_session.specs.declared.session.phase.Phase.TheVariants.{Read, Tell, Poll as PollStage, End}
 use Rattle.panel_session.specs.Entry.{PlantEntry}
 use Rattle.panel_session.specs.Asked.{AllAsk, sent_to_plant}
-use Rattle.panel_session.specs.Turns.{bytes_of, requests, item_count, EndIn, AreTurns, ArePolls}
+use Rattle.panel_session.specs.Turns.{bytes_read, requests, item_count, EndIn, AreTurns, ArePolls}
 use Rattle.panel_session.specs.Text.{Output, nothing_sent, output_from, told_at, polled_at}
 use Rattle.panel_session.specs.OutgoingInside.{emptied}
 use Rattle.panel_session.specs.SoFar.{Progress, read_so_far, entries_so_far, poll_now}
@@ -90,9 +90,9 @@ output_so_far plant past asked = output_from plant 0 asked (entries_so_far past)
 pub record Keeps (plant : PlantData) (kept : Kept) (past : Progress) : Type 0 where
   pub turns : AreTurns kept.panel past.turns
   pub before : List Asked
-  pub ask_before : AllAsk (items (bytes_of past.turns)) before
+  pub ask_before : AllAsk (items (bytes_read past.turns)) before
   pub ended : List (Item (List ℕ))
-  pub end_in : EndIn (bytes_of past.turns) past.now.piece ended
+  pub end_in : EndIn (bytes_read past.turns) past.now.piece ended
   pub asked : List Asked
   pub ask : AllAsk ended asked
   pub items_are : kept.items ≡ length (items (read_so_far past))

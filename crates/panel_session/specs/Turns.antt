@@ -17,8 +17,8 @@ pub record Turn : Type 0 where
   pub polls : List PlantEntry
 
 -- the bytes that were read
-abbrev pub bytes_of : List Turn → List ℕ
-bytes_of turns = flat_map (λ turn. turn.piece) turns
+abbrev pub bytes_read : List Turn → List ℕ
+bytes_read turns = flat_map (λ turn. turn.piece) turns
 
 -- the entries of a turn, and of turns, in order
 abbrev pub entries_in : Turn → List PlantEntry
@@ -33,12 +33,12 @@ requests entries = map (λ entry. entry.request) entries
 
 -- how many items were read in turns
 abbrev pub item_count : List Turn → ℕ
-item_count turns = length (items (bytes_of turns))
+item_count turns = length (items (bytes_read turns))
 
 -- the poll that a turn with this piece makes behind others: it has the number of items so far, and that of the turn
 abbrev pub poll_behind : ℕ → List Turn → List ℕ → Request
 poll_behind panel before piece =
-    Poll panel (length (items (bytes_of before ++ piece))) (length before)
+    Poll panel (length (items (bytes_read before ++ piece))) (length before)
 
 -- A turn polls until a poll has no answer, and at most 32 times.
 pub record ArePolls (poll : Request) (polls : List PlantEntry) : Type 0 where
@@ -58,7 +58,7 @@ EndIn text piece ended = items (text ++ piece) ≡ items text ++ ended
 -- then the polls, with the number of items so far and that of the turn.
 pub record IsTurn (panel : ℕ) (before : List Turn) (turn : Turn) : Type 0 where
   pub ended : List (Item (List ℕ))
-  pub end_in : EndIn (bytes_of before) turn.piece ended
+  pub end_in : EndIn (bytes_read before) turn.piece ended
   pub asked : List Asked
   pub ask : AllAsk ended asked
   pub told : requests turn.told ≡ sent_to_plant panel (item_count before) asked
@@ -70,7 +70,7 @@ AreTurns panel turns = (before after : List Turn) (turn : Turn) → turns ≡ be
     → IsTurn panel before turn
 
 -- These entries fit these reads of a panel's session: they are made turn by turn.
-pub record Fits (panel : ℕ) (reads : List (List ℕ)) (entries : List PlantEntry) : Type 0 where
+pub record FitsReads (panel : ℕ) (reads : List (List ℕ)) (entries : List PlantEntry) : Type 0 where
   pub turns : List Turn
   pub are_turns : AreTurns panel turns
   pub pieces : map (λ turn. turn.piece) turns ≡ reads

@@ -13,7 +13,7 @@ ghost use Rattle.panel_session.specs.ServedInside.{HasServed, MayServeTurn, WasS
 ghost use Rattle.panel_session.specs.ServedInside.{EndsAtRead, GavePiece, KeepsAnswered};
 ghost use Rattle.panel_session.specs.Acting.{MayGoOn};
 ghost use Rattle.panel_session.specs.Session.{Awaits, StandsFor};
-ghost use Rattle.panel_session.specs.SoFar.{Progress, nothing_yet, unread};
+ghost use Rattle.panel_session.specs.SoFar.{Progress, nothing_yet, unstarted};
 
 use crate::session::Session;
 use crate::session::act::Act;
@@ -130,13 +130,13 @@ fn serve_turn<W: Wait, L: Link, K: Sink>(
 ) -> Result<(), SessionEnd>
     requires may { MayServeTurn session.old lock.now seat.old piece.now }
     ensures served { OnOk result ((plant : PlantData) (panel : ℕ) (past : Progress)
-        → StandsFor plant panel session.old past → past.now ≡ unread
+        → StandsFor plant panel session.old past → past.now ≡ unstarted
         → MayGoOn past piece.now → KeepsAnswered plant past
         → HasServed plant panel past piece.now session.new
         (outside seat.old (L.written link.old) (K.written trace.old))
         (outside seat.new (L.written link.new) (K.written trace.new))) }
     ensures stops { IfErr result (λ end. (plant : PlantData) (panel : ℕ) (past : Progress)
-        → StandsFor plant panel session.old past → past.now ≡ unread
+        → StandsFor plant panel session.old past → past.now ≡ unstarted
         → MayGoOn past piece.now → KeepsAnswered plant past
         → WasStopped plant panel end past piece.now session.new
         (outside seat.old (L.written link.old) (K.written trace.old))

@@ -13,8 +13,8 @@ use Rattle.plant_core.specs.Step.{step}
 use Rattle.plant_core.specs.declared.request.Request.TheVariants as requests
 use Rattle.panel_session.specs.Entry.{PlantEntry}
 use Rattle.panel_session.specs.Run.{IsWorked}
-use Rattle.panel_session.specs.SoFar.{Progress, unread}
-use Rattle.panel_session.specs.Turns.{Turn, bytes_of, entries_of_turns, entries_in}
+use Rattle.panel_session.specs.SoFar.{Progress, unstarted}
+use Rattle.panel_session.specs.Turns.{Turn, bytes_read, entries_of_turns, entries_in}
 use Rattle.panel_session.proofs.TurnOnce.{legal_later, one_turn_lem}
 use Rattle.panel_session.proofs.TurnsOnce.{next_turn}
 use Rattle.record_replay.specs.Script.{lines, worked}
@@ -27,7 +27,7 @@ use Rattle.record_replay.proofs.ActionsLemmas.{history_exists}
 module _ (plant : PlantData) where
   -- what a panel's session has done in actions
   past_in : (actions : List Action) → AreSessions plant actions → ℕ → Progress
-  past_in actions sessions panel = record { turns = (sessions panel).fits.turns; now = unread; sent = sent_of panel actions }
+  past_in actions sessions panel = record { turns = (sessions panel).fits.turns; now = unstarted; sent = sent_of panel actions }
 
   -- One action more that is a turn: it is worked behind what the panel's session has done.
   worked_turn : (front : List Action) (state : State) (panel : ℕ) (piece sent : List ℕ) (entries : List PlantEntry) (sessions : AreSessions plant front) → All (IsBy panel) entries
@@ -48,7 +48,7 @@ module _ (plant : PlantData) where
       ∙ (λ i. sym base.fits.entries_are i ++ session-own panel entries by i) in
       let next = next_turn panel base.fits.turns more.fits.turns piece entries base.fits.are_turns more.fits.are_turns
       (more.fits.pieces ∙ pieces_are ∙ ap (λ (pieces : List (List ℕ)). pieces ++ piece ∷ []) (sym base.fits.pieces)) (more.fits.entries_are ∙ entries_are) in
-      let bytes_are : flat_map (λ (piece : List ℕ). piece) (pieces_of panel (front ++ action ∷ [])) ≡ bytes_of base.fits.turns ++ next.0.piece =
+      let bytes_are : flat_map (λ (piece : List ℕ). piece) (pieces_of panel (front ++ action ∷ [])) ≡ bytes_read base.fits.turns ++ next.0.piece =
       ap (flat_map (λ (piece : List ℕ). piece)) (pieces_are ∙ (λ i. sym base.fits.pieces i ++ sym next.1 i ∷ []))
       ∙ flat_map-push (λ (piece : List ℕ). piece) (map (λ (turn : Turn). turn.piece) base.fits.turns) next.0.piece
       ∙ ap (λ (bytes : List ℕ). bytes ++ next.0.piece) (flat_map-map (λ (piece : List ℕ). piece) (λ (turn : Turn). turn.piece) base.fits.turns) in

@@ -20,7 +20,7 @@ use Rattle.panel_session.specs.Entry.{PlantEntry}
 use Rattle.panel_session.specs.Run.{IsWorked, turned}
 use Rattle.panel_session.specs.SoFar.{Progress}
 use Rattle.panel_session.specs.Text.{IsText}
-use Rattle.panel_session.specs.Turns.{Turn, bytes_of, entries_of_turns, entries_in, AreTurns}
+use Rattle.panel_session.specs.Turns.{Turn, bytes_read, entries_of_turns, entries_in, AreTurns}
 use Rattle.panel_session.proofs.KeptTurnLemmas.{are_turns-append}
 use Rattle.panel_session.proofs.SessionRequests.{IsOfSession}
 use Rattle.record_replay.specs.Laws.{Left, Polled, entries_by, is_of_session, display_seat, session_in, IsSession}
@@ -104,7 +104,7 @@ module _ (plant : PlantData) where
     pub pieces_are : map (λ turn. turn.piece) past.turns ≡ pieces
     pub entries_are : entries_of_turns past.turns ≡ entries
     pub sent_is : past.sent ≡ sent
-    pub text : IsText plant (items (bytes_of past.turns)) (entries_of_turns past.turns) past.sent
+    pub text : IsText plant (items (bytes_read past.turns)) (entries_of_turns past.turns) past.sent
 
   -- Equal ones do as well.
   pub past-as : (panel : ℕ) (pieces pieces' : List (List ℕ)) (entries entries' : List PlantEntry) (sent sent' : List ℕ) (past : Progress) → pieces ≡ pieces' → entries ≡ entries' → sent ≡ sent'
@@ -119,7 +119,7 @@ module _ (plant : PlantData) where
 
   -- The bytes that it has read are those of its pieces.
   pub past-bytes : (panel : ℕ) (pieces : List (List ℕ)) (entries : List PlantEntry) (sent : List ℕ) (past : Progress) → IsPast panel pieces entries sent past
-      → bytes_of past.turns ≡ flat_map (λ piece. piece) pieces
+      → bytes_read past.turns ≡ flat_map (λ piece. piece) pieces
   past-bytes panel pieces entries sent past is =
       sym (flat_map-map (λ (piece : List ℕ). piece) (λ (turn : Turn). turn.piece) past.turns) ∙ ap (flat_map (λ (piece : List ℕ). piece)) is.pieces_are
 

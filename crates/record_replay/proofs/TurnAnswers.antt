@@ -11,7 +11,7 @@ use Rattle.panel_session.specs.SettledInside.{Settled}
 use Rattle.panel_session.specs.SoFar.{Progress, read_so_far, entries_so_far}
 use Rattle.panel_session.specs.StandsInside.{AllTold, NoneFrom}
 use Rattle.panel_session.specs.Text.{Output, nothing_sent, polled_at}
-use Rattle.panel_session.specs.Turns.{Turn, bytes_of, entries_in, entries_of_turns, IsTurn}
+use Rattle.panel_session.specs.Turns.{Turn, bytes_read, entries_in, entries_of_turns, IsTurn}
 use Rattle.panel_session.proofs.EntryLemmas.{length-ask, all_ask-append}
 use Rattle.panel_session.proofs.OutputLemmas.{SayTheSame, output_later}
 use Rattle.panel_session.proofs.TurnOnce.{all_ask-one}
@@ -77,9 +77,9 @@ module _ (plant : PlantData) (entries now : List PlantEntry) (first next : ℕ) 
 -- and no entry is of a later item.
 record Says (plant : PlantData) (turns : List Turn) (sent : List ℕ) : Type 0 where
   asked : List Asked
-  ask : AllAsk (items (bytes_of turns)) asked
+  ask : AllAsk (items (bytes_read turns)) asked
   told : AllTold 0 asked (entries_of_turns turns)
-  none : NoneFrom (length (items (bytes_of turns))) (entries_of_turns turns)
+  none : NoneFrom (length (items (bytes_read turns))) (entries_of_turns turns)
   bytes : (output_of plant (entries_of_turns turns) asked).bytes ≡ sent
 
 says : (plant : PlantData) (panel : ℕ) (past : Progress) → Settled plant panel past → Says plant past.turns past.sent
@@ -88,14 +88,14 @@ says plant panel past settled =
     let asked : List Asked = k.before ++ k.asked in
     let entries : entries_so_far past ≡ entries_of_turns past.turns =
     ap (λ (now : Turn). entries_of_turns past.turns ++ (now.told ++ now.polls)) settled.begins ∙ append-nil (entries_of_turns past.turns) in
-    let read : read_so_far past ≡ bytes_of past.turns = ap (λ (now : Turn). bytes_of past.turns ++ now.piece) settled.begins ∙ append-nil (bytes_of past.turns) in
+    let read : read_so_far past ≡ bytes_read past.turns = ap (λ (now : Turn). bytes_read past.turns ++ now.piece) settled.begins ∙ append-nil (bytes_read past.turns) in
     let AskOf : List (Item (List ℕ)) → Type 0 = λ its. AllAsk its asked in
     let ToldIn : List PlantEntry → Type 0 = λ entries. AllTold 0 asked entries in
     let NoneIn : List PlantEntry → Type 0 = λ entries. NoneFrom (length (items (read_so_far past))) entries in
     let NoneOf : List ℕ → Type 0 = λ text. NoneFrom (length (items text)) (entries_of_turns past.turns) in
     record {
       asked = asked;
-      ask = subst AskOf (sym k.end_in ∙ ap items read) (all_ask-append (items (bytes_of past.turns)) k.ended k.before k.asked k.ask_before k.ask);
+      ask = subst AskOf (sym k.end_in ∙ ap items read) (all_ask-append (items (bytes_read past.turns)) k.ended k.before k.asked k.ask_before k.ask);
       told = subst ToldIn entries k.phase.2;
       none = subst NoneOf read (subst NoneIn entries k.none_from);
       bytes = ap (λ (entries : List PlantEntry). (output_of plant entries asked).bytes) (sym entries) ∙ ap (λ (output : Output). output.bytes) k.output ∙ append-nil past.sent;
@@ -104,10 +104,10 @@ says plant panel past settled =
 -- So the bytes that are sent in a turn behind them answer the items that end in its piece, where all turns are over behind
 -- it too.
 pub turn_answers : (plant : PlantData) (panel : ℕ) (past : Progress) (turn : Turn) (more : List ℕ) → IsTurn panel past.turns turn → Settled plant panel past → Settled plant panel (turned turn more past)
-    → AnswersItems (bytes_of past.turns) turn.piece more
+    → AnswersItems (bytes_read past.turns) turn.piece more
 turn_answers plant panel past turn more is settled settled_then =
     let turns = past.turns in
-    let text = bytes_of turns in
+    let text = bytes_read turns in
     let first = length (items text) in
     let next = length (items (text ++ turn.piece)) in
     let so = says plant panel past settled in

@@ -13,7 +13,7 @@ use Rattle.plant_core.specs.declared.answer.Answer.{Answer}
 use Rattle.panel_session.specs.Asked.{sent_to_plant}
 use Rattle.panel_session.specs.Entry.{PlantEntry}
 use Rattle.panel_session.specs.Text.{frames_of, polled_by, polled_at, is_told_at, told_at}
-use Rattle.panel_session.specs.Turns.{Turn, bytes_of, entries_in, requests, ArePolls, IsTurn}
+use Rattle.panel_session.specs.Turns.{Turn, bytes_read, entries_in, requests, ArePolls, IsTurn}
 
 -- What an item asks: the type is `panel_session`'s own, and is named here by a function that goes over it.
 abbrev ElementOf : {A B : Type 0} → (List A → B) → Type 0
@@ -127,10 +127,10 @@ pub record IsOfTurn (first next : ℕ) (entries : List PlantEntry) : Type 0 wher
   pub polled : (k : ℕ) → k ≢ next → polled_at k entries ≡ []
 
 pub turn_entries : (panel : ℕ) (before : List Turn) (turn : Turn) → IsTurn panel before turn
-    → IsOfTurn (length (items (bytes_of before))) (length (items (bytes_of before ++ turn.piece))) (entries_in turn)
+    → IsOfTurn (length (items (bytes_read before))) (length (items (bytes_read before ++ turn.piece))) (entries_in turn)
 turn_entries panel before turn is =
-    let first = length (items (bytes_of before)) in
-    let next = length (items (bytes_of before ++ turn.piece)) in
+    let first = length (items (bytes_read before)) in
+    let next = length (items (bytes_read before ++ turn.piece)) in
     let late : find (is_early first) (requests turn.told) ≡ None = ap (find (is_early first)) is.told ∙ all_late panel first first is.asked (omega arith) in
     let polls = all_polls panel next (length before) turn.polls is.polls in
     record {

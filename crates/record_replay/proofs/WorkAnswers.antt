@@ -5,7 +5,7 @@ use Rattle.plant_config.specs.Plant.{PlantData}
 use Rattle.panel_session.specs.Run.{turned}
 use Rattle.panel_session.specs.SettledInside.{Settled}
 use Rattle.panel_session.specs.SoFar.{Progress}
-use Rattle.panel_session.specs.Turns.{bytes_of}
+use Rattle.panel_session.specs.Turns.{bytes_read}
 use Rattle.record_replay.specs.Answered.{AnswersItems}
 use Rattle.record_replay.specs.Script.{Work, Read, IsOfPlant}
 use Rattle.record_replay.specs.Replay.{ReplayState, behind_turn, Advances}
@@ -24,12 +24,12 @@ work_settled plant work line stand next settled has done =
 
 -- So what is sent in a turn answers the items that end in its piece.
 pub work_answers : (plant : PlantData) (panel : ℕ) (piece line : List ℕ) (stand next : ReplayState) → IsSettled plant stand → panel < length plant.panels
-    → (done : Advances plant (Read panel piece) stand line next) → AnswersItems (bytes_of (stand.pasts panel).turns) piece done.1
+    → (done : Advances plant (Read panel piece) stand line next) → AnswersItems (bytes_read (stand.pasts panel).turns) piece done.1
 work_answers plant panel piece line stand next settled has done =
     let past = stand.pasts panel in
     let then : Progress = turned done.0 done.1 past in
     let settled_then : Settled plant panel ((behind_turn panel done.0 done.1 stand).pasts panel) =
     (work_settled plant (Read panel piece) line stand (behind_turn panel done.0 done.1 stand) settled has (done.0, done.1, done.2, done.3, done.4, refl)).each panel in
     let SettledBy : Bool → Type 0 = λ test. Settled plant panel (cond test then past) in
-    let Of : List ℕ → Type 0 = λ piece. AnswersItems (bytes_of past.turns) piece done.1 in
+    let Of : List ℕ → Type 0 = λ piece. AnswersItems (bytes_read past.turns) piece done.1 in
     subst Of done.2 (turn_answers plant panel past done.0 done.1 done.3.is_turn (settled.each panel) (subst SettledBy (eq-eqb panel panel refl) settled_then))

@@ -95,7 +95,7 @@ session_in panel history = filter (λ entry. is_of_session entry.request) (entri
 -- A panel's session makes these entries of these pieces, and what it sends is its text of them.
 pub record IsSession (plant : PlantData) (panel : ℕ) (pieces : List (List ℕ))
     (entries : List PlantEntry) (sent : List ℕ) : Type 0 where
-  pub fits : turns.Fits panel pieces entries
+  pub fits : turns.FitsReads panel pieces entries
   pub text : IsText plant (items (flat_map (λ piece. piece) pieces)) entries sent
 
 -- In the history of these actions the session of each panel is one: of the pieces that it read in them, with the bytes that

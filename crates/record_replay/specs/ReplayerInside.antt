@@ -7,7 +7,7 @@ use Rattle.plant_core.specs.State.{IsValid}
 use Rattle.panel_session.specs.declared.session.Session.{Session}
 use Rattle.panel_session.specs.Session.{StandsFor}
 use Rattle.panel_session.specs.SoFar.{Progress, nothing_yet}
-use Rattle.panel_session.specs.Turns.{bytes_of}
+use Rattle.panel_session.specs.Turns.{bytes_read}
 use Rattle.record_replay.specs.declared.replayer.Replayer.{Replayer}
 use Rattle.record_replay.specs.Script.{Work, Read, Leave, Show, lines, worked, LinesSpell}
 use Rattle.record_replay.specs.Replay.{ReplayState, Advances}
@@ -41,7 +41,7 @@ at_least_one (suc n) = suc n
 -- What a session has done stays small: each of its turns, and each byte of them with which an item may end, has two bytes of
 -- the script.
 pub record IsSmall (used : ℕ) (past : Progress) : Type 0 where
-  pub ends : 2 * ends_in (bytes_of past.turns) ≤ used
+  pub ends : 2 * ends_in (bytes_read past.turns) ≤ used
   pub turns : 2 * length past.turns ≤ used
 
 -- The plant and the sessions stand so, behind this many bytes of a script.

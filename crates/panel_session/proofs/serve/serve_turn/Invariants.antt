@@ -4,13 +4,13 @@ use Rattle.panel_session.specs.Acting.{MayGoOn}
 use Rattle.panel_session.specs.CallsLeft.{calls_left}
 use Rattle.panel_session.specs.ServedInside.{IsServing, KeepsAnswered, outside}
 use Rattle.panel_session.specs.Session.{StandsFor}
-use Rattle.panel_session.specs.SoFar.{Progress, unread}
+use Rattle.panel_session.specs.SoFar.{Progress, unstarted}
 use Rattle.panel_session.proofs.serve.serve_turn.Given as goal
 
 -- The turn is on its way, the seat, the link and the trace are the same, and no call failed.
 abbrev pub invariant-loop-link : goal.invariant-loop-link
 invariant-loop-link g l = record {
-  way : (plant : PlantData) (panel : ℕ) (past : Progress) → StandsFor plant panel l.fn.session past → past.now ≡ unread → MayGoOn past l.fn.piece → KeepsAnswered plant past
+  way : (plant : PlantData) (panel : ℕ) (past : Progress) → StandsFor plant panel l.fn.session past → past.now ≡ unstarted → MayGoOn past l.fn.piece → KeepsAnswered plant past
       → IsServing plant panel past l.fn.piece l.session
       (outside l.fn.seat (g.L.Sink.written l.fn.link) (g.K.Sink.written l.fn.trace))
       (outside l.seat (g.L.Sink.written l.link) (g.K.Sink.written l.trace)) l.rest;
