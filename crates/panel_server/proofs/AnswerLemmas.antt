@@ -24,7 +24,7 @@ use Rattle.panel_session.specs.Served.{PlantSeat}
 use Rattle.panel_session.proofs.LampLemmas.{display_poll-lamps}
 
 -- what is behind a front of a legal history is legal there
-legal_behind : (first : State) (front later : List PlantEntry) → IsLegal step Takes first (front ++ later) → IsLegal step Takes (run step first front) later
+pub legal_behind : (first : State) (front later : List PlantEntry) → IsLegal step Takes first (front ++ later) → IsLegal step Takes (run step first front) later
 legal_behind first [] later legal = legal
 legal_behind first (entry ∷ front) later legal = legal_behind (step first entry.request).state front later legal.2
 

@@ -4,3 +4,8 @@ pub mod SendLemmas
 pub mod PollLemmas
 pub mod BeginLemmas
 pub mod DriveLemmas
+pub mod LinkLemmas
+pub mod PanelLemmas
+pub mod OverLemmas
+pub mod PartLemmas
+pub mod LeaveLemmas
