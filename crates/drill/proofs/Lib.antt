@@ -2,4 +2,10 @@ mod RoomLemmas
 mod StreamLemmas
 mod PieceLemmas
 mod CountLemmas
+mod AskedLemmas
+mod TurnLemmas
+mod TraceLines
+mod ServedLemmas
+mod DoneLemmas
+mod HireLemmas
 mod Worked

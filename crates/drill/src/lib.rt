@@ -6,9 +6,13 @@ mod draws;
 mod frames;
 mod laws;
 mod message;
+mod outcome;
 mod panel_bytes;
 mod pieces;
+mod run;
+mod worker;
 
 pub use laws::{frames_are_counted, messages_ask_the_plant, streams_are_read};
 pub use panel_bytes::stream;
 pub use pieces::in_pieces;
+pub use run::{Drilled, run_drill};

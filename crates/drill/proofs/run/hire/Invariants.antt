@@ -1,0 +1,12 @@
+use Rattle.std.proofs.Common.{◌≡◌, ◌+◌, ◌++◌, length}
+use Rattle.drill.specs.WorkerInside.{EachWorker, IsReady, seats_of}
+use Rattle.drill.proofs.run.hire.Given as goal
+
+-- The seats so far have their workers, and the others are left.
+abbrev pub invariant-loop-panel : goal.invariant-loop-panel
+invariant-loop-panel l = record {
+  left : length l.seats.items + l.panel ≡ l.load.panels;
+  counted : length l.workers.items ≡ l.panel;
+  shared : seats_of l.workers.items ++ l.seats.items ≡ l.fn.seats.items;
+  ready : EachWorker (IsReady l.load) l.workers.items;
+}

@@ -1,0 +1,97 @@
+//! What the workers of a drill left, all together.
+
+ghost use Rattle.std.specs.Prelude.{◌≡◌, ◌*◌, ◌<◌, ◌≤◌, ◌^◌, ℕ, true, length, All, IfOk, map};
+ghost use Rattle.std.specs.List.{sum_by};
+ghost use Rattle.plant_config.specs.DrillPlant.{drill_plant, drill_panel_limit};
+ghost use Rattle.plant_core.specs.State.{start};
+ghost use Rattle.drill.specs.WorkerInside.{EachWorker, HasDone, HasDrilled, seats_of, traces_of};
+ghost use Rattle.drill.specs.Drilled.{most_messages};
+
+use crate::laws::messages_ask_the_plant;
+use crate::worker::{Worker, Workload};
+use history_lock::{Closed, HistoryLock, Past, Seat};
+use plant_core::PlantState;
+use std::alloc::{AllocError, Global};
+
+// The good and the bad frames that came, the traces, one behind the other, and the history of the lock.
+#[derive(Drop)]
+pub(crate) struct Outcome {
+    pub(crate) goods: u64,
+    pub(crate) bads: u64,
+    pub(crate) trace: Vec<u8>,
+    pub(crate) past: Past<PlantState>,
+}
+
+// Whether the session of each worker ended as its link did.
+pub(crate) fn all_ended(workers: &[Worker<'_>]) -> bool
+    ensures { result ≡ true → All (λ worker. worker.ended ≡ true) workers.now }
+{
+    workers.iter().all(|worker| worker.ended)
+}
+
+// What workers left that have done their work. The lock is closed with their seats.
+pub(crate) fn gather(
+    alloc: Global,
+    lock: HistoryLock<PlantState>,
+    workers: Vec<Worker<'_>>,
+    load: &Workload,
+) -> Result<Outcome, AllocError>
+    requires done { EachWorker (HasDone load.now lock) workers.items }
+    requires count { length workers.items ≡ load.now.panels }
+    requires seats { lock.seats ≡ load.now.panels }
+    requires first { lock.first ≡ start (drill_plant load.now.panels) }
+    requires some { 1 ≤ load.now.panels }
+    requires most { load.now.panels ≤ drill_panel_limit }
+    requires each { load.now.each ≤ most_messages }
+    ensures { IfOk result (HasDrilled load.now) }
+{
+    let goods = goods_of(workers.as_slice());
+    let bads = bads_of(workers.as_slice());
+    let trace = joined(alloc, workers.as_slice())?;
+    let seats = into_seats(alloc, workers)?;
+    messages_ask_the_plant();
+    let Closed {
+        machine: _,
+        entries: _,
+        past,
+    } = lock.close(seats);
+    Ok(Outcome {
+        goods,
+        bads,
+        trace,
+        past,
+    })
+}
+
+// How many good frames came, and how many bad ones.
+fn goods_of(workers: &[Worker<'_>]) -> u64
+    requires { sum_by (λ worker. worker.goods) workers.now < 2 ^ 64 }
+    ensures { result ≡ sum_by (λ worker. worker.goods) workers.now }
+{
+    workers.iter().map(|worker| worker.goods).sum()
+}
+
+fn bads_of(workers: &[Worker<'_>]) -> u64
+    requires { sum_by (λ worker. worker.bads) workers.now < 2 ^ 64 }
+    ensures { result ≡ sum_by (λ worker. worker.bads) workers.now }
+{
+    workers.iter().map(|worker| worker.bads).sum()
+}
+
+// The traces, one behind the other.
+fn joined(alloc: Global, workers: &[Worker<'_>]) -> Result<Vec<u8>, AllocError>
+    ensures { IfOk result (λ text. text.items ≡ traces_of workers.now) }
+{
+    let mut text = Vec::new(alloc);
+    for worker in workers {
+        text.extend_from_slice(worker.trace.written())?;
+    }
+    Ok(text)
+}
+
+// The seats, in order.
+fn into_seats(alloc: Global, workers: Vec<Worker<'_>>) -> Result<Vec<Seat<PlantState>>, AllocError>
+    ensures { IfOk result (λ seats. seats.items ≡ seats_of workers.entry.items) }
+{
+    workers.into_iter().map(|worker| worker.seat).collect(alloc)
+}

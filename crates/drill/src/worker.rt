@@ -1,0 +1,128 @@
+//! The workers of a drill: each serves the session of one panel.
+
+ghost use Rattle.std.specs.Prelude.{◌≡◌, ◌<◌, ◌≤◌, ◌^◌, true, IfOk};
+ghost use Rattle.plant_config.specs.DrillPlant.{drill_plant, drill_panel_limit};
+ghost use Rattle.drill.specs.WorkerInside.{EndsDone, IsReady, MayWork};
+ghost use Rattle.drill.specs.Drilled.{most_messages};
+
+use crate::panel_bytes::stream;
+use crate::pieces::in_pieces;
+use ctl_io::MemSink;
+use ctl_net::{Gate, GatePoint, MemLink};
+use history_lock::{HistoryLock, Seat};
+use panel_session::{Session, SessionEnd, serve_session};
+use plant_config::{PanelNo, Plant};
+use plant_core::PlantState;
+use plant_names::Names;
+use std::alloc::{AllocError, Global};
+use std::sync::Wait;
+
+// What a drill works: its number, how many panels it has, and how many messages each of them sends.
+#[derive(Drop)]
+pub(crate) struct Workload {
+    pub(crate) number: u64,
+    pub(crate) panels: u32,
+    pub(crate) each: u32,
+}
+
+// A panel's session, its seat of the plant's lock, its link and its trace; and once it is over, the good and the bad frames
+// that came, and whether it ended as its link did.
+#[derive(Drop)]
+pub(crate) struct Worker<'p> {
+    pub(crate) session: Session<'p>,
+    pub(crate) seat: Seat<PlantState>,
+    pub(crate) link: MemLink,
+    pub(crate) trace: MemSink,
+    pub(crate) goods: u64,
+    pub(crate) bads: u64,
+    pub(crate) ended: bool,
+}
+
+// The room of a link and of a trace, in bytes: so many for each message of the panel and so many for each piece.
+const LINK_ROOM_OF_MESSAGE: usize = 32;
+
+const LINK_ROOM_OF_PIECE: usize = 1024;
+
+const TRACE_ROOM_OF_MESSAGE: usize = 256;
+
+const TRACE_ROOM_OF_PIECE: usize = 8192;
+
+impl<'p> Worker<'p> {
+    // A worker of a panel that has done nothing.
+    pub(crate) fn new(
+        alloc: Global,
+        plant: &'p Plant,
+        names: &'p Names,
+        seat: Seat<PlantState>,
+        load: &Workload,
+        panel: u32,
+    ) -> Result<Worker<'p>, AllocError>
+        requires plant { plant.now ≡ drill_plant load.now.panels }
+        requires names { names.now ≡ plant.now }
+        requires panel { panel < load.now.panels }
+        requires panels { load.now.panels ≤ drill_panel_limit }
+        requires each { load.now.each ≤ most_messages }
+        ensures ready { IfOk result (IsReady load.now panel) }
+        ensures seat { IfOk result (λ worker. worker.seat ≡ seat) }
+    {
+        let session = Session::start(alloc, plant, names, PanelNo::of(panel))?;
+        let bytes = stream(alloc, load.number, panel, load.each)?;
+        let events = in_pieces(alloc, bytes.as_slice())?;
+        let each = load.each as usize;
+        let pieces = events.as_slice().len();
+        let written = LINK_ROOM_OF_MESSAGE * each + LINK_ROOM_OF_PIECE * pieces;
+        let traced = TRACE_ROOM_OF_MESSAGE * each + TRACE_ROOM_OF_PIECE * pieces;
+        let link = MemLink::new(alloc, events, written, Vec::new(alloc), Vec::new(alloc))?;
+        let trace = MemSink::new(alloc, traced, Vec::new(alloc))?;
+        Ok(Worker {
+            session,
+            seat,
+            link,
+            trace,
+            goods: 0,
+            bads: 0,
+            ended: false,
+        })
+    }
+
+    // Serves the session, for at most so many turns.
+    pub(crate) fn work<R: Wait, G: Gate>(
+        &mut self,
+        rt: &R,
+        gate: &G,
+        lock: &HistoryLock<PlantState>,
+        load: &Workload,
+        panel: usize,
+        turns: u64,
+    )
+        requires may { MayWork load.now lock.now panel self.old }
+        requires panels { 1 ≤ load.now.panels }
+        requires most { load.now.panels ≤ drill_panel_limit }
+        requires turns { turns ≤ 2 ^ 40 }
+        ensures { EndsDone load.now lock.now panel self.new }
+    {
+        let number = self.session.panel().get();
+        gate.pass(rt, GatePoint::Start(number));
+        let end = serve_session(
+            rt,
+            &mut self.session,
+            lock,
+            &mut self.seat,
+            &mut self.link,
+            &mut self.trace,
+            turns,
+        );
+        gate.pass(rt, GatePoint::Done(number));
+        let counts = self.session.counts();
+        self.goods = counts.goods;
+        self.bads = counts.bads;
+        self.ended = is_ended(end);
+    }
+}
+
+// Whether a session ended as its link did.
+fn is_ended(end: SessionEnd) -> bool
+    ensures { result ≡ true → end ≡ SessionEnd.Ended }
+{
+    matches!(end, SessionEnd::Ended)
+}
