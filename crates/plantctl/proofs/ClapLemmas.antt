@@ -11,7 +11,7 @@ use Rattle.clap.specs.Walk.{Held, Step, Walk, after_step, arg_by_index, finished
 use Rattle.clap.specs.Simple.{entered, names_of}
 use Rattle.clap.specs.Takes.{bundle_passes, default_passes, entered_passes, flag_word_passes, is_valid, level_passes, other_passes, settle_passes, step_passes, turn_passes, value_passes, walk_passes}
 use Rattle.clap.proofs.OnLiterals.{clap_on_literals}
-use Rattle.plantctl.specs.Words.{Command, Check, Replay, Audit, IsName, IsProper, words_of}
+use Rattle.plantctl.specs.Words.{Command, Check, Replay, Audit, IsFileName, IsProper, words_of}
 use Rattle.plantctl.specs.WordsInside.{check, command_in, program}
 use Rattle.plantctl.proofs.DashLemmas.{not_dashes, not_long, not_short, waits, no_subcommand, is_plain}
 
@@ -112,35 +112,35 @@ gathered plant traces = record {
 abbrev gathering : Text → List Text → Walk
 gathering plant traces = standing true (gathered plant traces) 2
 
-gathers : (plant : Text) (traces more : List Text) → All IsName more → fold (walked (leaf 2).rules []) (gathering plant traces) more ≡ gathering plant (traces ++ more)
+gathers : (plant : Text) (traces more : List Text) → All IsFileName more → fold (walked (leaf 2).rules []) (gathering plant traces) more ≡ gathering plant (traces ++ more)
 gathers plant traces [] names = ap (gathering plant) (sym (append-nil traces))
-gathers plant traces ([] ∷ more) names = absurd (All-head IsName [] more names)
+gathers plant traces ([] ∷ more) names = absurd (All-head IsFileName [] more names)
 gathers plant traces ((first ∷ rest) ∷ more) names =
     let word = first ∷ rest in
     ap (λ (w : Walk). fold (walked (leaf 2).rules []) w more)
-    (goes (leaf 2).rules true (gathered plant traces) 2 first rest (ne_eqb first 45 (All-head IsName word more names)))
-    ∙ gathers plant (traces ++ word ∷ []) more (All-tail IsName word more names)
+    (goes (leaf 2).rules true (gathered plant traces) 2 first rest (ne_eqb first 45 (All-head IsFileName word more names)))
+    ∙ gathers plant (traces ++ word ∷ []) more (All-tail IsFileName word more names)
     ∙ ap (gathering plant) (append_assoc traces (word ∷ []) more)
 
-gathers_pass : (plant : Text) (traces more : List Text) → All IsName more → walk_passes (leaf 2) [] (gathering plant traces) more ≡ true
+gathers_pass : (plant : Text) (traces more : List Text) → All IsFileName more → walk_passes (leaf 2) [] (gathering plant traces) more ≡ true
 unfolding walk_passes
 gathers_pass plant traces [] names = refl
-gathers_pass plant traces ([] ∷ more) names = absurd (All-head IsName [] more names)
+gathers_pass plant traces ([] ∷ more) names = absurd (All-head IsFileName [] more names)
 gathers_pass plant traces ((first ∷ rest) ∷ more) names =
     let word = first ∷ rest in
-    let differs = ne_eqb first 45 (All-head IsName word more names) in
+    let differs = ne_eqb first 45 (All-head IsFileName word more names) in
     ap₂ ◌&&◌ (turn (leaf 2) true (gathered plant traces) 2 first rest differs refl)
     (ap (λ (w : Walk). walk_passes (leaf 2) [] w more) (goes (leaf 2).rules true (gathered plant traces) 2 first rest differs)
-    ∙ gathers_pass plant (traces ++ word ∷ []) more (All-tail IsName word more names))
+    ∙ gathers_pass plant (traces ++ word ∷ []) more (All-tail IsFileName word more names))
 
-walks_audit : (first other : ℕ) (rest others : Text) (more : List Text) → eqb first 45 ≡ false → eqb other 45 ≡ false → All IsName more
+walks_audit : (first other : ℕ) (rest others : Text) (more : List Text) → eqb first 45 ≡ false → eqb other 45 ≡ false → All IsFileName more
     → walk (leaf 2).rules [] nothing_held ((first ∷ rest) ∷ (other ∷ others) ∷ more) ≡ gathering (first ∷ rest) ((other ∷ others) ∷ more)
 walks_audit first other rest others more differs both names =
     ap (λ (w : Walk). fold (walked (leaf 2).rules []) w ((other ∷ others) ∷ more)) (goes (leaf 2).rules false nothing_held 1 first rest differs)
     ∙ ap (λ (w : Walk). fold (walked (leaf 2).rules []) w more) (goes (leaf 2).rules false (plant_held 2 (first ∷ rest)) 2 other others both)
     ∙ gathers (first ∷ rest) ((other ∷ others) ∷ []) more names
 
-audit_passes : (first other : ℕ) (rest others : Text) (more : List Text) → eqb first 45 ≡ false → eqb other 45 ≡ false → All IsName more
+audit_passes : (first other : ℕ) (rest others : Text) (more : List Text) → eqb first 45 ≡ false → eqb other 45 ≡ false → All IsFileName more
     → walk_passes (leaf 2) [] (walk_from nothing_held) ((first ∷ rest) ∷ (other ∷ others) ∷ more) ≡ true
 unfolding walk_passes
 audit_passes first other rest others more differs both names =
@@ -163,7 +163,7 @@ audit_settles : (plant trace : Text) (more : List Text) → length (trace ∷ mo
 audit_settles plant trace more few =
     ap₂ ◌&&◌ (le-leb 1 (length (trace ∷ more)) (omega arith)) (ap₂ ◌&&◌ (le-leb (length (trace ∷ more)) 200 few) (all_pass (trace ∷ more)))
 
-audit_level : (first other : ℕ) (rest others : Text) (more : List Text) → eqb first 45 ≡ false → eqb other 45 ≡ false → All IsName more
+audit_level : (first other : ℕ) (rest others : Text) (more : List Text) → eqb first 45 ≡ false → eqb other 45 ≡ false → All IsFileName more
     → length ((other ∷ others) ∷ more) ≤ 200 → level_passes (leaf 2) [] nothing_held ((first ∷ rest) ∷ (other ∷ others) ∷ more) false ≡ true
 audit_level first other rest others more differs both names few =
     ap₂ ◌&&◌ (audit_passes first other rest others more differs both names)
@@ -236,7 +236,7 @@ takes_replay first other rest others differs both =
     let words = (first ∷ rest) ∷ (other ∷ others) ∷ [] in
     ap₂ ◌&&◌ (ap (entered_passes (built program)) (at_replay words) ∙ replay_level first other rest others differs both) (top_replay words)
 
-takes_audit : (first other : ℕ) (rest others : Text) (more : List Text) → eqb first 45 ≡ false → eqb other 45 ≡ false → All IsName more
+takes_audit : (first other : ℕ) (rest others : Text) (more : List Text) → eqb first 45 ≡ false → eqb other 45 ≡ false → All IsFileName more
     → length ((other ∷ others) ∷ more) ≤ 200 → takes program (codes "audit" ∷ (first ∷ rest) ∷ (other ∷ others) ∷ more) ≡ true
 takes_audit first other rest others more differs both names few =
     let words = (first ∷ rest) ∷ (other ∷ others) ∷ more in
@@ -250,10 +250,10 @@ taken (Replay (first ∷ rest) []) proper = absurd proper.1
 taken (Replay (first ∷ rest) (other ∷ others)) proper = takes_replay first other rest others (ne_eqb first 45 proper.0) (ne_eqb other 45 proper.1)
 taken (Audit [] traces) proper = absurd proper.0
 taken (Audit (first ∷ rest) []) proper = let none : 1 ≤ 0 = proper.1.some in absurd (omega (arith, none))
-taken (Audit (first ∷ rest) ([] ∷ more)) proper = absurd (All-head IsName [] more proper.1.names)
+taken (Audit (first ∷ rest) ([] ∷ more)) proper = absurd (All-head IsFileName [] more proper.1.names)
 taken (Audit (first ∷ rest) ((other ∷ others) ∷ more)) proper =
-    takes_audit first other rest others more (ne_eqb first 45 proper.0) (ne_eqb other 45 (All-head IsName (other ∷ others) more proper.1.names))
-    (All-tail IsName (other ∷ others) more proper.1.names) proper.1.few
+    takes_audit first other rest others more (ne_eqb first 45 proper.0) (ne_eqb other 45 (All-head IsFileName (other ∷ others) more proper.1.names))
+    (All-tail IsFileName (other ∷ others) more proper.1.names) proper.1.few
 
 -- ---- and gives that command
 
@@ -271,7 +271,7 @@ gives_replay : (first other : ℕ) (rest others : Text) → eqb first 45 ≡ fal
 gives_replay first other rest others differs both =
     ap entered_at (at_replay ((first ∷ rest) ∷ (other ∷ others) ∷ [])) ∙ ap (found_in 1 (codes "replay")) (walks_replay first other rest others differs both)
 
-gives_audit : (first other : ℕ) (rest others : Text) (more : List Text) → eqb first 45 ≡ false → eqb other 45 ≡ false → All IsName more
+gives_audit : (first other : ℕ) (rest others : Text) (more : List Text) → eqb first 45 ≡ false → eqb other 45 ≡ false → All IsFileName more
     → command_in (subcommand_of program (codes "audit" ∷ (first ∷ rest) ∷ (other ∷ others) ∷ more)) ≡ Some (Audit (first ∷ rest) ((other ∷ others) ∷ more))
 gives_audit first other rest others more differs both names =
     ap entered_at (at_audit ((first ∷ rest) ∷ (other ∷ others) ∷ more)) ∙ ap (found_in 2 (codes "audit")) (walks_audit first other rest others more differs both names)
@@ -284,7 +284,7 @@ gives (Replay (first ∷ rest) []) proper = absurd proper.1
 gives (Replay (first ∷ rest) (other ∷ others)) proper = gives_replay first other rest others (ne_eqb first 45 proper.0) (ne_eqb other 45 proper.1)
 gives (Audit [] traces) proper = absurd proper.0
 gives (Audit (first ∷ rest) []) proper = let none : 1 ≤ 0 = proper.1.some in absurd (omega (arith, none))
-gives (Audit (first ∷ rest) ([] ∷ more)) proper = absurd (All-head IsName [] more proper.1.names)
+gives (Audit (first ∷ rest) ([] ∷ more)) proper = absurd (All-head IsFileName [] more proper.1.names)
 gives (Audit (first ∷ rest) ((other ∷ others) ∷ more)) proper =
-    gives_audit first other rest others more (ne_eqb first 45 proper.0) (ne_eqb other 45 (All-head IsName (other ∷ others) more proper.1.names))
-    (All-tail IsName (other ∷ others) more proper.1.names)
+    gives_audit first other rest others more (ne_eqb first 45 proper.0) (ne_eqb other 45 (All-head IsFileName (other ∷ others) more proper.1.names))
+    (All-tail IsFileName (other ∷ others) more proper.1.names)

@@ -25,3 +25,6 @@ pub mod TracesLemmas
 pub mod RunEndsLemmas
 pub mod FilesLemmas
 pub mod FilesLeftLemmas
+pub mod DrillWordsLemmas
+pub mod DrillLemmas
+pub mod ProgramLemmas

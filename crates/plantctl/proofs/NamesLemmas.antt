@@ -7,7 +7,7 @@ use Rattle.std.specs.String.{string_bytes}
 use Rattle.std.proofs.lemmas.Bool.{false≢true}
 use Rattle.std.proofs.lemmas.List.{take-append-drop, take_more, map-append, get_or-map, length-map}
 use Rattle.std.proofs.lemmas.List.Elements.{All-push}
-use Rattle.plantctl.specs.Words.{texts, IsName}
+use Rattle.plantctl.specs.Words.{texts, IsFileName}
 
 -- the texts of words in front of one, its own, and those behind it
 pub texts-at : (words : List (String Global)) (i : ℕ) (word : String Global) (name : List ℕ) → i < length words → word ≡ get_or words i word → name ≡ string_bytes word
@@ -27,21 +27,21 @@ texts-more words i word name less is named =
 
 -- A word names something.
 abbrev pub NamesOne : String Global → Type 0
-NamesOne word = IsName (string_bytes word)
+NamesOne word = IsFileName (string_bytes word)
 
 -- a word that names nothing, among others
-no_name : (b : Bool) (name : List ℕ) → (IsName name → IsTrue b) → b ≡ false → IsName name → ⊥
+no_name : (b : Bool) (name : List ℕ) → (IsFileName name → IsTrue b) → b ≡ false → IsFileName name → ⊥
 no_name b name only is named = false≢true (sym is ∙ only named)
 
 pub not_all : (words : List (String Global)) (i : ℕ) (word : String Global) (name : List ℕ) (b : Bool) → i < length words → word ≡ get_or words i word → name ≡ string_bytes word
-    → (IsName name → IsTrue b) → b ≡ false → All IsName (texts words) → ⊥
+    → (IsFileName name → IsTrue b) → b ≡ false → All IsFileName (texts words) → ⊥
 not_all words i word name b less is named only is_not all =
     let there : get_or (texts words) i name ≡ name = get_or-map string_bytes words i word name less ∙ ap string_bytes (sym is) ∙ sym named in
-    no_name b name only is_not (subst IsName there (all i name (omega (arith, less, length-map words string_bytes))))
+    no_name b name only is_not (subst IsFileName there (all i name (omega (arith, less, length-map words string_bytes))))
 
 -- one more word that names something
 pub all_more : (words : List (String Global)) (i : ℕ) (word : String Global) (name : List ℕ) (b : Bool) → i < length words → word ≡ get_or words i word → name ≡ string_bytes word
-    → (IsTrue b → IsName name) → b ≡ true → All NamesOne (take i words) → All NamesOne (take (i + 1) words)
+    → (IsTrue b → IsFileName name) → b ≡ true → All NamesOne (take i words) → All NamesOne (take (i + 1) words)
 all_more words i word name b less is named only is_one all =
     subst (All NamesOne) (sym (take_more words i word less ∙ ap (λ (w : String Global). take i words ++ w ∷ []) (sym is)))
-    (All-push NamesOne (take i words) word all (subst IsName named (only is_one)))
+    (All-push NamesOne (take i words) word all (subst IsFileName named (only is_one)))

@@ -65,7 +65,7 @@ moved-cause words before mid end written faults (inl at) = inl (record { ends = 
 moved-cause words before mid end written faults (inr by) = inr (record { command = by.command; ask = by.ask; ends = by.ends; files = by.files })
 
 -- What the output of a run came to.
-abbrev IsOutput : End → Option (List ℕ) → ℕ → Option (List ℕ) → ℕ → ℕ → Type 0
+abbrev pub IsOutput : End → Option (List ℕ) → ℕ → Option (List ℕ) → ℕ → ℕ → Type 0
 IsOutput end before faults_before now faults_now status =
     ((status ≡ status_of end) × (now ≡ appended before (end_text end)) × (faults_now ≡ faults_before))
     ⊎ ((status ≡ 7) × AppendsPart (end_text end) before now × (faults_now ≡ one_more faults_before))
@@ -84,7 +84,7 @@ left_line stop end before mid now faults_before faults_mid faults_now status is 
   failed.2 ∙ ap one_more kept,
 )
 
-output_of : {T : Type 0} (result : Result T Stop) (end : End) (before mid now : Option (List ℕ)) (faults_before faults_mid faults_now status : ℕ) → ComesTo result end before mid
+pub output_of : {T : Type 0} (result : Result T Stop) (end : End) (before mid now : Option (List ℕ)) (faults_before faults_mid faults_now status : ℕ) → ComesTo result end before mid
     → faults_mid ≡ count_after (stopped_by_output result) faults_before → Reports result status mid now faults_mid faults_now → IsOutput end before faults_before now faults_now status
 output_of (Ok done) end before mid now fb fm fn status comes kept (inl reported) =
     inl (reported.0 ∙ sym comes.0, reported.1 ∙ appended-nil mid ∙ comes.1, reported.2 ∙ kept)
@@ -103,7 +103,7 @@ output_of (Err stops.OutputFault) end before mid now fb fm fn status comes kept 
     inr (reported.0, subst (AppendsPart (end_text end) before) (sym (reported.1 ∙ appended-nil mid)) comes, reported.2 ∙ kept)
 output_of (Err stops.OutputFault) end before mid now fb fm fn status comes kept (inr failed) = no-part mid now failed.1
 
-is_output : (end : End) (before now : World) (status : ℕ) → IsOutput end before.written before.output_faults now.written now.output_faults status
+pub is_output : (end : End) (before now : World) (status : ℕ) → IsOutput end before.written before.output_faults now.written now.output_faults status
     → IsWritten end before now status ⊎ IsCutShort end before now status
 is_output end before now status (inl written) = inl (record { status_is = written.0; appends = written.1; output_faults = written.2 })
 is_output end before now status (inr cut) = inr (record { status_is = cut.0; appends = cut.1; output_faults = cut.2 })

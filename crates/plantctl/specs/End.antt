@@ -53,8 +53,8 @@ status_of (Audited verdict) = verdict_status verdict
 status_of TraceTooLong = 5
 
 -- the status of every end whose text could not be written
-abbrev pub output_failed : ℕ
-output_failed = 7
+abbrev pub unwritten_status : ℕ
+unwritten_status = 7
 
 -- all that is appended to the output
 abbrev pub end_text : End → List ℕ

@@ -6,11 +6,15 @@ pub mod OpensPlant
 pub mod Check
 pub mod Replay
 pub mod Audit
+pub mod Drill
 pub mod Run
+pub mod Program
 pub mod Asked
 pub mod Outcomes
 pub mod History
 pub mod Statuses
+pub mod ProgramStatuses
 pub mod StopInside
 pub mod WordsInside
 pub mod AuditInside
+pub mod DrillInside

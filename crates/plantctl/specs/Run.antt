@@ -6,7 +6,7 @@ use Rattle.ctl_io.specs.Held.{OtherOpeningsStay}
 use Rattle.ctl_io.specs.WholeFile.{FileReading, Well, Missing, Failed, reading_failed, AfterReading, IsGivenBack}
 use Rattle.plant_config.specs.Plant.{PlantData}
 use Rattle.plantctl.specs.World.{World, Snapshot, snapshot, FilesUntouched}
-use Rattle.plantctl.specs.End.{End, NoMemory, Usage, FileMissing, FileFault, status_of, output_failed, end_text, is_file_fault}
+use Rattle.plantctl.specs.End.{End, NoMemory, Usage, FileMissing, FileFault, status_of, unwritten_status, end_text, is_file_fault}
 use Rattle.plantctl.specs.Words.{Command, Check, Replay, Audit, plant_word, other_files, Ask, AskCommand, HasNoForm}
 use Rattle.plantctl.specs.OpensPlant.{OpensPlant, ThenEnds, next_opening, opened_for}
 use Rattle.plantctl.specs.Check.{CheckEnds}
@@ -95,7 +95,7 @@ pub record IsWritten (end : End) (before now : World) (status : ℕ) : Type 0 wh
 
 -- A write failed behind a shorter front of the end's text, and the status says so.
 pub record IsCutShort (end : End) (before now : World) (status : ℕ) : Type 0 where
-  pub status_is : status ≡ output_failed
+  pub status_is : status ≡ unwritten_status
   pub appends : AppendsPart (end_text end) before.written now.written
   pub output_faults : now.output_faults ≡ one_more before.output_faults
 

@@ -19,7 +19,7 @@ use Rattle.plantctl.specs.declared.stop.Status.TheVariants as statuses
 use Rattle.plantctl.specs.declared.words.Command as code
 use Rattle.plantctl.specs.declared.words.Command.TheVariants as commands
 use Rattle.plantctl.specs.Lines.{usage, no_memory, file_missing, file_fault, plant_refused, plant_too_long, line_refused, script_too_long, trace_too_long}
-use Rattle.plantctl.specs.End.{End, status_of, output_failed, end_text, is_file_fault, verdict_status, verdict_line}
+use Rattle.plantctl.specs.End.{End, status_of, unwritten_status, end_text, is_file_fault, verdict_status, verdict_line}
 use Rattle.plantctl.specs.World.{World, Snapshot, snapshot}
 use Rattle.plantctl.specs.Words.{Command, Check, Replay, Audit, texts}
 use Rattle.plantctl.specs.OpensPlant.{OpensPlant, OpensFile, next_opening, opened_for}
@@ -127,7 +127,7 @@ abbrev pub Reports : {T : Type 0} → Result T Stop → ℕ → Option (List ℕ
 Reports result status before now faults_before faults_now =
     ((status ≡ number_of_end result) × (now ≡ appended before (rest_of result))
     × (faults_now ≡ faults_before))
-    ⊎ ((status ≡ output_failed) × AppendsPart (rest_of result) before now
+    ⊎ ((status ≡ unwritten_status) × AppendsPart (rest_of result) before now
     × (faults_now ≡ one_more faults_before))
 
 -- A stop has yet to write all of this end's text: it has the end's status, line and fault, and no write failed.

@@ -3,6 +3,10 @@ use Rattle.std.specs.Prelude.{◌≡◌, ◌≢◌, ℕ, ◌≤◌, List, [], �
 use Rattle.std.specs.Global.{Global}
 use Rattle.std.specs.declared.string.String.{String}
 use Rattle.std.specs.String.{string_bytes}
+use Rattle.line_text.specs.Decimal.{SpellsDecimal}
+use Rattle.plant_config.specs.DrillPlant.{drill_panel_limit}
+use Rattle.drill.specs.Drilled.{most_messages}
+use Rattle.plantctl.specs.declared.drill_command.Drill.{Drill}
 
 -- the words as texts
 abbrev pub texts : List (String Global) → List (List ℕ)
@@ -34,9 +38,9 @@ other_files (Replay plant script) = script ∷ []
 other_files (Audit plant traces) = traces
 
 -- A word that names something isn't empty and doesn't begin with a dash.
-abbrev pub IsName : List ℕ → Type 0
-IsName [] = ⊥
-IsName (byte ∷ more) = byte ≢ 45
+abbrev pub IsFileName : List ℕ → Type 0
+IsFileName [] = ⊥
+IsFileName (byte ∷ more) = byte ≢ 45
 
 -- the most traces of an audit
 abbrev pub most_traces : ℕ
@@ -46,13 +50,13 @@ most_traces = 200
 pub record NameTraces (words : List (List ℕ)) : Type 0 where
   pub some : 1 ≤ length words
   pub few : length words ≤ most_traces
-  pub names : All IsName words
+  pub names : All IsFileName words
 
 -- The words of a command are such as it takes: a plant's word, a script's and those of traces are names.
 abbrev pub IsProper : Command → Type 0
-IsProper (Check plant) = IsName plant
-IsProper (Replay plant script) = IsName plant × IsName script
-IsProper (Audit plant traces) = IsName plant × NameTraces traces
+IsProper (Check plant) = IsFileName plant
+IsProper (Replay plant script) = IsFileName plant × IsFileName script
+IsProper (Audit plant traces) = IsFileName plant × NameTraces traces
 
 -- The words ask for this command.
 pub record Ask (words : List (List ℕ)) (command : Command) : Type 0 where
@@ -66,3 +70,37 @@ AskCommand words = (command : Command) × Ask words command
 -- The words have no form.
 abbrev pub HasNoForm : List (List ℕ) → Type 0
 HasNoForm words = (command : Command) → Ask words command → ⊥
+
+-- the most digits of a word that says a number
+abbrev pub digit_limit : ℕ
+digit_limit = 10
+
+-- A word says this number, which is between these two: decimal digits spell it, at most 10, with zeros in front or without.
+pub record SaysNumber (least most : ℕ) (word : List ℕ) (number : ℕ) : Type 0 where
+  pub spells : SpellsDecimal word number
+  pub short : length word ≤ digit_limit
+  pub not_less : least ≤ number
+  pub not_more : number ≤ most
+
+-- the greatest number that a drill is made from
+abbrev pub greatest_number : ℕ
+greatest_number = 4294967295
+
+-- Three words say this drill: its number; its panels, of which there is one at least; and its messages, of which there is one at
+-- least for each panel.
+pub record SayDrill (number panels messages : List ℕ) (drill : Drill) : Type 0 where
+  pub says_number : SaysNumber 0 greatest_number number drill.number
+  pub says_panels : SaysNumber 1 drill_panel_limit panels drill.panels
+  pub says_messages : SaysNumber drill.panels most_messages messages drill.messages
+
+-- The words ask for this drill.
+pub record AskDrill (words : List (List ℕ)) (drill : Drill) : Type 0 where
+  pub number : List ℕ
+  pub panels : List ℕ
+  pub messages : List ℕ
+  pub form : words ≡ codes "drill" ∷ number ∷ panels ∷ messages ∷ []
+  pub say : SayDrill number panels messages drill
+
+-- The words ask for no drill.
+abbrev pub AskNoDrill : List (List ℕ) → Type 0
+AskNoDrill words = (drill : Drill) → AskDrill words drill → ⊥

@@ -1,16 +1,22 @@
 //! The words of the command line.
 
-ghost use Rattle.std.specs.Prelude.{◌↔◌, [], ◌∷◌, codes, All, IfErr, IfOk, IsTrue, MatchOption};
-ghost use Rattle.plantctl.specs.Words.{Ask, AskCommand, HasNoForm, IsName, NameTraces, texts};
+ghost use Rattle.std.specs.Prelude.{◌≡◌, ◌↔◌, ℕ, [], ◌∷◌, codes, All, IfErr, IfOk, IfSome, IsTrue};
+ghost use Rattle.std.specs.Prelude.{MatchOption};
+ghost use Rattle.plantctl.specs.Words.{Ask, AskCommand, HasNoForm, IsFileName, NameTraces};
+ghost use Rattle.plantctl.specs.Words.{SaysNumber, texts};
 ghost use Rattle.plantctl.specs.StopInside.{asked};
 
 use crate::parsed_words::{command_of, parse};
+use line_text::read_decimal;
 use std::alloc::{AllocError, Global};
 use std::rt::Env;
 use std::{env, io};
 
 // No word that names something begins with it.
 const DASH: u8 = b'-';
+
+// The most digits of a word that says a number.
+const MAX_DIGITS: usize = 10;
 
 // The most traces of an audit.
 pub(crate) const MAX_TRACES: usize = 200;
@@ -108,7 +114,7 @@ fn name_traces(words: &[String]) -> bool
 
 // Whether each word names something.
 fn are_names(words: &[String]) -> bool
-    ensures { IsTrue result ↔ All IsName (texts words.now) }
+    ensures { IsTrue result ↔ All IsFileName (texts words.now) }
 {
     for word in words {
         if !is_name(word.as_str()) {
@@ -120,11 +126,29 @@ fn are_names(words: &[String]) -> bool
 
 // Whether a word names something: it isn't empty and doesn't begin with a dash.
 fn is_name(word: &str) -> bool
-    ensures { IsTrue result ↔ IsName word.now }
+    ensures { IsTrue result ↔ IsFileName word.now }
 {
     match word.as_bytes() {
         [] => false,
         [first, ..] => *first != DASH,
+    }
+}
+
+// The number that a word says, `None` where it says none between these two.
+pub(crate) fn read_number(word: &str, least: u64, most: u64) -> Option<u64>
+    ensures found { IfSome result (λ number. SaysNumber least most word.now number) }
+    ensures only { (number : ℕ) → SaysNumber least most word.now number
+        → result ≡ Some number }
+{
+    let digits = word.as_bytes();
+    if digits.len() > MAX_DIGITS {
+        return None;
+    }
+    let number = read_decimal(digits)?;
+    if least <= number && number <= most {
+        Some(number)
+    } else {
+        None
     }
 }
 

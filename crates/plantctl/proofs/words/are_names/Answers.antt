@@ -4,7 +4,7 @@ use Rattle.std.specs.String.{string_bytes}
 use Rattle.std.proofs.lemmas.Bool.{false≢true}
 use Rattle.std.proofs.lemmas.List.{take_all}
 use Rattle.std.proofs.lemmas.List.Elements.{All-map}
-use Rattle.plantctl.specs.Words.{IsName}
+use Rattle.plantctl.specs.Words.{IsFileName}
 use Rattle.plantctl.proofs.NamesLemmas.{NamesOne, not_all, all_more}
 use Rattle.plantctl.proofs.words.are_names.Goals as goal
 
@@ -23,7 +23,7 @@ loop-word-preserved c =
 
 pub returns : goal.returns
 returns c = (
-  λ is. All-map IsName string_bytes c.args.words.now
+  λ is. All-map IsFileName string_bytes c.args.words.now
       (subst (All NamesOne) (take_all c.loop-word.word-index c.args.words.now (omega (arith, c.loop-word-test.false))) c.loop-word.invariant),
   λ all. refl,
 )

@@ -1,4 +1,4 @@
-//! The top call.
+//! The runs that wait for nobody.
 
 ghost use Rattle.plantctl.specs.World.{world};
 ghost use Rattle.plantctl.specs.Words.{Check, Replay, Audit, texts};
@@ -31,12 +31,12 @@ pub fn run_quiet<F: Files, K: Sink>(
         (world F.held F.custody F.faults K.written K.faults files.new out.new)
         result }
 {
-    let ended = run(alloc, words, files, out);
+    let ended = carry_out(alloc, words, files, out);
     report(out, ended).number()
 }
 
 // Does what the words ask.
-fn run<'a, F: Files, K: Sink>(
+fn carry_out<'a, F: Files, K: Sink>(
     alloc: Global,
     words: &'a [String],
     files: &mut F,

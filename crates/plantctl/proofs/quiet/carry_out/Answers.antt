@@ -4,7 +4,7 @@ use Rattle.ctl_io.proofs.SinkLemmas.{appended-nil}
 use Rattle.plantctl.specs.End.{NoMemory, Usage}
 use Rattle.plantctl.specs.Words.{Ask, HasNoForm, texts}
 use Rattle.plantctl.specs.StopInside.{asked}
-use Rattle.plantctl.proofs.run.run.Goals as goal
+use Rattle.plantctl.proofs.quiet.carry_out.Goals as goal
 
 pub returns-in-Ok-None : goal.returns-in-Ok-None
 returns-in-Ok-None g c =

@@ -4,7 +4,7 @@ use Rattle.plantctl.specs.World.{snapshot_of}
 use Rattle.plantctl.specs.Words.{Replay}
 use Rattle.plantctl.specs.StopInside.{stopped_by_files}
 use Rattle.plantctl.proofs.CommandLemmas.{at_plant, replay_went}
-use Rattle.plantctl.proofs.run.run_replay.Goals as goal
+use Rattle.plantctl.proofs.quiet.run_replay.Goals as goal
 
 pub returns-in-Err : goal.returns-in-Err
 returns-in-Err g c =

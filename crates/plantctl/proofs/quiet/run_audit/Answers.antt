@@ -4,7 +4,7 @@ use Rattle.plantctl.specs.World.{snapshot_of}
 use Rattle.plantctl.specs.Words.{Audit, texts}
 use Rattle.plantctl.specs.StopInside.{stopped_by_files}
 use Rattle.plantctl.proofs.CommandLemmas.{at_plant, audit_went}
-use Rattle.plantctl.proofs.run.run_audit.Goals as goal
+use Rattle.plantctl.proofs.quiet.run_audit.Goals as goal
 
 pub returns-in-Err : goal.returns-in-Err
 returns-in-Err g c =

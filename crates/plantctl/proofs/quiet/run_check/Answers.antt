@@ -1,7 +1,7 @@
 use Rattle.std.proofs.Common.{Err, refl}
 use Rattle.plantctl.specs.Words.{Check}
 use Rattle.plantctl.proofs.CommandLemmas.{at_plant, check_went}
-use Rattle.plantctl.proofs.run.run_check.Goals as goal
+use Rattle.plantctl.proofs.quiet.run_check.Goals as goal
 
 pub returns-in-Err : goal.returns-in-Err
 returns-in-Err g c =
