@@ -20,4 +20,6 @@ mod of_protects;
 #[cfg(test)]
 mod of_salvo_groups;
 #[cfg(test)]
+mod of_tally;
+#[cfg(test)]
 mod of_tie_pools;

@@ -4,9 +4,11 @@ ghost use Rattle.std.specs.Prelude.{◌≤◌};
 ghost use Rattle.plant_core.specs.Answer.{room_of};
 
 mod displays;
+mod long_runs;
 mod rows;
 mod shared;
 
+pub(crate) use displays::STUDIO;
 use history_lock::{Machine, OutBox};
 use plant_config::{PanelNo, Plant};
 use plant_core::{Answer, PlantState, Request};

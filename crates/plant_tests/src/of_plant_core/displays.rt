@@ -16,7 +16,7 @@ use tally::Roots;
 
 // Two mixers, the second bus of the first with a switch. Destination 0 is on air, 1 on preview, and displays 0 and 1 watch
 // 2 and 3.
-const STUDIO: &str = r#"title = "Studio"
+pub(crate) const STUDIO: &str = r#"title = "Studio"
 [[level]]
 matrix = 0
 level = 0
