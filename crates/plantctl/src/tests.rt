@@ -12,9 +12,12 @@ mod sessions;
 mod ties;
 mod words;
 
-use crate::run_quiet;
+use crate::{run, run_quiet};
 use ctl_io::{Bytes, MemFiles, MemSink, MemSource, NamedSource};
+use ctl_net::OpenGate;
 use std::alloc::{AllocError, Global};
+use std::sync::Wait;
+use std::thread::Threads;
 
 // The number of a call that is never made.
 const NEVER: u64 = u64::MAX;
@@ -60,7 +63,8 @@ fn outcome(
 type Run = (&'static [&'static str], u8, &'static str);
 
 // The first of these runs over files with these texts that ends otherwise, or `None` where all end so.
-fn first_wrong(
+fn first_wrong<R: Threads + Wait + Sync>(
+    rt: &R,
     alloc: Global,
     texts: &[(&str, &str)],
     runs: &[Run],
@@ -69,7 +73,8 @@ fn first_wrong(
         let (words, status, output) = runs[at];
         let mut files = files_of(alloc, texts)?;
         let mut out = MemSink::new(alloc, 1000, Vec::new(alloc))?;
-        let found = run_quiet(alloc, &owned(alloc, words)?, &mut files, &mut out);
+        let words = owned(alloc, words)?;
+        let found = run(rt, alloc, &words, &mut files, &OpenGate, &mut out);
         if found != status || out.written() != output.as_bytes() {
             return Ok(Some(at));
         }

@@ -174,7 +174,7 @@ const RUNS: [Run; 29] = [
 #[test]
 fn traces_are_audited(rt: HostRuntime) -> Result<(), Fail> {
     let alloc = rt.alloc();
-    assert_eq!(rt; first_wrong(alloc, &FILES, &RUNS)?, None);
+    assert_eq!(rt; first_wrong(&rt, alloc, &FILES, &RUNS)?, None);
     Ok(())
 }
 

@@ -97,6 +97,6 @@ const RUNS: [Run; 14] = [
 #[test]
 fn plant_files_are_checked_and_replayed_on(rt: HostRuntime) -> Result<(), Fail> {
     let alloc = rt.alloc();
-    assert_eq!(rt; first_wrong(alloc, &FILES, &RUNS)?, None);
+    assert_eq!(rt; first_wrong(&rt, alloc, &FILES, &RUNS)?, None);
     Ok(())
 }

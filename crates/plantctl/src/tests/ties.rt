@@ -45,6 +45,6 @@ const RUNS: [Run; 2] = [
 
 #[test]
 fn a_tie_brings_one_source_at_a_time(rt: HostRuntime) -> Result<(), Fail> {
-    assert_eq!(rt; first_wrong(rt.alloc(), &FILES, &RUNS)?, None);
+    assert_eq!(rt; first_wrong(&rt, rt.alloc(), &FILES, &RUNS)?, None);
     Ok(())
 }

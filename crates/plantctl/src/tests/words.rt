@@ -7,7 +7,7 @@ const USAGE: &str =
     "usage: plantctl check PLANT, replay PLANT SCRIPT, audit PLANT TRACE.., serve PLANT [PREFIX], drill NUMBER PANELS MESSAGES\n";
 
 // Runs over no files.
-const RUNS: [Run; 33] = [
+const RUNS: [Run; 39] = [
     // A command's word may name a file, and so may `help`.
     (&["replay", "help", "check"], 3, "file help missing\n"),
     (&["audit", "bench", "audit"], 3, "file audit missing\n"),
@@ -42,10 +42,21 @@ const RUNS: [Run; 33] = [
     (&["audit", "bench", "trace", "trace", "-trace"], 2, USAGE),
     (&["", "bench"], 2, USAGE),
     (&["serve", "bench"], 2, USAGE),
+    (
+        &["drill", "7", "2", "200"],
+        0,
+        "panels 2\nmessages 200\nacks 198\nnaks 2\nsessions 2\nhistory confirmed\n",
+    ),
+    // A number has at most 10 digits, zeros in front or not.
+    (&["drill", "0004294967295", "1", "1"], 2, USAGE),
+    (&["drill", "4294967296", "1", "1"], 2, USAGE),
+    (&["drill", "7", "0", "5"], 2, USAGE),
+    (&["drill", "7", "17", "100"], 2, USAGE),
+    (&["drill", "7", "2", "1"], 2, USAGE),
 ];
 
 #[test]
 fn words_have_a_form_or_lead_to_the_usage(rt: HostRuntime) -> Result<(), Fail> {
-    assert_eq!(rt; first_wrong(rt.alloc(), &[], &RUNS)?, None);
+    assert_eq!(rt; first_wrong(&rt, rt.alloc(), &[], &RUNS)?, None);
     Ok(())
 }
