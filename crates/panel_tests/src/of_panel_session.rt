@@ -6,6 +6,8 @@ mod board;
 mod days;
 mod dumps;
 mod packets;
+mod serving;
+mod streams;
 mod traces;
 mod turns;
 

@@ -1,0 +1,284 @@
+//! Sessions that are served over links in memory: each call outside fails in turn, idle reads end them, and one follows another.
+
+ghost use Rattle.std.specs.Prelude.{◌≡◌, ◌^◌, ◌≤◌, IfOk};
+ghost use Rattle.panel_server.specs.Seats.{IsSeatOf};
+
+use ctl_io::{Bytes, MemSink};
+use ctl_net::{LinkEvent, MemLink};
+use history_lock::{HistoryLock, Seat};
+use panel_session::{Session, SessionEnd, serve_session};
+use plant_config::{PanelNo, Plant};
+use plant_core::PlantState;
+use plant_names::Names;
+use std::alloc::{AllocError, Global};
+use std::sync::Wait;
+use std::test::Fail;
+
+const CONNECT_5: &[u8] = b"\x10\x02\x02\x00\x00\x05\x03\x05\xF1\x10\x03";
+
+const INTERROGATE_5: &[u8] = b"\x10\x02\x01\x00\x00\x05\x04\xF6\x10\x03";
+
+// Destination 5 is connected to source 3, and then 6 is asked for, which is parked.
+const TWO_FRAMES: &[u8] =
+    b"\x10\x02\x02\x00\x00\x05\x03\x05\xF1\x10\x03\x10\x02\x01\x00\x00\x06\x04\xF5\x10\x03";
+
+// The ACK and the answer of each.
+const ANSWERED: &[u8] = b"\x10\x06\x10\x02\x04\x00\x00\x05\x03\x05\xEF\x10\x03\
+\x10\x06\x10\x02\x03\x00\x07\x06\x7F\x05\x6C\x10\x03";
+
+const TRACED: &[u8] = b"0 told 0 0 0200000503 = 1002040000050305EF1003\n\
+1 told 0 1 01000006 = 1002030007067F056C1003\n2 poll 0 2 0 = -\n";
+
+// What two sessions are answered of which the first connects destination 5, and the second asks for it.
+const CARRIED: &[u8] = b"\x10\x06\x10\x02\x04\x00\x00\x05\x03\x05\xEF\x10\x03\
+\x10\x06\x10\x02\x03\x00\x00\x05\x03\x05\xF0\x10\x03";
+
+// The polls of three idle reads.
+const POLLED: &[u8] = b"0 poll 0 0 0 = -\n1 poll 0 0 1 = -\n2 poll 0 0 2 = -\n";
+
+// A plant whose sessions end after three idle reads.
+const HASTY: &[u8] = br#"
+title = "Hasty"
+server = { idle_limit = 3 }
+level = [{ matrix = 0, level = 0, sources = 4, destinations = 8 }]
+panel = [{ port = 9001, device = 1 }]
+"#;
+
+// The number of no call.
+const NEVER: u64 = u64::MAX;
+
+// The call that fails, by its number from 0: a read, a write, a write of the trace.
+#[derive(Clone, Copy)]
+enum Failing {
+    Nothing,
+    Read(u64),
+    Write(u64),
+    Line(u64),
+}
+
+impl Failing {
+    // The numbers of the read, the write and the write of the trace that fail.
+    fn numbers(self) -> (u64, u64, u64) {
+        match self {
+            Failing::Nothing => (NEVER, NEVER, NEVER),
+            Failing::Read(number) => (number, NEVER, NEVER),
+            Failing::Write(number) => (NEVER, number, NEVER),
+            Failing::Line(number) => (NEVER, NEVER, number),
+        }
+    }
+}
+
+// What fails, and in how many turns the session is served; how it ends, and how many bytes were written and traced then.
+type Case = (Failing, u32, SessionEnd, usize, usize);
+
+// The pieces that come over a link, an empty one for an idle read; what is written and traced at the most; and its cases.
+struct Day {
+    pieces: &'static [&'static [u8]],
+    written: &'static [u8],
+    traced: &'static [u8],
+    cases: &'static [Case],
+}
+
+// An ACK is a write of its own before its entry, and an entry is traced before its answer is written.
+const FRAMES: Day = Day {
+    pieces: &[TWO_FRAMES],
+    written: ANSWERED,
+    traced: TRACED,
+    cases: &[
+        (Failing::Nothing, 10, SessionEnd::Ended, 26, 109),
+        (Failing::Read(0), 10, SessionEnd::ReadFault, 0, 0),
+        (Failing::Read(1), 10, SessionEnd::ReadFault, 26, 109),
+        (Failing::Read(2), 10, SessionEnd::Ended, 26, 109),
+        (Failing::Write(0), 10, SessionEnd::WriteFault, 0, 0),
+        (Failing::Write(1), 10, SessionEnd::WriteFault, 2, 47),
+        (Failing::Write(2), 10, SessionEnd::WriteFault, 13, 47),
+        (Failing::Write(3), 10, SessionEnd::WriteFault, 15, 92),
+        (Failing::Write(4), 10, SessionEnd::Ended, 26, 109),
+        (Failing::Line(0), 10, SessionEnd::TraceFault, 2, 0),
+        (Failing::Line(1), 10, SessionEnd::TraceFault, 15, 47),
+        (Failing::Line(2), 10, SessionEnd::TraceFault, 26, 92),
+        (Failing::Line(3), 10, SessionEnd::Ended, 26, 109),
+        (Failing::Nothing, 1, SessionEnd::Spent, 26, 109),
+        (Failing::Read(0), 0, SessionEnd::Spent, 0, 0),
+    ],
+};
+
+// What fails in a turn stands before the limit on idle reads, and that before the one on turns.
+const IDLE: Day = Day {
+    pieces: &[b"", b"", b""],
+    written: b"",
+    traced: POLLED,
+    cases: &[
+        (Failing::Nothing, 10, SessionEnd::IdleOut, 0, 51),
+        (Failing::Nothing, 3, SessionEnd::IdleOut, 0, 51),
+        (Failing::Nothing, 2, SessionEnd::Spent, 0, 34),
+        (Failing::Line(2), 3, SessionEnd::TraceFault, 0, 34),
+        (Failing::Line(1), 2, SessionEnd::TraceFault, 0, 17),
+        (Failing::Read(2), 3, SessionEnd::ReadFault, 0, 34),
+    ],
+};
+
+// A link over which these pieces come, one of whose reads and one of whose writes fails.
+fn link_of(alloc: Global, pieces: &[&[u8]], read: u64, write: u64) -> Result<MemLink, AllocError> {
+    let mut events = Vec::new(alloc);
+    for piece in pieces {
+        events.push(event_of(alloc, piece)?)?;
+    }
+    let (reads, writes) = (vec![in alloc; read]?, vec![in alloc; write]?);
+    MemLink::new(alloc, events, 1000, reads, writes)
+}
+
+fn event_of(alloc: Global, piece: &[u8]) -> Result<LinkEvent, AllocError> {
+    if piece.is_empty() {
+        return Ok(LinkEvent::Idle);
+    }
+    Ok(LinkEvent::Piece(Bytes::of(piece.to_vec(alloc)?)))
+}
+
+// A lock round a plant at its start, with one seat.
+fn locked(
+    alloc: Global,
+    plant: &Plant,
+) -> Result<(HistoryLock<PlantState>, Seat<PlantState>), AllocError>
+    ensures { IfOk result (λ made. IsSeatOf plant.now made.0 made.1) }
+{
+    let (lock, mut seats) = HistoryLock::new(alloc, PlantState::start(alloc, plant)?, 1)?;
+    let Some(seat) = seats.pop() else {
+        unreachable!()
+    };
+    Ok((lock, seat))
+}
+
+// Serves a new session of panel 0 from a seat of the plant's lock.
+fn serve<R: Wait>(
+    rt: &R,
+    alloc: Global,
+    plant: &Plant,
+    lock: &HistoryLock<PlantState>,
+    seat: &mut Seat<PlantState>,
+    link: &mut MemLink,
+    trace: &mut MemSink,
+    turns: u64,
+) -> Result<SessionEnd, AllocError>
+    requires seat { IsSeatOf plant.now lock.now seat.old }
+    requires turns { turns ≤ 2 ^ 40 }
+    ensures { IfOk result (λ end. IsSeatOf plant.now lock.now seat.new) }
+{
+    let names = Names::new(alloc, plant)?;
+    let mut session = Session::start(alloc, plant, &names, PanelNo::of(0))?;
+    Ok(serve_session(rt, &mut session, lock, seat, link, trace, turns))
+}
+
+// Whether a case of a day goes as it says.
+fn goes_so<R: Wait>(
+    rt: &R,
+    alloc: Global,
+    plant: &Plant,
+    day: &Day,
+    case: &Case,
+) -> Result<bool, AllocError> {
+    let (failing, turns, wanted, written, traced) = *case;
+    let (read, write, line) = failing.numbers();
+    let mut link = link_of(alloc, day.pieces, read, write)?;
+    let mut trace = MemSink::new(alloc, 200, vec![in alloc; line]?)?;
+    let (lock, mut seat) = locked(alloc, plant)?;
+    let end = serve(
+        rt,
+        alloc,
+        plant,
+        &lock,
+        &mut seat,
+        &mut link,
+        &mut trace,
+        u64::from(turns),
+    )?;
+    Ok(
+        end == wanted
+            && counts(&link, &trace) == faults_of(wanted)
+            && link.written() == front(day.written, written)
+            && trace.written() == front(day.traced, traced),
+    )
+}
+
+// How many reads, writes and writes of the trace failed.
+fn counts(link: &MemLink, trace: &MemSink) -> (u64, u64, u64) {
+    (link.read_faults(), link.write_faults(), trace.faults())
+}
+
+// How many failed where a session ended so.
+fn faults_of(end: SessionEnd) -> (u64, u64, u64) {
+    (
+        u64::from(end == SessionEnd::ReadFault),
+        u64::from(end == SessionEnd::WriteFault),
+        u64::from(end == SessionEnd::TraceFault),
+    )
+}
+
+fn front(bytes: &[u8], count: usize) -> &[u8] {
+    &bytes[..count.min(bytes.len())]
+}
+
+// The first case of a day that doesn't go as it says.
+fn first_other<R: Wait>(
+    rt: &R,
+    alloc: Global,
+    plant: &Plant,
+    day: &Day,
+) -> Result<Option<usize>, AllocError> {
+    for (at, case) in day.cases.iter().enumerate() {
+        if !goes_so(rt, alloc, plant, day, case)? {
+            return Ok(Some(at));
+        }
+    }
+    Ok(None)
+}
+
+#[test]
+fn each_call_outside_fails_in_turn(rt: HostRuntime) -> Result<(), Fail> {
+    let plant = Plant::bench(rt.alloc())?;
+    assert_eq!(rt; first_other(&rt, rt.alloc(), &plant, &FRAMES)?, None);
+    Ok(())
+}
+
+#[test]
+fn idle_reads_end_a_session(rt: HostRuntime) -> Result<(), Fail> {
+    let plant = Plant::from_toml(rt.alloc(), HASTY)?;
+    assert_eq!(rt; first_other(&rt, rt.alloc(), &plant, &IDLE)?, None);
+    Ok(())
+}
+
+// What a new session of panel 0 is sent that sends one piece.
+fn said<R: Wait>(
+    rt: &R,
+    alloc: Global,
+    plant: &Plant,
+    lock: &HistoryLock<PlantState>,
+    seat: &mut Seat<PlantState>,
+    piece: &[u8],
+) -> Result<Vec<u8>, AllocError>
+    requires seat { IsSeatOf plant.now lock.now seat.old }
+    ensures { IfOk result (λ all. IsSeatOf plant.now lock.now seat.new) }
+{
+    let mut link = link_of(alloc, &[piece], NEVER, NEVER)?;
+    let mut trace = MemSink::new(alloc, 200, Vec::new(alloc))?;
+    let _ended = serve(rt, alloc, plant, lock, seat, &mut link, &mut trace, 10)?;
+    link.written().to_vec(alloc)
+}
+
+// What two sessions of panel 0 are sent, one after the other over one lock.
+fn said_to_both<R: Wait>(rt: &R, alloc: Global, plant: &Plant) -> Result<Vec<u8>, AllocError> {
+    let (lock, mut seat) = locked(alloc, plant)?;
+    let mut all = said(rt, alloc, plant, &lock, &mut seat, CONNECT_5)?;
+    let more = said(rt, alloc, plant, &lock, &mut seat, INTERROGATE_5)?;
+    all.extend_from_slice(&more)?;
+    Ok(all)
+}
+
+// What the first session connects the second is told.
+#[test]
+fn a_second_session_meets_the_same_plant(rt: HostRuntime) -> Result<(), Fail> {
+    let plant = Plant::bench(rt.alloc())?;
+    let all = said_to_both(&rt, rt.alloc(), &plant)?;
+    assert_eq!(rt; all.as_slice(), CARRIED);
+    Ok(())
+}

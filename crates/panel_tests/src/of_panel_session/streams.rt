@@ -1,0 +1,176 @@
+//! Streams of bytes that a panel may send, as a whole and cut in two anywhere.
+
+use super::board::Board;
+use super::turn;
+use panel_session::Session;
+use plant_config::{PanelNo, Plant};
+use plant_names::Names;
+use std::alloc::{AllocError, Global};
+use std::test::Fail;
+
+// Bytes, and how often they stand there.
+type Run = (&'static [u8], usize);
+
+// An interrogate of destination 5, which is parked; the answer, and its ACK before it.
+const ASK: &[u8] = b"\x10\x02\x01\x00\x00\x05\x04\xF6\x10\x03";
+
+const PARKED: &[u8] = b"\x10\x02\x03\x00\x07\x05\x7F\x05\x6D\x10\x03";
+
+const ANSWER: &[u8] = b"\x10\x06\x10\x02\x03\x00\x07\x05\x7F\x05\x6D\x10\x03";
+
+const START: &[u8] = b"\x10\x02";
+
+const END: &[u8] = b"\x10\x03";
+
+const ACK: &[u8] = b"\x10\x06";
+
+const NAK: &[u8] = b"\x10\x15";
+
+// What a panel sends, and what it is sent.
+const STREAMS: &[(&[Run], &[Run])] = &[
+    // The half of a pair, a body without a byte, one of two, and pairs that begin no frame or end none.
+    (&[(b"\x10", 1)], &[]),
+    (&[(START, 1), (END, 1)], &[(NAK, 1)]),
+    (&[(START, 1), (b"\0\0", 1), (END, 1)], &[(NAK, 1)]),
+    (&[(b"\x10", 1), (ASK, 1)], &[(ANSWER, 1)]),
+    (
+        &[(START, 1), (b"\x01\x10\x07", 1), (ASK, 1)],
+        &[(ANSWER, 1)],
+    ),
+    (&[(END, 50), (ASK, 1)], &[(ANSWER, 1)]),
+    // The longest good body, one that is a byte longer, and one that is far too long.
+    (
+        &[(START, 1), (b"A", 255), (b"\xFF\x42", 1), (END, 1)],
+        &[(ACK, 1)],
+    ),
+    (
+        &[(START, 1), (b"A", 256), (b"\0\0", 1), (END, 1)],
+        &[(NAK, 1)],
+    ),
+    (
+        &[(START, 1), (b"A", 300), (END, 1), (ASK, 1)],
+        &[(NAK, 1), (ANSWER, 1)],
+    ),
+    // A frame but for its last byte, and nothing but NAKs and an ACK.
+    (&[(START, 1), (b"\x01\0\0\x05\x04\xF6\x10", 1)], &[]),
+    (&[(NAK, 1), (ACK, 1), (NAK, 1)], &[]),
+    // Frames that are abandoned, one behind the other.
+    (&[(b"\x10\x02A", 20), (ASK, 1)], &[(ANSWER, 1)]),
+    (&[(START, 30), (ASK, 1)], &[(ANSWER, 1)]),
+    (
+        &[(b"\x10\x02\x01\0\0\x05\x04\xF6\x10A", 5), (ASK, 1)],
+        &[(ANSWER, 1)],
+    ),
+    // Before a start all DLEs but its own are noise, be they odd or even in number.
+    (&[(b"\x10", 2), (ASK, 1)], &[(ANSWER, 1)]),
+    (&[(b"\x10", 9), (ASK, 1)], &[(ANSWER, 1)]),
+    (&[(b"\x10", 64), (ASK, 1)], &[(ANSWER, 1)]),
+    // DATA that are all DLEs: 100 of them, 255, one more, and some whose last pair is cut.
+    (
+        &[(START, 1), (b"\x10\x10", 100), (b"\x64\x5C", 1), (END, 1)],
+        &[(ACK, 1)],
+    ),
+    (
+        &[(START, 1), (b"\x10\x10", 255), (b"\xFF\x11", 1), (END, 1)],
+        &[(ACK, 1)],
+    ),
+    (
+        &[(START, 1), (b"\x10\x10", 256), (b"\0\0", 1), (END, 1)],
+        &[(NAK, 1)],
+    ),
+    (&[(START, 1), (b"\x10\x10", 20), (b"\x10", 1)], &[]),
+    // A length that counts a pair as two bytes, and one that counts it as one.
+    (
+        &[(START, 1), (b"\x01\0\0\x10\x10\x05\xEA", 1), (END, 1)],
+        &[(NAK, 1)],
+    ),
+    (
+        &[(START, 1), (b"\x01\0\0\x10\x10\x04\xEB", 1), (END, 1)],
+        &[(b"\x10\x06\x10\x02\x03\0\x07\x10\x10\x7F\x05\x62\x10\x03", 1)],
+    ),
+    // An ACK and a NAK between the bytes of a pair: the frame is abandoned there, and what follows is noise.
+    (
+        &[
+            (b"\x10\x02\x01\0\0\x10\x06\x10\x05\x04\xF6\x10\x03", 1),
+            (ASK, 1),
+        ],
+        &[(ANSWER, 1)],
+    ),
+    (
+        &[(b"\x10\x02A\x10\x15\x10\x10\x03", 1), (ASK, 1)],
+        &[(ANSWER, 1)],
+    ),
+    // NAKs behind noise, more of them than are answered, and before all frames; and bad frames in a row.
+    (
+        &[(ASK, 1), (b"\x10", 1), (NAK, 1)],
+        &[(ANSWER, 1), (PARKED, 1)],
+    ),
+    (&[(ASK, 1), (NAK, 7)], &[(ANSWER, 1), (PARKED, 5)]),
+    (&[(NAK, 3), (ACK, 10), (ASK, 1)], &[(ANSWER, 1)]),
+    (&[(b"\x10\x02\x01\0\0\x05\x04\xF5\x10\x03", 8)], &[(NAK, 8)]),
+    // 64 KiB of noise without an end, and with a frame behind it.
+    (&[(b"A", 65_536)], &[]),
+    (&[(b"\x02\x03", 32_768), (ASK, 1)], &[(ANSWER, 1)]),
+];
+
+// The bytes of runs, joined.
+fn bytes_of(alloc: Global, runs: &[Run]) -> Result<Vec<u8>, AllocError> {
+    let mut all = Vec::new(alloc);
+    for (bytes, times) in runs {
+        append(bytes, *times, &mut all)?;
+    }
+    Ok(all)
+}
+
+fn append(bytes: &[u8], times: usize, all: &mut Vec<u8>) -> Result<(), AllocError> {
+    for _ in 0..times {
+        all.extend_from_slice(bytes)?;
+    }
+    Ok(())
+}
+
+// Whether a session that is made anew is sent this where a panel sends two pieces.
+fn are_answered(
+    alloc: Global,
+    session: &mut Session<'_>,
+    (first, second): (&[u8], &[u8]),
+    wanted: &[u8],
+) -> Result<bool, Fail> {
+    let mut board = Board::new();
+    session.reset();
+    let mut sent = turn(alloc, session, &mut board, first)?;
+    sent.extend_from_slice(&turn(alloc, session, &mut board, second)?)?;
+    Ok(sent.as_slice() == wanted)
+}
+
+// The first place where a stream is cut in two and isn't answered so, its start among them, which is a cut behind an idle
+// read. A stream of more than 500 bytes is cut nowhere else.
+fn first_cut(
+    alloc: Global,
+    session: &mut Session<'_>,
+    stream: &[u8],
+    wanted: &[u8],
+) -> Result<Option<usize>, Fail> {
+    for at in 0..stream.len() {
+        if !are_answered(alloc, session, stream.split_at(at), wanted)? {
+            return Ok(Some(at));
+        }
+        if stream.len() > 500 {
+            break;
+        }
+    }
+    Ok(None)
+}
+
+#[test]
+fn streams_are_answered_however_they_are_cut(rt: HostRuntime) -> Result<(), Fail> {
+    let alloc = rt.alloc();
+    let plant = Plant::bench(alloc)?;
+    let names = Names::new(alloc, &plant)?;
+    let mut session = Session::start(alloc, &plant, &names, PanelNo::of(0))?;
+    for (stream, wanted) in STREAMS {
+        let (stream, wanted) = (bytes_of(alloc, stream)?, bytes_of(alloc, wanted)?);
+        assert_eq!(rt; first_cut(alloc, &mut session, &stream, &wanted)?, None);
+    }
+    Ok(())
+}
