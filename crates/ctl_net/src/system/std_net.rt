@@ -142,13 +142,14 @@ fn connected<R: net::Net + Clock + Clone + Drop>(rt: &R, address: &str) -> io::R
     Err(last)
 }
 
-// A socket with this peer.
+// A socket with this peer, which may be all hosts of a network. Where the system can't be asked for that, it is no fault.
 fn socket_to<R: net::Net>(rt: &R, peer: SocketAddr) -> io::Result<UdpSocket> {
     let own = match peer {
         SocketAddr::V4(_) => SocketAddr::from((Ipv4Addr::UNSPECIFIED, 0)),
         SocketAddr::V6(_) => SocketAddr::from((Ipv6Addr::UNSPECIFIED, 0)),
     };
     let socket = call_again(|| UdpSocket::bind(rt, own))?;
+    let _ = socket.set_broadcast(true);
     call_again(|| socket.connect(peer))?;
     Ok(socket)
 }

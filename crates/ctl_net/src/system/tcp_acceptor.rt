@@ -4,7 +4,7 @@ ghost use Rattle.std.specs.Prelude.{◌≡◌, IfOk};
 
 use crate::{Acceptor, Next, TcpLink};
 use ctl_io::{FaultCount, call_again};
-use std::io;
+use std::io::{self, ErrorKind};
 use std::net::{OpenListener, OpenStream};
 use std::time::Duration;
 
@@ -107,7 +107,18 @@ where
     ensures write_faults { IfOk result (λ link. link.write_faults ≡ 0) }
     ensures idles { IfOk result (λ link. link.idles ≡ 0) }
 {
-    let (stream, _) = call_again(|| listener.accept())?;
+    let stream = next_connection(listener)?;
     let _ = stream.set_nodelay(true);
     TcpLink::new(stream, timeout)
+}
+
+// The next connection. One that its peer gave up before it was taken is no fault, and is passed over.
+fn next_connection<T: OpenListener>(listener: &T) -> io::Result<T::Stream> {
+    for _ in 0..u64::MAX {
+        match call_again(|| listener.accept()) {
+            Err(error) if error.kind() == ErrorKind::ConnectionAborted => {}
+            answer => return answer.map(|(stream, _)| stream),
+        }
+    }
+    Err(io::Error::from(ErrorKind::ConnectionAborted))
 }
