@@ -13,6 +13,12 @@ abbrev pub sent_after : Sent → List ℕ → List (List ℕ) → List (List ℕ
 sent_after Done packet packets = packets ++ packet ∷ []
 sent_after Failed packet packets = packets
 
+-- Whatever packets a port was sent before, it was then sent those and these behind them.
+abbrev pub SendsOn : {P : Type 0} → (P → List (List ℕ) → Type 0) → P → P → List (List ℕ)
+    → Type 0
+SendsOn WasSent port port_then packets = (former : List (List ℕ))
+    → WasSent port former → WasSent port_then (former ++ packets)
+
 -- A packet isn't empty.
 abbrev pub IsSomePacket : List ℕ → Type 0
 IsSomePacket packet = 0 < length packet

@@ -23,7 +23,8 @@ use Rattle.panel_server.specs.declared.displays.DriverEnd.{DriverEnd}
 use Rattle.panel_server.specs.declared.displays.DriverEnd.TheVariants.{Finished, TraceFault, Full, NoMemory}
 use Rattle.panel_server.specs.declared.poll.Polled.{Polled}
 use Rattle.panel_server.specs.declared.poll.Polled.TheVariants.{Quiet, Lit, Last}
-use Rattle.panel_server.specs.Driven.{AreInRounds, Driven, LampSend, NoneIsLast, SendsOn, ends_by_trace, faults_after, is_last, shows_lamps, packets_given, poll_at, was_lost, was_done, whole_traced}
+use Rattle.ctl_net.specs.Port.{SendsOn}
+use Rattle.panel_server.specs.Driven.{AreInRounds, Driven, LampSend, NoneIsLast, ends_by_trace, faults_after, is_last, shows_lamps, packets_given, poll_at, was_lost, was_done, whole_traced}
 use Rattle.panel_server.specs.DrivenInside.{EndsPolling, HasPolled, IsDriving, IsUntraced, Outside, lost_by, outside, send_of, sent_by, was_last}
 use Rattle.panel_server.proofs.BeginLemmas.{traced_of}
 use Rattle.panel_server.proofs.SeatLemmas.{own-behind, own-few, own-seen, sees_own}

@@ -8,7 +8,8 @@ use Rattle.plant_config.specs.Plant.{PlantData}
 use Rattle.panel_session.specs.Entry.{PlantEntry}
 use Rattle.panel_server.specs.declared.poll.Polled.{Polled}
 use Rattle.panel_server.specs.declared.poll.Polled.TheVariants.{Quiet, Lit, Last}
-use Rattle.panel_server.specs.Driven.{AreInRounds, LampSend, SendsOn, faults_after, lamp_packet, packets_given, poll_at, was_lost, was_done}
+use Rattle.ctl_net.specs.Port.{SendsOn}
+use Rattle.panel_server.specs.Driven.{AreInRounds, LampSend, faults_after, lamp_packet, packets_given, poll_at, was_lost, was_done}
 use Rattle.panel_server.specs.DrivenInside.{lost_by, send_of, sent_by}
 
 module _ {P : Type 0} (WasSent : P → List (List ℕ) → Type 0) where

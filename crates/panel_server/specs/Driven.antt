@@ -4,7 +4,7 @@ use mathlib.Core.List.{IsPrefix}
 use Rattle.ctl_io.specs.Faults.{count_after}
 use Rattle.ctl_io.specs.Sink.{appended}
 use Rattle.ctl_net.specs.declared.port.Sent.{Sent}
-use Rattle.ctl_net.specs.Port.{send_failed}
+use Rattle.ctl_net.specs.Port.{SendsOn, send_failed}
 use Rattle.history_lock.specs.History.{entries_of, IsLegal}
 use Rattle.plant_config.specs.Plant.{PlantData}
 use Rattle.plant_config.specs.Screens.{screens_of}
@@ -79,12 +79,6 @@ was_done send = not (was_lost send)
 abbrev pub packets_given : PlantData → List LampSend → List (List ℕ)
 packets_given plant sends =
     map (λ send. lamp_packet plant send.entry) (filter was_done sends)
-
--- Whatever packets a port was sent before, it was then sent those and these behind them.
-abbrev pub SendsOn : {P : Type 0} → (P → List (List ℕ) → Type 0) → P → P → List (List ℕ)
-    → Type 0
-SendsOn WasSent port port_then packets = (former : List (List ℕ))
-    → WasSent port former → WasSent port_then (former ++ packets)
 
 -- a port's count of faults after sends
 abbrev pub faults_after : List LampSend → ℕ → ℕ

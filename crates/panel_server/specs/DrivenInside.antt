@@ -21,7 +21,8 @@ use Rattle.panel_server.specs.declared.displays.DriverEnd.TheVariants.{TraceFaul
 use Rattle.panel_server.specs.declared.poll_room.PollRoom.{PollRoom}
 use Rattle.panel_server.specs.declared.poll.Polled.{Polled}
 use Rattle.panel_server.specs.declared.poll.Polled.TheVariants.{Quiet, Lit, Last}
-use Rattle.panel_server.specs.Driven.{AreInRounds, LampSend, NoneIsLast, SendsOn, faults_after, shows_lamps, packets_given, says_finished, was_lost, was_done}
+use Rattle.ctl_net.specs.Port.{SendsOn}
+use Rattle.panel_server.specs.Driven.{AreInRounds, LampSend, NoneIsLast, faults_after, shows_lamps, packets_given, says_finished, was_lost, was_done}
 
 -- There is room for the answers of a step, for a line and for a packet.
 pub record HasRoomFor (plant : PlantData) (room : PollRoom) : Type 0 where

@@ -15,7 +15,8 @@ use Rattle.record_replay.specs.Script.{Work, IsOfPlant, lines, worked, LinesSpel
 use Rattle.record_replay.specs.Replay.{ReplayState, begun, AllWork}
 use Rattle.record_replay.specs.Laws.{Action, line_of, history_of}
 use Rattle.record_replay.specs.TiedReplay.{IsTiedReplay, HasReplayed, HasReplayedFront}
-use Rattle.record_replay.specs.Streamed.{packets_in, lines_in, SendsOn, HasStreamed, HasStreamedFront, HasStoppedAtPort}
+use Rattle.ctl_net.specs.Port.{SendsOn}
+use Rattle.record_replay.specs.Streamed.{packets_in, lines_in, HasStreamed, HasStreamedFront, HasStoppedAtPort}
 use Rattle.record_replay.specs.PortInside.{SendsAll, SendsUntil, LeavesNone, LeavesPacket}
 use Rattle.record_replay.specs.ReplayerInside.{StandsAt, MayDo, DoesScript}
 use Rattle.record_replay.proofs.IsReplayLemmas.{of_plant}

@@ -7,7 +7,8 @@ use Rattle.plant_core.specs.Step.{step}
 use Rattle.plant_core.specs.declared.request.Request.TheVariants as requests
 use Rattle.record_replay.specs.Script.{Work, Read, Leave, Show}
 use Rattle.record_replay.specs.Replay.{ReplayState, Advances}
-use Rattle.record_replay.specs.Streamed.{packets_told, SendsOn}
+use Rattle.ctl_net.specs.Port.{SendsOn}
+use Rattle.record_replay.specs.Streamed.{packets_told}
 
 -- These packets were sent to a port, and no send failed.
 pub record SendsAll {P : Type 0} (WasSent : P → List (List ℕ) → Type 0) (faults : P → ℕ)

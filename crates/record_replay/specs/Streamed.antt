@@ -49,12 +49,6 @@ pub record IsLampPacket (plant : PlantData) (packet : List ℕ) : Type 0 where
 abbrev pub TakesLamps : PlantData → (List ℕ → Type 0) → Type 0
 TakesLamps plant Takes = (packet : List ℕ) → IsLampPacket plant packet → Takes packet
 
--- What a port was sent goes on so: where it was sent some packets before, it was now sent these behind them.
-abbrev pub SendsOn : {P : Type 0} → (P → List (List ℕ) → Type 0) → P → P → List (List ℕ)
-    → Type 0
-SendsOn WasSent before now packets =
-    (all : List (List ℕ)) → WasSent before all → WasSent now (all ++ packets)
-
 -- The sink wasn't given anything, and the port is as it was.
 abbrev pub StaysBoth : {P : Type 0} → Option (List ℕ) → Option (List ℕ) → P → P → Type 0
 StaysBoth before now port_before port_now = (now ≡ before) × (port_now ≡ port_before)

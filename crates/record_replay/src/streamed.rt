@@ -7,7 +7,8 @@ ghost use Rattle.record_replay.specs.Script.{IsFirstBad};
 ghost use Rattle.record_replay.specs.LineInside.{HasWorks};
 ghost use Rattle.record_replay.specs.Streamed.{HasStreamed, HasStreamedFront, HasStoppedAtPort};
 ghost use Rattle.record_replay.specs.Streamed.{TakesLamps, StaysBoth};
-ghost use Rattle.record_replay.specs.Streamed.{SendsOn, stream_failed, PortCounts};
+ghost use Rattle.ctl_net.specs.Port.{SendsOn};
+ghost use Rattle.record_replay.specs.Streamed.{stream_failed, PortCounts};
 
 use crate::check::check_lines;
 use crate::digits::Digits;
