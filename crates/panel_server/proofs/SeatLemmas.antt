@@ -1,7 +1,7 @@
 -- What a seat sees, and the lines of its own entries.
-use Rattle.std.proofs.Common.{◌≡◌, ℕ, ◌+◌, ◌==◌, ◌≤◌, true, false, Bool, if◌then◌else◌, List, [], ◌∷◌, ◌++◌, length, inl, inr, refl, sym, ap, ◌∙◌, arith}
+use Rattle.std.proofs.Common.{◌≡◌, ℕ, ◌+◌, ◌==◌, ◌≤◌, false, Bool, if◌then◌else◌, List, [], ◌∷◌, ◌++◌, length, inl, inr, refl, sym, ap, ◌∙◌, arith}
 use Rattle.std.proofs.lemmas.Bool.Decides.{eqb_tells}
-use Rattle.std.proofs.lemmas.List.{append_assoc, append_cancel_left, append-nil, length-append, nil_from_length}
+use Rattle.std.proofs.lemmas.List.{append_assoc, append_cancel_left, length-append, nil_from_length}
 use Rattle.std.proofs.lemmas.List.Elements.{filter-append}
 use Rattle.std.proofs.lemmas.List.Sums.{length-filter, count_by-le-length}
 use Rattle.history_lock.specs.Calls.{asked_by}
@@ -10,42 +10,11 @@ use Rattle.plant_config.specs.Plant.{PlantData}
 use Rattle.plant_core.specs.declared.answer.Answer.{Answer}
 use Rattle.plant_core.specs.declared.request.Request.{Request}
 use Rattle.panel_session.specs.Entry.{PlantEntry}
-use Rattle.panel_session.specs.Served.{PlantSeat, mark_after, own_lines}
+use Rattle.panel_session.specs.Served.{PlantSeat, own_lines}
 use Rattle.panel_session.specs.ServedInside.{SeesMore}
 use Rattle.panel_session.specs.TraceLine.{trace_line}
-use Rattle.panel_session.proofs.GoneOnLemmas.{SeesOwn}
+use Rattle.panel_session.proofs.GoneOnLemmas.{SeesOwn, line-own, lines-both, lines-none, mark-some}
 use Rattle.panel_server.specs.DrivenInside.{IsGiven}
-
--- the lines of entries and of others behind them
-lines-both : (plant : PlantData) (seat position next : ℕ) (one other : List PlantEntry) → next ≡ position + length one
-    → own_lines plant seat position (one ++ other) ≡ own_lines plant seat position one ++ own_lines plant seat next other
-lines-both plant seat position next [] other is = ap (λ (position : ℕ). own_lines plant seat position other) (let same : position ≡ next = omega arith in same)
-lines-both plant seat position next (entry ∷ one) other is =
-    let line : List ℕ = if entry.seat == seat then trace_line plant position entry.request entry.answers else [] in
-    ap (λ (rest : List ℕ). line ++ rest) (lines-both plant seat (position + 1) next one other (omega arith))
-    ∙ sym (append_assoc line (own_lines plant seat (position + 1) one) (own_lines plant seat next other))
-
--- entries of others have no lines
-lines-none : (plant : PlantData) (seat position : ℕ) (entries : List PlantEntry) → entries_of seat entries ≡ [] → own_lines plant seat position entries ≡ []
-lines-none plant seat position [] none = refl
-lines-none plant seat position (entry ∷ entries) none =
-    (elim (entry.seat == seat) as (λ own. (if own then entry ∷ entries_of seat entries else entries_of seat entries) ≡ []
-    → (if own then trace_line plant position entry.request entry.answers else []) ++ own_lines plant seat (position + 1) entries ≡ []) [
-      | true ↦ λ none. absurd cc
-      | false ↦ λ none. lines-none plant seat (position + 1) entries none
-    ]) none
-
--- an entry of the seat has its line
-line-own : (plant : PlantData) (position : ℕ) (entry : PlantEntry) → own_lines plant entry.seat position (entry ∷ []) ≡ trace_line plant position entry.request entry.answers
-line-own plant position entry = elim (eqb_tells entry.seat entry.seat) [
-  | (inl same) ↦ ap (λ (own : Bool). (if own then trace_line plant position entry.request entry.answers else []) ++ []) same.0 ∙ append-nil (trace_line plant position entry.request entry.answers)
-  | (inr apart) ↦ absurd (apart.1 refl)
-]
-
--- the mark of a seat that has seen an entry last
-mark-some : (between : List PlantEntry) (entry : PlantEntry) (before : Bool) → mark_after (between ++ entry ∷ []) before ≡ false
-mark-some [] entry before = refl
-mark-some (first ∷ between) entry before = refl
 
 -- the own entries of a seat among entries that it has seen, and others behind them
 pub own-behind : (plant : PlantData) (a b : PlantSeat) (one other : List PlantEntry) → SeesMore plant a b one

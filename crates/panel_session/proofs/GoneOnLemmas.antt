@@ -31,7 +31,7 @@ appended-none None = refl
 appended-none (Some before) = ap (λ (all : List ℕ). Some all) (append-nil before)
 
 -- the lines of entries and of others behind them
-lines-both : (plant : PlantData) (seat position next : ℕ) (one other : List PlantEntry) → next ≡ position + length one
+pub lines-both : (plant : PlantData) (seat position next : ℕ) (one other : List PlantEntry) → next ≡ position + length one
     → own_lines plant seat position (one ++ other) ≡ own_lines plant seat position one ++ own_lines plant seat next other
 lines-both plant seat position next [] other is = ap (λ (position : ℕ). own_lines plant seat position other) (let same : position ≡ next = omega arith in same)
 lines-both plant seat position next (entry ∷ one) other is =
@@ -40,7 +40,7 @@ lines-both plant seat position next (entry ∷ one) other is =
     ∙ sym (append_assoc line (own_lines plant seat (position + 1) one) (own_lines plant seat next other))
 
 -- entries of others have no lines
-lines-none : (plant : PlantData) (seat position : ℕ) (entries : List PlantEntry) → entries_of seat entries ≡ [] → own_lines plant seat position entries ≡ []
+pub lines-none : (plant : PlantData) (seat position : ℕ) (entries : List PlantEntry) → entries_of seat entries ≡ [] → own_lines plant seat position entries ≡ []
 lines-none plant seat position [] none = refl
 lines-none plant seat position (entry ∷ entries) none =
     (elim (entry.seat == seat) as (λ own. (if own then entry ∷ entries_of seat entries else entries_of seat entries) ≡ []
@@ -50,7 +50,7 @@ lines-none plant seat position (entry ∷ entries) none =
     ]) none
 
 -- an entry of the seat has its line
-line-own : (plant : PlantData) (position : ℕ) (entry : PlantEntry) → own_lines plant entry.seat position (entry ∷ []) ≡ trace_line plant position entry.request entry.answers
+pub line-own : (plant : PlantData) (position : ℕ) (entry : PlantEntry) → own_lines plant entry.seat position (entry ∷ []) ≡ trace_line plant position entry.request entry.answers
 line-own plant position entry = elim (eqb_tells entry.seat entry.seat) [
   | (inl same) ↦ ap (λ (own : Bool). (if own then trace_line plant position entry.request entry.answers else []) ++ []) same.0 ∙ append-nil (trace_line plant position entry.request entry.answers)
   | (inr apart) ↦ absurd (apart.1 refl)
@@ -62,7 +62,7 @@ mark-both [] other before = refl
 mark-both (entry ∷ one) [] before = refl
 mark-both (entry ∷ one) (next ∷ other) before = refl
 
-mark-some : (between : List PlantEntry) (entry : PlantEntry) (before : Bool) → mark_after (between ++ entry ∷ []) before ≡ false
+pub mark-some : (between : List PlantEntry) (entry : PlantEntry) (before : Bool) → mark_after (between ++ entry ∷ []) before ≡ false
 mark-some [] entry before = refl
 mark-some (first ∷ between) entry before = refl
 
