@@ -14,11 +14,11 @@ use Rattle.plant_config.specs.Plant.{PlantData}
 use Rattle.panel_session.specs.declared.serve.SessionEnd.{SessionEnd}
 use Rattle.panel_session.specs.declared.serve.SessionEnd.TheVariants.{Ended, ReadFault, WriteFault, TraceFault, IdleOut, Spent, Full}
 use Rattle.panel_session.specs.Entry.{PlantEntry}
-use Rattle.panel_session.specs.Served.{PlantSeat, TraceData, full_after, own_lines, trace_failed_at}
+use Rattle.panel_session.specs.Served.{PlantSeat, TraceData, full_after, own_lines, trace_failed_at, TracesUnless}
 use Rattle.panel_session.specs.ServedInside.{SeesMore}
 use Rattle.panel_session.proofs.GoneOnLemmas.{appended-both, appended-none, lines-behind, sees_both, sees_none}
 use Rattle.panel_server.specs.declared.panel.PanelDone.{PanelDone}
-use Rattle.panel_server.specs.PanelServed.{LinkServed, TracesUnless, all_returned, is_full, is_last_end, is_limit, is_link_fault, own_of, that_ended}
+use Rattle.panel_server.specs.PanelServed.{LinkServed, all_returned, is_full, is_last_end, is_limit, is_link_fault, own_of, that_ended}
 use Rattle.panel_server.specs.PanelServedInside.{ServedLinks, with_session}
 use Rattle.panel_server.proofs.LinkLemmas.{count_more, faults_more, faulty-is, filter_more, in_turn_more, none_full, none_torn, returned_more, returned_none}
 use Rattle.panel_server.proofs.SeatLemmas.{own-behind}

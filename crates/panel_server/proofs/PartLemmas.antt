@@ -16,12 +16,12 @@ use Rattle.plant_core.specs.declared.answer.Answer.{Answer}
 use Rattle.plant_core.specs.declared.request.Request.TheVariants.{Leave}
 use Rattle.panel_session.specs.declared.session.Session.{Session}
 use Rattle.panel_session.specs.Entry.{PlantEntry}
-use Rattle.panel_session.specs.Served.{PlantSeat, TraceData, own_lines}
+use Rattle.panel_session.specs.Served.{PlantSeat, TraceData, own_lines, TracesUnless}
 use Rattle.panel_session.specs.TraceLine.{trace_line}
 use Rattle.panel_session.proofs.GoneOnLemmas.{appended-both, appended-none, lines-behind, sees_both}
 use Rattle.panel_server.specs.declared.panel.PanelDone.{PanelDone}
 use Rattle.panel_server.specs.DrivenInside.{IsGiven}
-use Rattle.panel_server.specs.PanelServed.{PanelServed, TracesUnless, leave_of, own_of}
+use Rattle.panel_server.specs.PanelServed.{PanelServed, leave_of, own_of}
 use Rattle.panel_server.specs.PanelServedInside.{HasLeft, MayBegin, ServedAll}
 use Rattle.panel_server.proofs.AnswerLemmas.{legal_behind}
 use Rattle.panel_server.proofs.SeatLemmas.{own-behind, own-seen, sees_own}

@@ -1,6 +1,5 @@
 -- What the worker of the displays has done: which screens it polled, what it traced, and which packets it sent.
 use Rattle.std.specs.Prelude.{◌≡◌, ◌≢◌, ℕ, ◌-◌, ◌/◌, ◌%◌, ◌==◌, Bool, true, false, not, ◌&&◌, ◌||◌, List, [], ◌∷◌, ◌++◌, length, map, filter, take, slice_get, slice_index, All, Some}
-use mathlib.Core.List.{IsPrefix}
 use Rattle.ctl_io.specs.Faults.{count_after}
 use Rattle.ctl_io.specs.Sink.{appended}
 use Rattle.ctl_net.specs.declared.port.Sent.{Sent}
@@ -16,7 +15,7 @@ use Rattle.plant_core.specs.declared.request.Request.{Request}
 use Rattle.plant_core.specs.declared.request.Request.TheVariants.{DisplayPoll}
 use Rattle.panel_session.specs.DisplayPacket.{packet_of}
 use Rattle.panel_session.specs.Entry.{PlantEntry}
-use Rattle.panel_session.specs.Served.{PlantSeat, TraceData, mark_after, own_lines}
+use Rattle.panel_session.specs.Served.{PlantSeat, TraceData, mark_after, own_lines, TracesUnless}
 use Rattle.panel_server.specs.declared.displays.DriverEnd.{DriverEnd}
 use Rattle.panel_server.specs.declared.displays.DriverEnd.TheVariants.{Finished, TraceFault, Full, NoMemory}
 
@@ -128,10 +127,6 @@ EndsSo TraceFault plant new own sends =
 EndsSo Full plant new own sends = (screens_of plant ≢ []) × NoneIsLast own
 EndsSo NoMemory plant new own sends = new ≡ []
 
--- The lines are those of the entries, or, where the trace failed, a front of them.
-abbrev pub TracesSo : DriverEnd → List ℕ → List ℕ → Type 0
-TracesSo end all lines = IsPrefix lines all × (ends_by_trace end ≡ false → lines ≡ all)
-
 -- What the worker of the displays of a plant did from one seat, port and trace to others, until it ended so: the entries that
 -- the history has more, its sends, and the lines that it traced. Of a port it is said which packets it was sent and how often a
 -- send failed.
@@ -160,7 +155,8 @@ pub record Driven {P : Type 0} (WasSent : P → List (List ℕ) → Type 0) (fau
   pub port_count : faults port_then ≡ faults_after sends (faults port)
   -- The trace has the line of each.
   pub traced : trace_then.written ≡ appended trace.written lines
-  pub traces : TracesSo end (own_lines plant seat.number (length seat.seen) new) lines
+  pub traces : TracesUnless (ends_by_trace end)
+      (own_lines plant seat.number (length seat.seen) new) lines
   pub trace_count : trace_then.faults ≡ count_after (ends_by_trace end) trace.faults
   -- It ended so for a cause.
   pub ends : EndsSo end plant new (entries_of seat.number new) sends

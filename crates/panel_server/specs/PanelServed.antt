@@ -2,7 +2,6 @@
 use Rattle.std.specs.Prelude.{◌≡◌, ◌≢◌, ◌⊎◌, ℕ, ◌+◌, Bool, true, false, if◌then◌else◌, List, [], ◌∷◌, ◌++◌, length, map, filter}
 use Rattle.std.specs.List.{flat_map}
 use Rattle.std.specs.Option.{option_map}
-use mathlib.Core.List.{IsPrefix}
 use Rattle.ctl_io.specs.Custody.{Custody}
 use Rattle.ctl_io.specs.Faults.{count_after}
 use Rattle.ctl_io.specs.Sink.{appended}
@@ -17,7 +16,7 @@ use Rattle.panel_session.specs.declared.serve.SessionEnd.{SessionEnd}
 use Rattle.panel_session.specs.declared.serve.SessionEnd.TheVariants.{ReadFault, WriteFault, TraceFault, IdleOut, Spent, Full}
 use Rattle.panel_session.specs.declared.session.Session.{Session}
 use Rattle.panel_session.specs.Entry.{PlantEntry}
-use Rattle.panel_session.specs.Served.{PlantSeat, Served, StandsOrAwaits, TraceData, own_lines, trace_failed_at}
+use Rattle.panel_session.specs.Served.{PlantSeat, Served, StandsOrAwaits, TraceData, own_lines, trace_failed_at, TracesUnless}
 use Rattle.panel_session.specs.SoFar.{Progress}
 use Rattle.panel_server.specs.declared.panel.PanelDone.{PanelDone}
 
@@ -98,10 +97,6 @@ all_returned ends custody = record custody { back = option_map (λ back. back ++
 abbrev pub leave_of : Bool → ℕ → ℕ → List PlantEntry
 leave_of full seat panel =
     if full then [] else record { seat = seat; request = Leave panel; answers = [] } ∷ []
-
--- The lines are those of the entries, or, where a write of the trace failed, a front of them.
-abbrev pub TracesUnless : Bool → List ℕ → List ℕ → Type 0
-TracesUnless failed all lines = IsPrefix lines all × (failed ≡ false → lines ≡ all)
 
 -- What the worker of a panel did from one seat, acceptor and trace to others, and what it answered of it: the links that it
 -- was handed, in their order, the entries that the history has more, and the lines that it traced.

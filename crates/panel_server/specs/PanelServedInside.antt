@@ -14,10 +14,10 @@ use Rattle.plant_core.specs.State.{State, start}
 use Rattle.panel_session.specs.declared.serve.SessionEnd.{SessionEnd}
 use Rattle.panel_session.specs.declared.session.Session.{Session}
 use Rattle.panel_session.specs.Entry.{PlantEntry}
-use Rattle.panel_session.specs.Served.{PlantSeat, Served, StandsOrAwaits, TraceData, own_lines, trace_failed_at}
+use Rattle.panel_session.specs.Served.{PlantSeat, Served, StandsOrAwaits, TraceData, own_lines, trace_failed_at, TracesUnless}
 use Rattle.panel_session.specs.ServedInside.{SeesMore}
 use Rattle.panel_session.specs.SoFar.{Progress}
-use Rattle.panel_server.specs.PanelServed.{AreInTurn, LinkServed, TracesUnless, all_returned, faults_back, is_full, is_limit, is_last_end, is_link_fault, leave_of, own_of, that_ended}
+use Rattle.panel_server.specs.PanelServed.{AreInTurn, LinkServed, all_returned, faults_back, is_full, is_limit, is_last_end, is_link_fault, leave_of, own_of, that_ended}
 use Rattle.panel_server.specs.declared.panel.PanelDone.{PanelDone}
 
 -- A session of a panel of the plant may be made anew.

@@ -144,10 +144,9 @@ SaysAsEnded end plant reads entries bytes =
     (text : List ℕ) × IsText plant (items (all_read reads)) entries text
     × IsPrefix bytes text × (was_cut end ≡ false → bytes ≡ text)
 
--- The lines are those of the entries, or, where the trace failed, a front of them.
-abbrev pub TracesAsEnded : SessionEnd → List ℕ → List ℕ → Type 0
-TracesAsEnded end all lines =
-    IsPrefix lines all × (trace_failed_at end ≡ false → lines ≡ all)
+-- The lines are those of the entries, or, where a write of the trace failed, a front of them.
+abbrev pub TracesUnless : Bool → List ℕ → List ℕ → Type 0
+TracesUnless failed all lines = IsPrefix lines all × (failed ≡ false → lines ≡ all)
 
 -- Why a session ended so, by its reads, of which there may be so many and so many idle ones at the end, and by what its link
 -- has left. It ends as its link does, or by a fault of it, at a read that isn't among them, and it is cut short in a turn.
@@ -235,7 +234,8 @@ pub record Served (plant : PlantData) (panel turns : ℕ) (end : SessionEnd) (se
   pub answered : AnsweredButLast (entries_of seat.number new) bytes
   -- The trace has the line of each.
   pub traced : trace_then.written ≡ appended trace.written lines
-  pub traces : TracesAsEnded end (own_lines plant seat.number (length seat.seen) new) lines
+  pub traces : TracesUnless (trace_failed_at end)
+      (own_lines plant seat.number (length seat.seen) new) lines
   -- It ended so for a cause, and no call failed but that which ended it.
   pub cause : HasCause end turns plant.server.idle_limit reads link_then.read_half.left
   pub idles : IdlesAsEnded end plant.server.idle_limit reads

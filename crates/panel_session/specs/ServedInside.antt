@@ -25,7 +25,7 @@ use Rattle.panel_session.specs.Turns.{Turn, bytes_read, entries_of_turns}
 use Rattle.panel_session.specs.declared.serve.SessionEnd.{SessionEnd}
 use Rattle.panel_session.specs.declared.serve.SessionEnd.TheVariants.{Ended, ReadFault, TraceFault, Full}
 use Rattle.panel_session.specs.Entry.{PlantEntry}
-use Rattle.panel_session.specs.Served.{PlantSeat, TraceData, AnsweredButLast, AreTaken, IsAnsweredIn, StandsOrAwaits, TracesAsEnded, all_read, full_after, idles_after, mark_after, own_lines, read_of, read_room}
+use Rattle.panel_session.specs.Served.{PlantSeat, TraceData, AnsweredButLast, AreTaken, IsAnsweredIn, StandsOrAwaits, TracesUnless, all_read, full_after, idles_after, mark_after, own_lines, read_of, read_room, trace_failed_at}
 use Rattle.panel_session.specs.Session.{StandsFor, Awaits, outbox_of}
 use Rattle.panel_session.specs.Text.{IsText, frames_of}
 use Rattle.panel_session.specs.TraceLine.{trace_line}
@@ -138,7 +138,7 @@ pub record HasBrokenOff (plant : PlantData) (end : SessionEnd) (before after : O
   pub written : after.written ≡ appended before.written bytes
   pub lines : List ℕ
   pub traced : after.traced ≡ appended before.traced lines
-  pub traces : TracesAsEnded end
+  pub traces : TracesUnless (trace_failed_at end)
       (own_lines plant before.seat.number (length before.seat.seen) new) lines
 
 -- In a past each entry but the last was answered in what was sent, and all are in the session's whole text.
