@@ -9,3 +9,16 @@ pub mod PanelLemmas
 pub mod OverLemmas
 pub mod PartLemmas
 pub mod LeaveLemmas
+pub mod OpenLemmas
+pub mod SumLemmas
+pub mod RoomLemmas
+pub mod CountLemmas
+pub mod CauseLemmas
+pub mod CrewLemmas
+pub mod ManLemmas
+pub mod KeptLemmas
+pub mod FewLemmas
+pub mod ServedLemmas
+pub mod OpenedLemmas
+pub mod ShareLemmas
+pub mod TogetherLemmas

@@ -3,3 +3,7 @@ pub mod Driven
 pub mod DrivenInside
 pub mod PanelServed
 pub mod PanelServedInside
+pub mod PlantServed
+pub mod Workers
+pub mod ServeInside
+pub mod TracesShare

@@ -89,8 +89,8 @@ faults_back [] count = count
 faults_back (one ∷ later) count =
     faults_back later (count_after (is_link_fault one.end) count)
 
--- the custody of links once these were handed out and given back: as many are out as before
-abbrev pub all_returned : List LinkEnd → Custody LinkEnd → Custody LinkEnd
+-- the custody of objects once these were handed out and given back: as many are out as before
+abbrev pub all_returned : {Shown : Type 0} → List Shown → Custody Shown → Custody Shown
 all_returned ends custody = record custody { back = option_map (λ back. back ++ ends) custody.back }
 
 -- The entry of a panel's leave by a seat, which is missing where the seat found that the history has no place.

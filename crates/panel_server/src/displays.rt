@@ -51,8 +51,10 @@ pub fn drive_displays<W: Wait, P: DisplayPort, K: Sink>(
 ) -> DriverEnd
     requires seat { IsSeatOf plant.now lock.now seat.old }
     requires takes { TakesAll P.takes }
-    ensures { Driven P.was_sent P.faults plant.now result seat.old seat.new port.old port.new
-        (trace_shows K.written K.faults trace.old) (trace_shows K.written K.faults trace.new) }
+    ensures driven { Driven P.was_sent P.faults plant.now result seat.old seat.new port.old
+        port.new (trace_shows K.written K.faults trace.old)
+        (trace_shows K.written K.faults trace.new) }
+    ensures trace_name { K.name trace.new ≡ K.name trace.old }
 {
     match PollRoom::new(alloc, plant) {
         Ok(mut room) => drive(rt, plant, lock, seat, port, trace, &mut room),
@@ -73,8 +75,10 @@ fn drive<W: Wait, P: DisplayPort, K: Sink>(
     requires seat { IsSeatOf plant.now lock.now seat.old }
     requires takes { TakesAll P.takes }
     requires room { HasRoomFor plant.now room.old }
-    ensures { Driven P.was_sent P.faults plant.now result seat.old seat.new port.old port.new
-        (trace_shows K.written K.faults trace.old) (trace_shows K.written K.faults trace.new) }
+    ensures driven { Driven P.was_sent P.faults plant.now result seat.old seat.new port.old
+        port.new (trace_shows K.written K.faults trace.old)
+        (trace_shows K.written K.faults trace.new) }
+    ensures trace_name { K.name trace.new ≡ K.name trace.old }
 {
     let screens = plant.screens();
     let every = u64::from(plant.server().refresh_every);

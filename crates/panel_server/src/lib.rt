@@ -4,10 +4,20 @@
 #![tactic(auto)]
 
 mod displays;
+mod give_back;
 mod leave;
+mod open;
 mod panel;
+mod plant;
 mod poll;
 mod poll_room;
+mod room;
+mod shares;
+mod sums;
+mod worker;
+mod workers;
 
 pub use displays::{DriverEnd, drive_displays};
 pub use panel::{PanelDone, serve_panel};
+pub use plant::{PlantDone, ServeFault, serve};
+pub use shares::traces_share_history;

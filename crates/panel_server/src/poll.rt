@@ -103,6 +103,7 @@ pub(crate) fn poll_screen<W: Wait, P: DisplayPort, K: Sink>(
     ensures cause { IfErr result (λ end.
         K.faults trace.new ≡ count_after (ends_by_trace end) (K.faults trace.old)) }
     ensures room { HasRoomFor plant.now room.new }
+    ensures trace_name { K.name trace.new ≡ K.name trace.old }
 {
     let PollRoom {
         answers,
@@ -152,6 +153,7 @@ fn trace_poll<K: Sink>(
         (K.written trace.old) (K.written trace.new)) }
     ensures count { K.faults trace.new ≡ count_after (not result) (K.faults trace.old) }
     ensures room { vec_capacity line.new ≡ vec_capacity line.old }
+    ensures name { K.name trace.new ≡ K.name trace.old }
 {
     line.clear();
     lines.append(plant, position, request, answers, line);

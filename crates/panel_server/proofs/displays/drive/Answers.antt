@@ -8,8 +8,8 @@ use Rattle.panel_server.proofs.BeginLemmas.{driven_nothing, driving_begins}
 use Rattle.panel_server.proofs.PollLemmas.{poll_is, screen_fits, seat_stays}
 use Rattle.panel_server.proofs.displays.drive.Goals as goal
 
-pub returns-then-count-eq0 : goal.returns-then-count-eq0
-returns-then-count-eq0 g c =
+pub returns-then-count-eq0-clause-driven : goal.returns-then-count-eq0-clause-driven
+returns-then-count-eq0-clause-driven g c =
     let none : length c.screens-screens.result.now ≡ 0 = search rules in
     let empty : screens_of c.args.plant.now ≡ [] = nil_from_length (screens_of c.args.plant.now) (ap (length {A = ℕ}) (sym c.screens-screens.ensures.screens) ∙ none) in
     driven_nothing g.P.DisplayPort.was_sent g.P.DisplayPort.faults c.args.plant.now (Finished 0 0)
@@ -24,6 +24,7 @@ loop-polled-init g c = record {
   sent_few = omega arith;
   lost_few = omega arith;
   room = c.requires.room;
+  name = refl;
   seat = c.requires.seat;
 }
 
@@ -33,8 +34,8 @@ poll_screen-requires-clause-fits g c κs within =
     let below : c.loop-polled.polls % length screens < length screens = search rules in
     screen_fits c.args.plant.now screens (c.loop-polled.polls % length screens) c.screen_at-screen.result c.screens-screens.ensures.plant c.screens-screens.ensures.screens below c.screen_at-screen.ensures
 
-pub returns-in-Err : goal.returns-in-Err
-returns-in-Err g c =
+pub returns-in-Err-clause-driven : goal.returns-in-Err-clause-driven
+returns-in-Err-clause-driven g c =
     let plant = c.args.plant.now in
     let screens = c.screens-screens.result.now in
     let every : c.from-every.result ≡ plant.server.refresh_every = search rules in
@@ -42,8 +43,8 @@ returns-in-Err g c =
     let is = poll_is plant screens c.from-every.result c.loop-polled.polls c.screen_at-screen.result c.has_refresh-refresh.result c.screens-screens.ensures.screens c.screen_at-screen.ensures every c.has_refresh-refresh.ensures in
     driven_ends c.in-Err.end _ _ some c.loop-polled.invariant.driving is c.in-Err.ensures.ends c.in-Err.ensures.unsent c.in-Err.ensures.cause
 
-pub returns-then-is_last : goal.returns-then-is_last
-returns-then-is_last g c =
+pub returns-then-is_last-clause-driven : goal.returns-then-is_last-clause-driven
+returns-then-is_last-clause-driven g c =
     let plant = c.args.plant.now in
     let screens = c.screens-screens.result.now in
     let every : c.from-every.result ≡ plant.server.refresh_every = search rules in
@@ -67,6 +68,7 @@ loop-polled-preserved-then-polls-count-eq0 g c =
       sent_few = sent_few on;
       lost_few = lost_few on;
       room = c.poll_screen.ensures.room;
+      name = c.poll_screen.ensures.trace_name ∙ c.loop-polled.invariant.name;
       seat = seat_stays plant c.args.lock.now c.loop-polled.seat c.poll_screen.new.seat c.loop-polled.invariant.seat has.given.rest;
     }
 
@@ -85,6 +87,7 @@ loop-polled-preserved g c =
       sent_few = sent_few on;
       lost_few = lost_few on;
       room = c.poll_screen.ensures.room;
+      name = c.poll_screen.ensures.trace_name ∙ c.loop-polled.invariant.name;
       seat = seat_stays plant c.args.lock.now c.loop-polled.seat c.poll_screen.new.seat c.loop-polled.invariant.seat has.given.rest;
     }
 

@@ -1,4 +1,4 @@
-use Rattle.std.proofs.Common.{◌-◌, ◌^◌, ◌≤◌}
+use Rattle.std.proofs.Common.{◌≡◌, ◌-◌, ◌^◌, ◌≤◌}
 use Rattle.panel_server.specs.DrivenInside.{HasRoomFor, IsDriving, outside}
 use Rattle.panel_server.specs.Seats.{IsSeatOf}
 use Rattle.panel_server.proofs.displays.drive.Given as goal
@@ -13,6 +13,7 @@ invariant-loop-polled g l = record {
   sent_few : l.sent ≤ l.polls;
   lost_few : l.failed ≤ l.polls;
   room : HasRoomFor l.fn.plant l.room;
+  name : g.K.Sink.name l.trace ≡ g.K.Sink.name l.fn.trace;
   seat : IsSeatOf l.fn.plant l.fn.lock l.seat;
 }
 

@@ -1,0 +1,35 @@
+use Rattle.std.proofs.Common.{rules, ◌≡◌, ◌≤◌, length, All, List, sym, subst, arith}
+use Rattle.std.proofs.lemmas.List.Elements.{All-push}
+use Rattle.plant_file.specs.declared.entries.Server.{Server}
+use Rattle.plant_config.specs.declared.records.Panel.{Panel}
+use Rattle.panel_server.specs.PlantServed.{net_shows}
+use Rattle.panel_server.specs.ServeInside.{IsFreshFor}
+use Rattle.panel_server.proofs.OpenLemmas.{opened_begins, opened_step}
+use Rattle.panel_server.proofs.open.open_acceptors.Goals as goal
+
+pub loop-number-init : goal.loop-number-init
+loop-number-init g c =
+    let none : length c.args.acceptors.now.items ≡ 0 = search rules in
+    record {
+      net = opened_begins c.args.plant.now _;
+      count = none;
+      fresh = λ k d below. absurd (omega (arith, below, none));
+      places = search rules;
+    }
+
+pub loop-number-preserved : goal.loop-number-preserved
+loop-number-preserved g c =
+    let shows = net_shows g.N.Net.openings g.N.Net.acceptors g.N.Net.ports g.N.Net.open_faults g.N.Net.close_faults in
+    let plant = c.args.plant.now in
+    let panels = c.panels-panel-items.result.now in
+    let few : length panels ≤ 64 = subst (λ (panels : List Panel). length panels ≤ 64) (sym c.panels-panel-items.ensures.panels) c.panels-panel-items.ensures.plant.panels in
+    let Fresh = λ (acceptor : g.row.N-A.Denot). IsFreshFor g.N.A.Acceptor.sessions g.N.A.Acceptor.links g.N.A.Acceptor.next_faults g.N.A.Acceptor.done_faults plant.server acceptor in
+    let FreshBy = λ (server : Server). IsFreshFor g.N.A.Acceptor.sessions g.N.A.Acceptor.links g.N.A.Acceptor.next_faults g.N.A.Acceptor.done_faults server c.in-Some.acceptor in
+    record {
+      net = opened_step plant (shows c.args.net.now) (shows c.loop-number.net) (shows c.open_acceptor.new.net) c.server-server.result.now panels c.loop-number.number _ _
+          c.server-server.ensures.server c.panels-panel-items.ensures.panels c.loop-number-test.true (search rules) c.loop-number.invariant.net c.in-Some.ensures.opened;
+      count = search rules;
+      fresh = subst (λ (items : List g.row.N-A.Denot). All Fresh items) (sym c.push_reserved.ensures.items)
+          (All-push Fresh _ _ c.loop-number.invariant.fresh (subst FreshBy c.server-server.ensures.server c.in-Some.ensures.fresh));
+      places = search rules;
+    }
