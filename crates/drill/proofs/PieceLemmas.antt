@@ -1,5 +1,6 @@
 -- The pieces of bytes, one after another.
-use Rattle.std.proofs.Common.{◌≡◌, ℕ, zero, suc, ◌+◌, ◌*◌, List, [], ◌∷◌, ◌++◌, map, flat_map, take, drop, refl, sym, ap, ◌∙◌, arith}
+use Rattle.std.proofs.Common.{◌≡◌, ℕ, zero, suc, ◌+◌, ◌-◌, ◌*◌, ◌≤◌, ◌<◌, true, false, leb, List, [], ◌∷◌, ◌++◌, map, flat_map, length, take, drop, min, refl, sym, ap, ◌∙◌, arith, length-drop}
+use Rattle.std.proofs.lemmas.Bool.{leb-true, leb-false}
 use Rattle.std.specs.List.{range_with_len}
 use Rattle.std.proofs.lemmas.List.{append-nil, map-append, drop-take, take-take, take-append-drop, take_all}
 use Rattle.std.proofs.lemmas.List.Concat.{flat_map-append}
@@ -42,3 +43,22 @@ pieces_joined bytes (at ∷ ats) = ap (λ (more : List ℕ). piece_at bytes at +
 pub pieces_are_all : (bytes : List ℕ) → bytes_of (in_pieces bytes) ≡ bytes
 pieces_are_all bytes =
     pieces_joined bytes (range_with_len 0 (piece_count bytes)) ∙ pieces_front bytes (piece_count bytes) ∙ take_all (piece_count bytes * piece_len) bytes (omega arith)
+
+-- what is taken of the bytes behind a place, where that is as many as a piece has, or as there are
+pub piece_is : (bytes : List ℕ) (start n : ℕ) → n ≡ min (length (take (length bytes - start) (drop start bytes))) piece_len → take n (take (length bytes - start) (drop start bytes)) ≡ take piece_len (drop start bytes)
+piece_is bytes start n is =
+    let rest = drop start bytes in
+    let all : take (length bytes - start) rest ≡ rest = take_all (length bytes - start) rest (omega (arith, length-drop start bytes)) in
+    let count : n ≡ min (length rest) piece_len = is ∙ ap (λ (rest : List ℕ). min (length rest) piece_len) all in
+    ap (take n) all ∙ ap (λ (k : ℕ). take k rest) count ∙ take_min rest
+  where
+    take_min : (rest : List ℕ) → take (min (length rest) piece_len) rest ≡ take piece_len rest
+    take_min rest = elim (leb (length rest) piece_len) as (λ b. leb (length rest) piece_len ≡ b → take (min (length rest) piece_len) rest ≡ take piece_len rest) [
+      | true ↦ λ fits.
+          let few : length rest ≤ piece_len = leb-true (length rest) piece_len fits in
+          take_all (min (length rest) piece_len) rest (omega arith) ∙ sym (take_all piece_len rest few)
+      | false ↦ λ longer.
+          let more : piece_len < length rest = leb-false (length rest) piece_len longer in
+          let is : min (length rest) piece_len ≡ piece_len = omega arith in
+          ap (λ (k : ℕ). take k rest) is
+    ] refl

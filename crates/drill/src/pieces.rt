@@ -27,6 +27,6 @@ fn piece(alloc: Global, bytes: &[u8], at: usize) -> Result<Vec<u8>, AllocError>
     requires { at < piece_count bytes.now }
     ensures { IfOk result (λ piece. piece.items ≡ piece_at bytes.now at) }
 {
-    let behind = bytes.iter().skip(at * PIECE);
-    behind.take(PIECE).copied().collect(alloc)
+    let behind = &bytes[at * PIECE..];
+    behind[..behind.len().min(PIECE)].to_vec(alloc)
 }
