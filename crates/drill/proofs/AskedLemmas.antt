@@ -28,7 +28,7 @@ abbrev pub Asked : Type 0
 Asked = ElementOf (sent_to_plant 0 0)
 
 -- What the first item sends comes first.
-one_first : (panel item : ℕ) (a : Asked) (others : List Asked) → sent_to_plant panel item (a ∷ others) ≡ sent_to_plant panel item (a ∷ []) ++ sent_to_plant panel (item + 1) others
+pub one_first : (panel item : ℕ) (a : Asked) (others : List Asked) → sent_to_plant panel item (a ∷ others) ≡ sent_to_plant panel item (a ∷ []) ++ sent_to_plant panel (item + 1) others
 one_first panel item a others = grind arith
 
 one_told : (panel item : ℕ) (a : Asked) → filter is_told (sent_to_plant panel item (a ∷ [])) ≡ sent_to_plant panel item (a ∷ [])

@@ -1,6 +1,6 @@
 -- What workers left that have done their work.
-use Rattle.std.proofs.Common.{◌≡◌, ◌≢◌, ℕ, zero, suc, ◌+◌, ◌*◌, ◌<◌, ◌≤◌, ◌^◌, List, [], ◌∷◌, ◌++◌, All, Contains, map, flat_map, filter, length, slice_index_or, refl, sym, ap, ◌∙◌, subst, arith, IsPermutation}
-use Rattle.std.specs.List.{enumerate_from, range_with_len, sum_by}
+use Rattle.std.proofs.Common.{◌≡◌, ◌≢◌, ℕ, ◌+◌, ◌*◌, ◌<◌, ◌≤◌, ◌%◌, ◌^◌, true, List, [], ◌∷◌, ◌++◌, All, map, flat_map, length, slice_index_or, refl, sym, ap, ◌∙◌, subst, arith}
+use Rattle.std.specs.List.{sum_by}
 use Rattle.std.proofs.lemmas.List.{get_or-map, length-map}
 use Rattle.std.proofs.lemmas.List.Elements.{All-weaker}
 use Rattle.std.proofs.lemmas.List.FromFn.{length-map-range_with_len}
@@ -10,7 +10,7 @@ use mathlib.Core.List.{IsPrefix}
 use Rattle.dle_framing.specs.declared.item.Item.{Item}
 use Rattle.dle_framing.specs.Items.{items}
 use Rattle.history_lock.specs.Calls.{HasOwn}
-use Rattle.history_lock.specs.Closing.{HasAll, IsOf}
+use Rattle.history_lock.specs.Closing.{FullByTicket, HasAll, IsOf}
 use Rattle.history_lock.specs.History.{IsLegal, entries_of}
 use Rattle.history_lock.specs.Locks.{LockData}
 use Rattle.history_lock.specs.Shares.{AreApart}
@@ -25,19 +25,23 @@ use Rattle.panel_session.specs.Asked.{AllAsk}
 use Rattle.panel_session.specs.Entry.{PlantEntry}
 use Rattle.panel_session.specs.Served.{PlantSeat, all_read, own_lines}
 use Rattle.panel_session.specs.TraceLine.{MayTrace, trace_limit}
-use Rattle.panel_session.specs.Turns.{FitsReads, requests}
+use Rattle.panel_session.specs.Turns.{FitsReads}
 use Rattle.line_text.specs.Lines.{lines}
 use Rattle.trace_audit.specs.Laws.{AreLinesOf, IsTraceable}
 use Rattle.trace_audit.specs.Trace.{HasTraceNumbers}
 use Rattle.drill.specs.declared.outcome.Outcome.{Outcome}
 use Rattle.drill.specs.declared.worker.Worker.{Worker}
 use Rattle.drill.specs.declared.worker.Workload.{Workload}
-use Rattle.drill.specs.Drilled.{FitsItsStream, is_told, most_messages, stream_tells, told_by}
+use Rattle.drill.specs.Drilled.{FitsItsStream, most_messages, stream_tells, told_by}
 use Rattle.drill.specs.Laws.{MessagesAskThePlant}
 use Rattle.drill.specs.Stream.{bad_among, good_among, item_at, items_of, stream}
-use Rattle.drill.specs.WorkerInside.{EachWorker, HasDone, HasDrilled, seats_of, traces_of}
+use Rattle.drill.specs.WorkerInside.{EachWorker, HasDrilled, WasServed, seats_of, traces_of}
 use Rattle.drill.proofs.AskedLemmas.{IsWithin, items_tell}
 use Rattle.drill.proofs.CountLemmas.{bad_counted, good_counted}
+use Rattle.drill.proofs.EndLemmas.{lock_of, number_of, own_few, own_done, service_of}
+use Rattle.drill.proofs.FewLemmas.{past_few}
+use Rattle.drill.proofs.RoomLemmas.{few_piece_count}
+use Rattle.drill.proofs.ServedLemmas.{HasDone}
 use Rattle.drill.proofs.StreamLemmas.{streams_are_read}
 use Rattle.drill.proofs.TraceLines.{EntryMayTrace, all_of_seats, lines_of_all}
 use Rattle.drill.proofs.TurnLemmas.{EntryWithin, TellsOf, fits_tell}
@@ -75,25 +79,29 @@ traced_each plant (worker ∷ workers) all =
     ap (λ (text : List ℕ). text ++ traces_of workers) (All-head Traced worker workers all)
     ∙ ap (λ (text : List ℕ). own_lines plant worker.seat.number 0 worker.seat.seen ++ text) (traced_each plant workers (All-tail Traced worker workers all))
 
-module _ (load : Workload) (lock : LockData State) (workers : List Worker) (default : Worker) (count : length workers ≡ load.panels) (done : EachWorker (HasDone load lock) workers) where
-  is_done : (panel : ℕ) → panel < load.panels → HasDone load lock panel (slice_index_or workers panel default)
-  is_done panel below = done panel default (omega (arith, count))
+-- Each worker has the seat of its panel.
+abbrev IsPlaced : LockData State → ℕ → Worker → Type 0
+IsPlaced lock panel worker = (worker.seat.lock ≡ lock.id) × (worker.seat.number ≡ panel)
+
+module _ (load : Workload) (lock : LockData State) (workers : List Worker) (default : Worker) (count : length workers ≡ load.panels) (placed : EachWorker (IsPlaced lock) workers) where
+  is_placed : (panel : ℕ) → panel < load.panels → IsPlaced lock panel (slice_index_or workers panel default)
+  is_placed panel below = placed panel default (omega (arith, count))
 
   seat_is : (panel : ℕ) (other : PlantSeat) → panel < load.panels → slice_index_or (seats_of workers) panel other ≡ (slice_index_or workers panel default).seat
   seat_is panel other below = get_or-map (λ (worker : Worker). worker.seat) workers panel default other (omega (arith, count))
 
-  pub seats_counted : length (seats_of workers) ≡ load.panels
+  seats_counted : length (seats_of workers) ≡ load.panels
   seats_counted = length-map workers (λ (worker : Worker). worker.seat) ∙ count
 
   numbered : (panel : ℕ) (other : PlantSeat) → panel < load.panels → (slice_index_or (seats_of workers) panel other).number ≡ panel
-  numbered panel other below = ap (λ (seat : PlantSeat). seat.number) (seat_is panel other below) ∙ (is_done panel below).number_is
+  numbered panel other below = ap (λ (seat : PlantSeat). seat.number) (seat_is panel other below) ∙ (is_placed panel below).1
 
-  pub all_of_lock : All (IsOf lock.id) (seats_of workers)
+  all_of_lock : All (IsOf lock.id) (seats_of workers)
   all_of_lock panel other below =
       let within : panel < load.panels = omega (arith, seats_counted) in
-      ap (λ (seat : PlantSeat). seat.lock) (seat_is panel other within) ∙ (is_done panel within).lock_is
+      ap (λ (seat : PlantSeat). seat.lock) (seat_is panel other within) ∙ (is_placed panel within).0
 
-  pub has_all : HasAll load.panels (seats_of workers)
+  has_all : HasAll load.panels (seats_of workers)
   has_all panel below =
       let numbers = map (λ (seat : PlantSeat). seat.number) (seats_of workers) in
       let within : panel < length (seats_of workers) = omega (arith, seats_counted) in
@@ -107,27 +115,33 @@ module _ (load : Workload) (lock : LockData State) (workers : List Worker) (defa
   apart i j other before within same =
       omega (arith, numbered i other (omega (arith, seats_counted)), numbered j other (omega (arith, seats_counted)), same)
 
-  module _ (ask_plant : MessagesAskThePlant) (few : load.panels ≤ 16) (few_messages : load.each ≤ most_messages) (past : List PlantEntry) (legal : IsLegal step Takes (start (drill_plant load.panels)) past) (short : length past ≤ 2 ^ 62)
+  -- what is so of each seat is so of a worker's
+  of_seat : (P : PlantSeat → Type 0) → All P (seats_of workers) → (panel : ℕ) → panel < load.panels → P (slice_index_or workers panel default).seat
+  of_seat P all panel below =
+      let some : PlantSeat = (slice_index_or workers panel default).seat in
+      subst P (seat_is panel some below) (all panel some (omega (arith, seats_counted)))
+
+  entries_are : (past : List PlantEntry) → All (HasOwn past) (seats_of workers) → (panel : ℕ) → panel < load.panels → entries_of panel past ≡ entries_of panel (slice_index_or workers panel default).seat.seen
+  entries_are past own panel below =
+      let worker : Worker = slice_index_or workers panel default in
+      let Of : ℕ → Type 0 = λ number. entries_of number past ≡ entries_of number worker.seat.seen in
+      subst Of (is_placed panel below).1 (of_seat (HasOwn past) own panel below)
+
+  module _ (done : EachWorker (HasDone load lock) workers) (ask_plant : MessagesAskThePlant) (few : load.panels ≤ 16) (few_messages : load.each ≤ most_messages) (past : List PlantEntry) (legal : IsLegal step Takes (start (drill_plant load.panels)) past) (short : length past ≤ 2 ^ 62)
       (seen : All (λ seat. IsPrefix seat.seen past) (seats_of workers)) (own : All (HasOwn past) (seats_of workers)) (by_seats : All (λ entry. entry.seat < load.panels) past) where
-    entries_are : (panel : ℕ) → panel < load.panels → entries_of panel past ≡ entries_of panel (slice_index_or workers panel default).seat.seen
-    entries_are panel below =
-        let worker : Worker = slice_index_or workers panel default in
-        let Own : PlantSeat → Type 0 = HasOwn past in
-        let of_seat : entries_of worker.seat.number past ≡ entries_of worker.seat.number worker.seat.seen =
-        subst Own (seat_is panel worker.seat below) (own panel worker.seat (omega (arith, seats_counted))) in
-        let Of : ℕ → Type 0 = λ number. entries_of number past ≡ entries_of number worker.seat.seen in
-        subst Of (is_done panel below).number_is of_seat
+    is_done : (panel : ℕ) → panel < load.panels → HasDone load lock panel (slice_index_or workers panel default)
+    is_done panel below = done panel default (omega (arith, count))
 
     pub fits_stream : (panel : ℕ) → panel < load.panels → FitsItsStream load.number panel load.each past
     fits_stream panel below =
         let is = is_done panel below in
-        record { reads = is.reads; all = is.all; fits = subst (FitsReads panel is.reads) (sym (entries_are panel below)) is.fits }
+        record { reads = is.reads; all = is.all; fits = subst (FitsReads panel is.reads) (sym (entries_are past own panel below)) is.fits }
 
     tells : (panel : ℕ) (below : panel < load.panels) → TellsOf panel (is_done panel below).reads (entries_of panel past)
     tells panel below = fits_tell panel (is_done panel below).reads (entries_of panel past) (fits_stream_of panel below)
       where
         fits_stream_of : (panel : ℕ) (below : panel < load.panels) → FitsReads panel (is_done panel below).reads (entries_of panel past)
-        fits_stream_of panel below = subst (FitsReads panel (is_done panel below).reads) (sym (entries_are panel below)) (is_done panel below).fits
+        fits_stream_of panel below = subst (FitsReads panel (is_done panel below).reads) (sym (entries_are past own panel below)) (is_done panel below).fits
 
     pub told_stream : (panel : ℕ) → panel < load.panels → told_by panel past ≡ stream_tells load.number panel load.each
     told_stream panel below =
@@ -189,44 +203,81 @@ module _ (load : Workload) (lock : LockData State) (workers : List Worker) (done
   )
 
 -- What all of them left.
-pub has_drilled : (ask_plant : MessagesAskThePlant) (load : Workload) (lock : LockData State) (workers : List Worker) (count : length workers ≡ load.panels) (done : EachWorker (HasDone load lock) workers) (some : 1 ≤ load.panels) (few : load.panels ≤ 16)
+pub has_drilled : (ask_plant : MessagesAskThePlant) (load : Workload) (lock : LockData State) (workers : List Worker) (default : Worker) (count : length workers ≡ load.panels) (placed : EachWorker (IsPlaced lock) workers) (done : EachWorker (HasDone load lock) workers) (few : load.panels ≤ 16)
     (few_messages : load.each ≤ most_messages) (outcome : Outcome) → outcome.goods ≡ sum_by (λ (worker : Worker). worker.goods) workers → outcome.bads ≡ sum_by (λ (worker : Worker). worker.bads) workers → outcome.trace.items ≡ traces_of workers
     → IsLegal step Takes (start (drill_plant load.panels)) outcome.past → length outcome.past ≤ 2 ^ 62 → All (λ seat. IsPrefix seat.seen outcome.past) (seats_of workers) → All (HasOwn outcome.past) (seats_of workers)
     → All (λ entry. entry.seat < load.panels) outcome.past → HasDrilled load outcome
-has_drilled ask_plant load lock workers count done some few few_messages outcome goods bads trace legal short seen own by_seats =
-    let default : Worker = some_worker workers (omega (arith, count, some)) in
+has_drilled ask_plant load lock workers default count placed done few few_messages outcome goods bads trace legal short seen own by_seats =
     record {
       goods = goods ∙ sum_same (λ (worker : Worker). worker.goods) (good_among load.each) workers (λ panel other below. (done panel other below).goods) ∙ ap (λ (n : ℕ). n * good_among load.each) count;
       bads = bads ∙ sum_same (λ (worker : Worker). worker.bads) (bad_among load.each) workers (λ panel other below. (done panel other below).bads) ∙ ap (λ (n : ℕ). n * bad_among load.each) count;
-      history = is_traceable load lock workers default count done ask_plant few few_messages outcome.past legal short seen own by_seats;
+      history = is_traceable load lock workers default count placed done ask_plant few few_messages outcome.past legal short seen own by_seats;
       few = short;
       by_panels = by_seats;
-      entries = fits_stream load lock workers default count done ask_plant few few_messages outcome.past legal short seen own by_seats;
-      told = told_stream load lock workers default count done ask_plant few few_messages outcome.past legal short seen own by_seats;
-      trace = lines_of_past load lock workers default count done ask_plant few few_messages outcome.past legal short seen own by_seats outcome.trace.items trace;
+      entries = fits_stream load lock workers default count placed done ask_plant few few_messages outcome.past legal short seen own by_seats;
+      told = told_stream load lock workers default count placed done ask_plant few few_messages outcome.past legal short seen own by_seats;
+      trace = lines_of_past load lock workers default count placed done ask_plant few few_messages outcome.past legal short seen own by_seats outcome.trace.items trace;
     }
 
--- The lock can be closed with the seats of its workers,
-module _ (load : Workload) (lock : LockData State) (workers : List Worker) (count : length workers ≡ load.panels) (done : EachWorker (HasDone load lock) workers) (some : 1 ≤ load.panels) (seats : List PlantSeat) (are : seats ≡ seats_of workers) where
+-- The lock can be closed with the seats of workers that have served their sessions,
+module _ (load : Workload) (lock : LockData State) (workers : List Worker) (count : length workers ≡ load.panels) (served : EachWorker (WasServed load lock) workers) (some : 1 ≤ load.panels) (seats : List PlantSeat) (are : seats ≡ seats_of workers) where
   first : Worker
   first = some_worker workers (omega (arith, count, some))
 
+  placed : EachWorker (IsPlaced lock) workers
+  placed panel default below =
+      let worker : Worker = slice_index_or workers panel default in
+      let is = service_of load lock panel worker (served panel default below) in
+      (lock_of load lock panel worker is, number_of load lock panel worker is)
+
   pub may_close_own : All (IsOf lock.id) seats
-  may_close_own = let Own : List PlantSeat → Type 0 = λ seats. All (IsOf lock.id) seats in subst Own (sym are) (all_of_lock load lock workers first count done)
+  may_close_own = let Own : List PlantSeat → Type 0 = λ seats. All (IsOf lock.id) seats in subst Own (sym are) (all_of_lock load lock workers first count placed)
 
   pub may_close_all : (panels : ℕ) → panels ≡ load.panels → HasAll panels seats
   may_close_all panels is =
       let Whole : List PlantSeat → Type 0 = λ seats. HasAll load.panels seats in
       let Of : ℕ → Type 0 = λ panels. HasAll panels seats in
-      subst Of (sym is) (subst Whole (sym are) (has_all load lock workers first count done))
+      subst Of (sym is) (subst Whole (sym are) (has_all load lock workers first count placed))
 
-  -- and this is what that leaves.
-  pub gathered : (ask_plant : MessagesAskThePlant) (few : load.panels ≤ 16) (few_messages : load.each ≤ most_messages) (outcome : Outcome) (opening : State) (entries panels : ℕ) → outcome.goods ≡ sum_by (λ (worker : Worker). worker.goods) workers
-      → outcome.bads ≡ sum_by (λ (worker : Worker). worker.bads) workers → outcome.trace.items ≡ traces_of workers → opening ≡ start (drill_plant load.panels) → panels ≡ load.panels → IsLegal step Takes opening outcome.past → entries ≡ length outcome.past → entries ≤ 2 ^ 62
-      → All (λ seat. IsPrefix seat.seen outcome.past) seats → All (HasOwn outcome.past) seats → All (λ entry. entry.seat < panels) outcome.past → HasDrilled load outcome
-  gathered ask_plant few few_messages outcome opening entries panels goods bads trace opens counted legal all short seen own by_seats =
+  -- and the history that it leaves then shows that each session ended as its link did.
+  module _ (ask_plant : MessagesAskThePlant) (few : load.panels ≤ 16) (few_messages : load.each ≤ most_messages) (past : List PlantEntry) (legal : IsLegal step Takes (start (drill_plant load.panels)) past) (entries : ℕ) (all : entries ≡ length past) (short : entries ≤ 2 ^ 62)
+      (seen : All (λ seat. IsPrefix seat.seen past) (seats_of workers)) (own : All (HasOwn past) (seats_of workers)) (full : All (FullByTicket entries) (seats_of workers)) (by_seats : All (λ entry. entry.seat < load.panels) past) where
+    past_short : length past < 2 ^ 62
+    past_short = omega (arith, past_few load.panels 153800000 past by_seats of_each, few)
+      where
+        of_each : (panel : ℕ) → panel < load.panels → length (entries_of panel past) ≤ 153800000
+        of_each panel below =
+            let worker : Worker = slice_index_or workers panel first in
+            omega (
+              arith,
+              ap (length {A = PlantEntry}) (entries_are load lock workers first count placed past own panel below),
+              own_few load lock panel worker (service_of load lock panel worker (served panel first (omega (arith, count)))),
+              few_piece_count load.number panel load.each few_messages,
+              few_messages,
+            )
+
+    all_done : EachWorker (HasDone load lock) workers
+    all_done panel default below =
+        let worker : Worker = slice_index_or workers panel default in
+        let within : panel < load.panels = omega (arith, count) in
+        let never : worker.seat.ticket_full ≢ true = λ found. omega (arith, of_seat load lock workers default count placed (FullByTicket entries) full panel within found, past_short, all) in
+        own_done load lock panel worker (service_of load lock panel worker (served panel default below)) ask_plant (omega arith) few_messages past legal (omega (arith, past_short)) (of_seat load lock workers default count placed (λ (seat : PlantSeat). IsPrefix seat.seen past) seen panel within)
+        (entries_are load lock workers default count placed past own panel within) never
+
+  -- So this is what they leave.
+  pub gathered : (ask_plant : MessagesAskThePlant) (few : load.panels ≤ 16) (few_messages : load.each ≤ most_messages) (outcome : Outcome) (opening : State) (entries panels : ℕ) → outcome.goods ≡ sum_by (λ (worker : Worker). worker.goods) workers % 2 ^ 64
+      → outcome.bads ≡ sum_by (λ (worker : Worker). worker.bads) workers % 2 ^ 64 → outcome.trace.items ≡ traces_of workers → opening ≡ start (drill_plant load.panels) → panels ≡ load.panels → IsLegal step Takes opening outcome.past → entries ≡ length outcome.past → entries ≤ 2 ^ 62
+      → All (λ seat. IsPrefix seat.seen outcome.past) seats → All (HasOwn outcome.past) seats → All (FullByTicket entries) seats → All (λ entry. entry.seat < panels) outcome.past → HasDrilled load outcome
+  gathered ask_plant few few_messages outcome opening entries panels goods bads trace opens counted legal all short seen own full by_seats =
       let Legal : State → Type 0 = λ opening. IsLegal step Takes opening outcome.past in
       let Seen : List PlantSeat → Type 0 = λ seats. All (λ seat. IsPrefix seat.seen outcome.past) seats in
       let Own : List PlantSeat → Type 0 = λ seats. All (HasOwn outcome.past) seats in
+      let Filled : List PlantSeat → Type 0 = λ seats. All (FullByTicket entries) seats in
       let By : ℕ → Type 0 = λ panels. All (λ entry. entry.seat < panels) outcome.past in
-      has_drilled ask_plant load lock workers count done some few few_messages outcome goods bads trace (subst Legal opens legal) (omega (arith, all, short)) (subst Seen are seen) (subst Own are own) (subst By counted by_seats)
+      let is_legal = subst Legal opens legal in
+      let are_seen = subst Seen are seen in
+      let are_own = subst Own are own in
+      let by_panels = subst By counted by_seats in
+      let done = all_done ask_plant few few_messages outcome.past is_legal entries all short are_seen are_own (subst Filled are full) by_panels in
+      let sums = sums_fit load lock workers done few_messages (omega (arith, count, few)) in
+      has_drilled ask_plant load lock workers first count placed done few few_messages outcome (omega (arith, goods, sums.0)) (omega (arith, bads, sums.1)) trace is_legal (omega (arith, all, short)) are_seen are_own by_panels

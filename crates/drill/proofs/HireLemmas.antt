@@ -1,5 +1,5 @@
 -- One worker more, with the next seat.
-use Rattle.std.proofs.Common.{◌≡◌, inl, inr, ℕ, zero, suc, true, Some, All, ◌+◌, ◌<◌, List, [], ◌∷◌, ◌++◌, length, slice_index_or, refl, sym, ap, ◌∙◌, subst, arith}
+use Rattle.std.proofs.Common.{◌≡◌, inl, inr, ℕ, zero, suc, Some, ◌+◌, ◌<◌, List, [], ◌∷◌, ◌++◌, length, slice_index_or, refl, sym, ap, ◌∙◌, subst, arith}
 use Rattle.std.specs.Prelude.{remove, slice_get}
 use Rattle.std.proofs.lemmas.Bool.{cases_eq}
 use Rattle.std.proofs.lemmas.List.{append_assoc, get_or_append_left, get_or_push, length_push, map_push}
@@ -9,7 +9,7 @@ use Rattle.plant_core.specs.State.{State, start}
 use Rattle.panel_session.specs.Served.{PlantSeat}
 use Rattle.drill.specs.declared.worker.Worker.{Worker}
 use Rattle.drill.specs.declared.worker.Workload.{Workload}
-use Rattle.drill.specs.WorkerInside.{EachWorker, EndsDone, HasDone, IsReady, MayWork, seats_of}
+use Rattle.drill.specs.WorkerInside.{EachWorker, IsReady, MayWork, seats_of}
 
 pub ready_more : (load : Workload) (panel : ℕ) (workers : List Worker) (worker : Worker) → length workers ≡ panel → EachWorker (IsReady load) workers → IsReady load panel worker → EachWorker (IsReady load) (workers ++ worker ∷ [])
 ready_more load panel workers worker count ready one at default below =
@@ -53,7 +53,3 @@ all_may load lock opening seats workers opens count new are ready panel default 
     let here : slice_get (seats_of workers) panel ≡ Some (slice_index_or workers panel default).seat = seat_at workers panel default below in
     let same : (slice_index_or workers panel default).seat ≡ new_seat lock.id opening panel = cc in
     record { ready = ready panel default below; seat = same ∙ ap (λ (opening : State). new_seat lock.id opening panel) opens }
-
--- Workers whose sessions have all ended as their links did have done their work.
-pub all_done : (load : Workload) (lock : LockData State) (workers : List Worker) → EachWorker (EndsDone load lock) workers → All (λ (worker : Worker). worker.ended ≡ true) workers → EachWorker (HasDone load lock) workers
-all_done load lock workers ends ended panel default below = ends panel default below (ended panel default below)

@@ -1,11 +1,17 @@
 mod RoomLemmas
 mod StreamLemmas
 mod PieceLemmas
+mod LinkLemmas
 mod CountLemmas
 mod AskedLemmas
 mod TurnLemmas
+mod TextLemmas
+mod LineLemmas
+mod FewLemmas
 mod TraceLines
 mod ServedLemmas
+mod ReadsLemmas
+mod EndLemmas
 mod DoneLemmas
 mod HireLemmas
 mod Worked

@@ -1,5 +1,5 @@
 -- The room of the frame of a message, good or bad.
-use Rattle.std.proofs.Common.{◌≡◌, ℕ, ◌+◌, ◌*◌, ◌%◌, ◌≤◌, ◌==◌, true, false, if◌then◌else◌, List, [], ◌∷◌, ◌++◌, length, slice_index_or, refl, ap, ◌∙◌, arith, ◌/◌}
+use Rattle.std.proofs.Common.{◌≡◌, ℕ, ◌+◌, ◌*◌, ◌%◌, ◌^◌, ◌≤◌, ◌==◌, true, false, if◌then◌else◌, List, [], ◌∷◌, ◌++◌, length, slice_index_or, refl, ap, ◌∙◌, arith, ◌/◌}
 use Rattle.std.proofs.Math.Nat.{div-le_self, mul-div-le}
 use Rattle.std.specs.List.{range_with_len}
 use Rattle.std.proofs.lemmas.List.{length-append, length_push}
@@ -12,6 +12,7 @@ use Rattle.dle_framing.specs.Frame.{check_byte, counted, doubled, enclosed, fram
 use Rattle.dle_framing.specs.Numbers.{dle, etx}
 use Rattle.dle_framing.proofs.FrameLemmas.{length-doubled, length-body}
 use Rattle.swp08_messages.specs.declared.message.Message.{Message}
+use Rattle.plant_config.specs.DrillPlant.{drill_plant}
 use Rattle.swp08_messages.specs.declared.message.Message.TheVariants.{Interrogate, Connect}
 use Rattle.swp08_messages.specs.Text.{text}
 use Rattle.drill.specs.Drilled.{most_messages, share_of}
@@ -64,10 +65,21 @@ few_pieces bytes number panel each is few =
       stream_room number panel each,
     )
 
+-- the same of their count
+pub few_piece_count : (number panel each : ℕ) → each ≤ most_messages → piece_count (stream number panel each) ≤ 4800000
+few_piece_count number panel each few =
+    let bytes = stream number panel each in
+    omega (arith, length-map-range_with_len (λ (at : ℕ). Piece (piece_at bytes at)) 0 (piece_count bytes), few_pieces bytes number panel each refl few)
+
 -- The events of a panel's link are few.
 pub events_few : (now events : List LinkEvent) (bytes : List ℕ) (number panel each : ℕ) → now ≡ events → events ≡ in_pieces bytes → bytes ≡ stream number panel each → each ≤ most_messages → length now ≤ 4800000
 events_few now events bytes number panel each same are is few =
     omega (arith, ap (length {A = LinkEvent}) (same ∙ are), few_pieces bytes number panel each is few)
+
+-- The drill's plant gives a session so many turns.
+pub drill_turns : (panels : ℕ) → (drill_plant panels).server.turns ≡ 2 ^ 40
+unfolding drill_plant
+drill_turns panels = refl
 
 -- The messages of a panel are few, and so are those of all.
 pub share_few : (messages panels : ℕ) → messages ≤ most_messages → share_of messages panels ≤ most_messages

@@ -1,12 +1,14 @@
 -- A session that ended as its link did has done a worker's work.
-use Rattle.std.proofs.Common.{◌≡◌, ℕ, ◌+◌, ◌<◌, ◌≤◌, ◌^◌, false, List, [], ◌∷◌, ◌++◌, map, length, Option, Some, None, refl, sym, ap, ◌∙◌, subst, arith}
+use Rattle.std.proofs.Common.{◌≡◌, ℕ, ◌+◌, ◌≤◌, ◌^◌, List, [], ◌++◌, map, length, Option, Some, None, refl, sym, ap, ◌∙◌, subst, arith}
 use Rattle.std.proofs.lemmas.List.{append-nil}
 use Rattle.std.proofs.lemmas.List.FromFn.{length-map-range_with_len}
 use Rattle.dle_framing.specs.Items.{items}
+use Rattle.ctl_io.specs.Memory.{SinkState}
 use Rattle.ctl_io.specs.Sink.{appended}
 use Rattle.ctl_io.specs.Source.{IsAtEnd}
 use Rattle.ctl_net.specs.Acceptor.{LinkEnd}
 use Rattle.ctl_net.specs.LinkEvents.{bytes_of as link_bytes}
+use Rattle.ctl_net.specs.MemLink.{LinkState}
 use Rattle.history_lock.specs.History.{entries_of}
 use Rattle.history_lock.specs.Locks.{LockData}
 use Rattle.plant_config.specs.DrillPlant.{drill_panel, drill_panels, drill_plant}
@@ -14,19 +16,20 @@ use Rattle.plant_config.specs.Plant.{PlantData}
 use Rattle.plant_core.specs.State.{State}
 use Rattle.panel_session.specs.Counted.{AreCounts, bads_of, goods_of}
 use Rattle.panel_session.specs.Entry.{PlantEntry}
+use Rattle.panel_session.specs.declared.serve.SessionEnd.{SessionEnd}
 use Rattle.panel_session.specs.declared.serve.SessionEnd.TheVariants.{Ended}
 use Rattle.panel_session.specs.declared.session.Session.{Session}
 use Rattle.panel_session.specs.declared.session.counts.Counts.{Counts}
 use Rattle.panel_session.specs.Served.{AreTaken, HasWorked, PlantSeat, Served, TraceData, all_read, own_lines}
-use Rattle.panel_session.specs.Session.{StandsFor}
 use Rattle.panel_session.specs.SoFar.{Progress, read_so_far}
 use Rattle.panel_session.specs.Turns.{FitsReads, Turn, bytes_read}
 use Rattle.panel_session.proofs.ReadsLemmas.{read-pieces}
 use Rattle.drill.specs.declared.worker.Worker.{Worker}
 use Rattle.drill.specs.declared.worker.Workload.{Workload}
 use Rattle.drill.specs.Stream.{bad_among, good_among, items_of, stream}
-use Rattle.drill.specs.WorkerInside.{HasDone, MayWork}
+use Rattle.drill.specs.WorkerInside.{Service, bytes_of_panel, link_shown, trace_shown}
 use Rattle.drill.proofs.CountLemmas.{bads_sent, goods_sent}
+use Rattle.drill.proofs.PieceLemmas.{pieces_are_all}
 use Rattle.drill.proofs.StreamLemmas.{streams_are_read}
 
 -- What a session did that ended as its link did, on all the bytes that the link had.
@@ -87,26 +90,44 @@ pub panels_counted : (panels : ℕ) → length (drill_plant panels).panels ≡ p
 unfolding drill_plant drill_panels
 panels_counted panels = length-map-range_with_len drill_panel 0 panels
 
+-- It has done its work: its session read all that the panel sent, asked what fits these reads, and traced each entry.
+pub record HasDone (load : Workload) (lock : LockData State) (panel : ℕ) (worker : Worker) : Type 0 where
+  pub lock_is : worker.seat.lock ≡ lock.id
+  pub number_is : worker.seat.number ≡ panel
+  pub reads : List (List ℕ)
+  pub few : length reads ≤ 2 ^ 40
+  pub all : all_read reads ≡ stream load.number panel load.each
+  pub fits : FitsReads panel reads (entries_of panel worker.seat.seen)
+  pub goods : worker.goods ≡ good_among load.each
+  pub bads : worker.bads ≡ bad_among load.each
+  pub traced : worker.trace.written ≡ own_lines (drill_plant load.panels) panel 0 worker.seat.seen
+
 -- So a worker whose session ended as its link did has done its work.
-pub ends_done : (load : Workload) (lock : LockData State) (panel turns : ℕ) (before after : Worker) (link link_then : LinkEnd) (trace trace_then : TraceData) (counts : Counts) → MayWork load lock panel before → turns ≤ 2 ^ 40
-    → Served (drill_plant load.panels) panel turns Ended after.session before.seat after.seat link link_then trace trace_then → link.read_half.left ≡ Some (link_bytes before.link.input.events) → trace.written ≡ Some before.trace.written
-    → trace_then.written ≡ Some after.trace.written → ((past : Progress) → StandsFor (drill_plant load.panels) panel after.session past → AreCounts past counts) → after.goods ≡ counts.goods → after.bads ≡ counts.bads → HasDone load lock panel after
-ends_done load lock panel turns before after link link_then trace trace_then counts may few served left untraced traced are goods bads =
-    let number : before.seat.number ≡ panel = ap (λ (seat : PlantSeat). seat.number) may.seat in
-    let seen : before.seat.seen ≡ [] = ap (λ (seat : PlantSeat). seat.seen) may.seat in
-    let all : ReadAll (drill_plant load.panels) panel turns (stream load.number panel load.each) after.session after.seat trace_then =
-    read_all (drill_plant load.panels) panel turns (stream load.number panel load.each) after.session before.seat after.seat link link_then trace trace_then served number seen (left ∙ ap Some may.ready.unread) (untraced ∙ ap Some may.ready.untraced) in
+pub ends_done : (load : Workload) (lock : LockData State) (panel : ℕ) (worker : Worker) (is : Service load lock panel worker) → is.end ≡ Ended → HasDone load lock panel worker
+ends_done load lock panel worker is ended =
+    let plant = drill_plant load.panels in
+    let before = is.before in
+    let ready = is.may.ready in
+    let bytes = bytes_of_panel load panel in
+    let number : before.seat.number ≡ panel = ap (λ (seat : PlantSeat). seat.number) is.may.seat in
+    let seen : before.seat.seen ≡ [] = ap (λ (seat : PlantSeat). seat.seen) is.may.seat in
+    let left : (link_shown before.link).read_half.left ≡ Some bytes = ap (λ (link : LinkState). Some (link_bytes link.input.events)) ready.link ∙ ap Some (pieces_are_all bytes) in
+    let untraced : (trace_shown before.trace).written ≡ Some [] = ap (λ (trace : SinkState). Some trace.written) ready.trace in
+    let At : SessionEnd → Type 0 = λ end. Served plant panel is.turns end worker.session before.seat worker.seat (link_shown before.link) (link_shown worker.link) (trace_shown before.trace) (trace_shown worker.trace) in
+    let served : At Ended = subst At ended is.served in
+    let all : ReadAll plant panel is.turns bytes worker.session worker.seat (trace_shown worker.trace) =
+    read_all plant panel is.turns bytes worker.session before.seat worker.seat (link_shown before.link) (link_shown worker.link) (trace_shown before.trace) (trace_shown worker.trace) served number seen left untraced in
     let worked = all.worked in
-    let count = counted load.number panel load.each all.reads worked.past counts (ap (λ (turn : Turn). turn.piece) worked.begins) worked.pieces all.all (are worked.past worked.stands) in
-    let lines : Some after.trace.written ≡ Some (own_lines (drill_plant load.panels) panel 0 after.seat.seen) = sym traced ∙ all.traced in
+    let count = counted load.number panel load.each all.reads worked.past is.counts (ap (λ (turn : Turn). turn.piece) worked.begins) worked.pieces all.all (is.stood worked.past worked.stands) in
+    let lines : Some worker.trace.written ≡ Some (own_lines plant panel 0 worker.seat.seen) = all.traced in
     record {
-      lock_is = ap (λ (seat : PlantSeat). seat.lock) served.seat_same ∙ ap (λ (seat : PlantSeat). seat.lock) may.seat;
+      lock_is = ap (λ (seat : PlantSeat). seat.lock) served.seat_same ∙ ap (λ (seat : PlantSeat). seat.lock) is.may.seat;
       number_is = ap (λ (seat : PlantSeat). seat.number) served.seat_same ∙ number;
       reads = all.reads;
-      few = omega (arith, all.few, few);
+      few = omega (arith, all.few, is.few);
       all = all.all;
       fits = all.fits;
-      goods = goods ∙ count.0;
-      bads = bads ∙ count.1;
+      goods = is.goods ∙ count.0;
+      bads = is.bads ∙ count.1;
       traced = cc;
     }

@@ -19,7 +19,7 @@ use Rattle.panel_session.proofs.ReadsLemmas.{read-pieces}
 use Rattle.drill.specs.Drilled.{is_told}
 use Rattle.drill.proofs.AskedLemmas.{Asked, IsWithin, sent_behind, sent_told, sent_within}
 
-flat_map-push : {X A : Type 0} (f : X → List A) (xs : List X) (x : X) → flat_map f (xs ++ x ∷ []) ≡ flat_map f xs ++ f x
+pub flat_map-push : {X A : Type 0} (f : X → List A) (xs : List X) (x : X) → flat_map f (xs ++ x ∷ []) ≡ flat_map f xs ++ f x
 flat_map-push f xs x = flat_map-append f xs (x ∷ []) ∙ ap (λ more. flat_map f xs ++ more) (append-nil (f x))
 
 -- an entry's request is of its panel's session, within these numbers

@@ -2,6 +2,8 @@ pub mod Draws
 pub mod Messages
 pub mod Stream
 pub mod Pieces
+pub mod TapeInside
+pub mod PanelLinkInside
 pub mod Laws
 pub mod Drilled
 pub mod WorkerInside

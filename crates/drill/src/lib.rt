@@ -8,8 +8,10 @@ mod laws;
 mod message;
 mod outcome;
 mod panel_bytes;
+mod panel_link;
 mod pieces;
 mod run;
+mod tape;
 mod worker;
 
 pub use laws::{frames_are_counted, messages_ask_the_plant, streams_are_read};

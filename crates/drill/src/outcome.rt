@@ -1,10 +1,10 @@
 //! What the workers of a drill left, all together.
 
-ghost use Rattle.std.specs.Prelude.{◌≡◌, ◌*◌, ◌<◌, ◌≤◌, ◌^◌, ℕ, true, length, All, IfOk, map};
+ghost use Rattle.std.specs.Prelude.{◌≡◌, ◌*◌, ◌≤◌, ◌%◌, ◌^◌, ℕ, length, IfOk, map};
 ghost use Rattle.std.specs.List.{sum_by};
 ghost use Rattle.plant_config.specs.DrillPlant.{drill_plant, drill_panel_limit};
 ghost use Rattle.plant_core.specs.State.{start};
-ghost use Rattle.drill.specs.WorkerInside.{EachWorker, HasDone, HasDrilled, seats_of, traces_of};
+ghost use Rattle.drill.specs.WorkerInside.{EachWorker, HasDrilled, WasServed, seats_of, traces_of};
 ghost use Rattle.drill.specs.Drilled.{most_messages};
 
 use crate::laws::messages_ask_the_plant;
@@ -22,21 +22,15 @@ pub(crate) struct Outcome {
     pub(crate) past: Past<PlantState>,
 }
 
-// Whether the session of each worker ended as its link did.
-pub(crate) fn all_ended(workers: &[Worker<'_>]) -> bool
-    ensures { result ≡ true → All (λ worker. worker.ended ≡ true) workers.now }
-{
-    workers.iter().all(|worker| worker.ended)
-}
-
-// What workers left that have done their work. The lock is closed with their seats.
+// What workers left that have served their sessions. The lock is closed with their seats. What they left together, their
+// history, shows that no room was used up, so that each session ended as its link did.
 pub(crate) fn gather(
     alloc: Global,
     lock: HistoryLock<PlantState>,
     workers: Vec<Worker<'_>>,
     load: &Workload,
 ) -> Result<Outcome, AllocError>
-    requires done { EachWorker (HasDone load.now lock) workers.items }
+    requires served { EachWorker (WasServed load.now lock) workers.items }
     requires count { length workers.items ≡ load.now.panels }
     requires seats { lock.seats ≡ load.now.panels }
     requires first { lock.first ≡ start (drill_plant load.now.panels) }
@@ -63,19 +57,25 @@ pub(crate) fn gather(
     })
 }
 
-// How many good frames came, and how many bad ones.
+// How many good frames came, and how many bad ones. That the sums fit is known once the lock was closed.
 fn goods_of(workers: &[Worker<'_>]) -> u64
-    requires { sum_by (λ worker. worker.goods) workers.now < 2 ^ 64 }
-    ensures { result ≡ sum_by (λ worker. worker.goods) workers.now }
+    ensures { result ≡ sum_by (λ worker. worker.goods) workers.now % 2 ^ 64 }
 {
-    workers.iter().map(|worker| worker.goods).sum()
+    let mut total: u64 = 0;
+    for worker in workers {
+        total = total.wrapping_add(worker.goods);
+    }
+    total
 }
 
 fn bads_of(workers: &[Worker<'_>]) -> u64
-    requires { sum_by (λ worker. worker.bads) workers.now < 2 ^ 64 }
-    ensures { result ≡ sum_by (λ worker. worker.bads) workers.now }
+    ensures { result ≡ sum_by (λ worker. worker.bads) workers.now % 2 ^ 64 }
 {
-    workers.iter().map(|worker| worker.bads).sum()
+    let mut total: u64 = 0;
+    for worker in workers {
+        total = total.wrapping_add(worker.bads);
+    }
+    total
 }
 
 // The traces, one behind the other.

@@ -7,10 +7,10 @@ ghost use Rattle.trace_audit.specs.Laws.{AreLinesOf, IsTraceable};
 ghost use Rattle.drill.specs.Drilled.{FitsItsStream, most_messages, share_of, stream_tells};
 ghost use Rattle.drill.specs.Drilled.{told_by};
 ghost use Rattle.drill.specs.Stream.{bad_among, good_among};
-ghost use Rattle.drill.specs.WorkerInside.{EachWorker, EndsDone, HasDrilled, IsReady, MayWork};
-ghost use Rattle.drill.specs.WorkerInside.{seats_of};
+ghost use Rattle.drill.specs.WorkerInside.{EachWorker, HasDrilled, IsReady, MayWork, WasServed};
+ghost use Rattle.drill.specs.WorkerInside.{most_pieces, seats_of};
 
-use crate::outcome::{Outcome, all_ended, gather};
+use crate::outcome::{Outcome, gather};
 use crate::worker::{Worker, Workload};
 use ctl_io::Bytes;
 use ctl_net::Gate;
@@ -125,11 +125,7 @@ fn work_all<R: Threads + Wait + Sync, G: Gate>(
         load,
         plant.server().turns,
     );
-    if all_ended(workers.as_slice()) {
-        gather(alloc, lock, workers, load)
-    } else {
-        Err(AllocError)
-    }
+    gather(alloc, lock, workers, load)
 }
 
 // A worker for each seat, in the order of the panels.
@@ -170,13 +166,15 @@ fn work_each<R: Threads + Wait + Sync, G: Gate>(
     requires may { EachWorker (MayWork load.now lock.now) workers.old }
     requires some { 1 ≤ load.now.panels }
     requires most { load.now.panels ≤ drill_panel_limit }
+    requires enough { most_pieces < turns }
     requires turns { turns ≤ 2 ^ 40 }
-    ensures { EachWorker (EndsDone load.now lock.now) workers.new }
+    ensures { EachWorker (WasServed load.now lock.now) workers.new }
 {
     let work = |panel: usize, worker: &mut Worker<'_>|
-        requires { MayWork load.now lock.now panel worker.now × (turns ≤ 2 ^ 40)
-            × (1 ≤ load.now.panels) × (load.now.panels ≤ drill_panel_limit) }
-        ensures { EndsDone load.entry.now lock.entry.now panel worker.exit.now }
+        requires { MayWork load.now lock.now panel worker.now × (most_pieces < turns)
+            × (turns ≤ 2 ^ 40) × (1 ≤ load.now.panels)
+            × (load.now.panels ≤ drill_panel_limit) }
+        ensures { WasServed load.entry.now lock.entry.now panel worker.exit.now }
     { worker.work(rt, gate, lock, load, panel, turns) };
     for_each_mut(rt, workers, load.panels as usize, &work);
 }

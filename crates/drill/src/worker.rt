@@ -1,16 +1,17 @@
 //! The workers of a drill: each serves the session of one panel.
 
-ghost use Rattle.std.specs.Prelude.{◌≡◌, ◌<◌, ◌≤◌, ◌^◌, true, IfOk};
+ghost use Rattle.std.specs.Prelude.{◌≡◌, ◌<◌, ◌≤◌, ◌^◌, IfOk};
 ghost use Rattle.plant_config.specs.DrillPlant.{drill_plant, drill_panel_limit};
-ghost use Rattle.drill.specs.WorkerInside.{EndsDone, IsReady, MayWork};
+ghost use Rattle.drill.specs.WorkerInside.{IsReady, MayWork, WasServed, most_pieces};
 ghost use Rattle.drill.specs.Drilled.{most_messages};
 
 use crate::panel_bytes::stream;
+use crate::panel_link::PanelLink;
 use crate::pieces::in_pieces;
-use ctl_io::MemSink;
-use ctl_net::{Gate, GatePoint, MemLink};
+use crate::tape::Tape;
+use ctl_net::{Gate, GatePoint};
 use history_lock::{HistoryLock, Seat};
-use panel_session::{Session, SessionEnd, serve_session};
+use panel_session::{Session, serve_session};
 use plant_config::{PanelNo, Plant};
 use plant_core::PlantState;
 use plant_names::Names;
@@ -26,20 +27,20 @@ pub(crate) struct Workload {
 }
 
 // A panel's session, its seat of the plant's lock, its link and its trace; and once it is over, the good and the bad frames
-// that came, and whether it ended as its link did.
+// that came.
 #[derive(Drop)]
 pub(crate) struct Worker<'p> {
     pub(crate) session: Session<'p>,
     pub(crate) seat: Seat<PlantState>,
-    pub(crate) link: MemLink,
-    pub(crate) trace: MemSink,
+    pub(crate) link: PanelLink,
+    pub(crate) trace: Tape,
     pub(crate) goods: u64,
     pub(crate) bads: u64,
-    pub(crate) ended: bool,
 }
 
-// The room of a link and of a trace, in bytes: so many for each message of the panel and so many for each piece.
-const LINK_ROOM_OF_MESSAGE: usize = 32;
+// The room of a link and of a trace, in bytes: so many for each message of the panel and so many for each piece. It is more
+// than what its session writes.
+const LINK_ROOM_OF_MESSAGE: usize = 64;
 
 const LINK_ROOM_OF_PIECE: usize = 1024;
 
@@ -72,8 +73,8 @@ impl<'p> Worker<'p> {
         let pieces = events.as_slice().len();
         let written = LINK_ROOM_OF_MESSAGE * each + LINK_ROOM_OF_PIECE * pieces;
         let traced = TRACE_ROOM_OF_MESSAGE * each + TRACE_ROOM_OF_PIECE * pieces;
-        let link = MemLink::new(alloc, events, written, Vec::new(alloc), Vec::new(alloc))?;
-        let trace = MemSink::new(alloc, traced, Vec::new(alloc))?;
+        let link = PanelLink::new(alloc, events, written)?;
+        let trace = Tape::new(alloc, traced)?;
         Ok(Worker {
             session,
             seat,
@@ -81,7 +82,6 @@ impl<'p> Worker<'p> {
             trace,
             goods: 0,
             bads: 0,
-            ended: false,
         })
     }
 
@@ -98,12 +98,13 @@ impl<'p> Worker<'p> {
         requires may { MayWork load.now lock.now panel self.old }
         requires panels { 1 ≤ load.now.panels }
         requires most { load.now.panels ≤ drill_panel_limit }
+        requires enough { most_pieces < turns }
         requires turns { turns ≤ 2 ^ 40 }
-        ensures { EndsDone load.now lock.now panel self.new }
+        ensures { WasServed load.now lock.now panel self.new }
     {
         let number = self.session.panel().get();
         gate.pass(rt, GatePoint::Start(number));
-        let end = serve_session(
+        serve_session(
             rt,
             &mut self.session,
             lock,
@@ -116,13 +117,7 @@ impl<'p> Worker<'p> {
         let counts = self.session.counts();
         self.goods = counts.goods;
         self.bads = counts.bads;
-        self.ended = is_ended(end);
+        self.link.keeps();
+        self.trace.keeps();
     }
-}
-
-// Whether a session ended as its link did.
-fn is_ended(end: SessionEnd) -> bool
-    ensures { result ≡ true → end ≡ SessionEnd.Ended }
-{
-    matches!(end, SessionEnd::Ended)
 }
