@@ -6,6 +6,8 @@
 #[cfg(test)]
 mod examples;
 #[cfg(test)]
+mod of_drill;
+#[cfg(test)]
 mod of_panel_server;
 #[cfg(test)]
 mod of_panel_session;
