@@ -1,53 +1,33 @@
-//! `plantctl`, the controller of a television plant's routers. Its top call is `run`, which does all that the program
-//! does; `main` hands it the words of the command line, the real files and the standard output. What the exit statuses
-//! tell are the laws of `laws`.
+//! `plantctl`, the controller of a television plant's routers. All that it does is `run` of `commands`: `main` hands it the
+//! words of the command line, the real files and the standard output.
 #![tactic(auto)]
 
-mod audit;
-mod check;
-mod drill_command;
-mod laws;
-mod parsed_words;
-mod parts;
-mod plant;
-mod program;
-mod program_laws;
-mod quiet;
-mod replay;
-mod stop;
-mod verdict;
-mod words;
-
-pub use laws::{
-    done, file_refused, files_stay, history_shown, output_fault, plant_refused, script_refused,
-    statuses, traces_audited, usage_told,
-};
-pub use program::run;
-pub use program_laws::{drilled, program_output, program_usage};
-pub use quiet::run_quiet;
-
-#[cfg(test)]
-mod example;
-#[cfg(test)]
-mod tests;
-
-use crate::stop::{Stop, report};
+use commands::{end_without_memory, run, run_quiet};
 use ctl_io::{StdFiles, StdOut};
 use ctl_net::OpenGate;
 use std::io::ErrorKind;
 use std::process::ExitCode;
+use std::rt::Env;
+use std::{env, io};
 
 fn main(rt: HostRuntime) -> ExitCode {
     let alloc = rt.alloc();
     let mut files = StdFiles::new(&rt);
     let mut out = StdOut::new(&rt);
-    let status = match words::arguments(&rt) {
+    let status = match arguments(&rt) {
         Ok(words) => run(&rt, alloc, &words, &mut files, &OpenGate, &mut out),
-        Err(error) if error.kind() == ErrorKind::OutOfMemory => {
-            report(&mut out, Err(Stop::NoMemory)).number()
-        }
+        Err(error) if error.kind() == ErrorKind::OutOfMemory => end_without_memory(&mut out),
         // Arguments that are no text have no form, as no words have none.
         Err(_) => run_quiet(alloc, &[], &mut files, &mut out),
     };
     ExitCode::from(status)
+}
+
+// The words of the command line, without the program's name.
+fn arguments<R: Env + AllocGlobal>(rt: &R) -> io::Result<Vec<String>> {
+    let mut words = Vec::new(rt.alloc());
+    for word in env::args(rt)?.skip(1) {
+        words.push(word)?;
+    }
+    Ok(words)
 }

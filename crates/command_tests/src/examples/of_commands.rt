@@ -1,0 +1,31 @@
+//! `commands` in use: a script in memory is replayed on the bench plant.
+
+use commands::run_quiet;
+use ctl_io::{Bytes, MemFiles, MemSink, MemSource, NamedSource};
+use std::test::Fail;
+
+#[test]
+fn a_script_is_replayed(rt: HostRuntime) -> Result<(), Fail> {
+    let alloc = rt.alloc();
+    // Panel 0 interrogates destination 5.
+    let script = b"> 0 10 02 01 00 00 05 04 F6 10 03\n".to_vec(alloc)?;
+    let file = NamedSource {
+        name: Bytes::of(b"first.txt".to_vec(alloc)?),
+        source: MemSource::new(alloc, script, Vec::new(alloc))?,
+    };
+    let sources = vec![in alloc; file]?;
+    let mut files = MemFiles::new(alloc, sources, Vec::new(alloc), 1, Vec::new(alloc))?;
+    let mut out = MemSink::new(alloc, 100, Vec::new(alloc))?;
+
+    let mut words = Vec::new(alloc);
+    for word in ["replay", "bench", "first.txt"] {
+        words.push(String::from_str(alloc, word)?)?;
+    }
+    assert_eq!(rt; run_quiet(alloc, &words, &mut files, &mut out), 0);
+    // The plant acknowledges, and answers that it is parked.
+    assert_eq!(rt;
+        out.written(),
+        b"< 0 10061002030007057F056D1003\n".as_slice()
+    );
+    Ok(())
+}

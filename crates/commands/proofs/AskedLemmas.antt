@@ -1,0 +1,56 @@
+-- What the words of a run ask for is one command, and its plant file one file.
+use Rattle.std.proofs.Common.{◌≡◌, ◌⊎◌, inl, inr, ℕ, List, [], Result, Ok, Err, sym, ◌∙◌, ap, subst}
+use Rattle.ctl_io.specs.Held.{Held}
+use Rattle.plant_config.specs.Plant.{PlantData}
+use Rattle.commands.specs.World.{World}
+use Rattle.commands.specs.End.{End}
+use Rattle.commands.specs.Words.{Command, Check, Replay, Audit, plant_word, Ask}
+use Rattle.commands.specs.OpensPlant.{is_bench, OpensBench, OpensFile, OpensPlant}
+use Rattle.commands.specs.Asked.{AskFile}
+use Rattle.commands.specs.Run.{CommandEnds}
+use Rattle.commands.proofs.OpensLemmas.{from_false}
+use Rattle.commands.proofs.CauseLemmas.{command_opens}
+use Rattle.commands.proofs.WordsLemmas.{same_command}
+
+-- the traces of a command
+abbrev traces_of : Command → List (List ℕ)
+traces_of (Check plant) = []
+traces_of (Replay plant script) = []
+traces_of (Audit plant traces) = traces
+
+pub same_word : (words : List (List ℕ)) (word word' name name' : List ℕ) → Ask words (Replay word name) → Ask words (Replay word' name') → word ≡ word'
+same_word words word word' name name' a b = let same = same_command words (Replay word name) (Replay word' name') a b in cc
+
+pub same_name : (words : List (List ℕ)) (word word' name name' : List ℕ) → Ask words (Replay word name) → Ask words (Replay word' name') → name ≡ name'
+same_name words word word' name name' a b = let same = same_command words (Replay word name) (Replay word' name') a b in cc
+
+pub no_check : {P : Type 0} (words : List (List ℕ)) (word word' name : List ℕ) → Ask words (Replay word name) → Ask words (Check word') → P
+no_check words word word' name a b = absurd (let same = same_command words (Replay word name) (Check word') a b in cc)
+
+pub same_audited : (words : List (List ℕ)) (word word' : List ℕ) (traces traces' : List (List ℕ)) → Ask words (Audit word traces) → Ask words (Audit word' traces') → (word ≡ word') × (traces ≡ traces')
+same_audited words word word' traces traces' a b =
+    let same = same_command words (Audit word traces) (Audit word' traces') a b in
+    (ap plant_word same, ap traces_of same)
+
+pub no_audit : {P : Type 0} (words : List (List ℕ)) (word word' : List ℕ) (traces : List (List ℕ)) → Ask words (Audit word traces) → Ask words (Check word') → P
+no_audit words word word' traces a b = absurd (let same = same_command words (Audit word traces) (Check word') a b in cc)
+
+pub no_replay : {P : Type 0} (words : List (List ℕ)) (word word' : List ℕ) (traces : List (List ℕ)) (name : List ℕ) → Ask words (Audit word traces) → Ask words (Replay word' name) → P
+no_replay words word word' traces name a b = absurd (let same = same_command words (Audit word traces) (Replay word' name) a b in cc)
+
+-- a plant file that the words ask for is the one that any command of theirs opens
+file_of : (words : List (List ℕ)) (before : World) (name : List ℕ) (held : Held) (command : Command) (opened : Result PlantData End) → AskFile words name → before.held name 0 ≡ held → Ask words command
+    → OpensPlant (plant_word command) (before.held (plant_word command) 0) opened → OpensFile name held opened
+file_of words before name held command opened asks is ask opens =
+    let word : plant_word command ≡ name = ap plant_word (same_command words command asks.command ask asks.ask) ∙ sym asks.name_is in
+    subst (λ (h : Held). OpensFile name h opened) is
+    (from_false (OpensBench opened) (OpensFile name (before.held name 0) opened) (is_bench name) asks.is_file
+    (subst (λ (n : List ℕ). OpensPlant n (before.held n 0) opened) word opens))
+
+-- Where a command ended that opened a plant file: at the file, or behind the plant that it led to.
+pub opened_of : (words : List (List ℕ)) (before : World) (name : List ℕ) (held : Held) (end : End) (command : Command) → AskFile words name → before.held name 0 ≡ held → Ask words command
+    → CommandEnds command before end → OpensFile name held (Err end) ⊎ ((plant : PlantData) × OpensFile name held (Ok plant))
+opened_of words before name held end command asks is ask ends = elim (command_opens command before end ends) [
+  | inl opens ↦ inl (file_of words before name held command (Err end) asks is ask opens)
+  | inr led ↦ inr (led.0, file_of words before name held command (Ok led.0) asks is ask led.1)
+]

@@ -1,0 +1,111 @@
+-- Where a run came to its end.
+use Rattle.std.proofs.Common.{◌≡◌, ◌≢◌, ◌⊎◌, inl, inr, ℕ, List, Result, Ok, Err, refl, sym, subst}
+use Rattle.ctl_io.specs.Faults.{one_more}
+use Rattle.ctl_io.specs.Held.{Held}
+use Rattle.plant_config.specs.Plant.{PlantData}
+use Rattle.commands.specs.World.{World}
+use Rattle.commands.specs.End.{End, Done, NoMemory, Usage, FileMissing, FileFault, PlantRefused, PlantTooLong, LineRefused, ScriptTooLong, Audited, TraceTooLong, status_of}
+use Rattle.commands.specs.Words.{Command, Check, Replay, Audit, plant_word, Ask, HasNoForm}
+use Rattle.commands.specs.OpensPlant.{OpensPlant, ThenEnds, next_opening, opened_for}
+use Rattle.commands.specs.Check.{CheckEnds}
+use Rattle.commands.specs.Replay.{ReplayEnds}
+use Rattle.commands.specs.Audit.{TraceFile, trace_files, AuditEnds}
+use Rattle.commands.specs.Asked.{AskCheck, AskReplay, AskAudit}
+use Rattle.commands.specs.Run.{CommandEnds, WordsEnd, EndsAtWords, EndsByCommand, IsWritten, IsCutShort}
+
+-- A run came to its end at its words, at the plant's word, in a check, in a replay, or in an audit.
+pub data Came (words : List (List ℕ)) (before : World) (end : End) : Type 0 where
+  at_words : WordsEnd words end → Came words before end
+  at_plant : (command : Command) → Ask words command → OpensPlant (plant_word command) (before.held (plant_word command) 0) (Err end) → Came words before end
+  in_check : (plant : PlantData) → AskCheck words before plant → CheckEnds plant end → Came words before end
+  in_replay : (plant : PlantData) (name : List ℕ) (held : Held) → AskReplay words before plant name held → ReplayEnds plant name held end → Came words before end
+  in_audit : (plant : PlantData) (files : List TraceFile) → AskAudit words before plant files → AuditEnds plant files end → Came words before end
+
+-- an end at a plant's word is the word's
+at_word : (words : List (List ℕ)) (before : World) (end stopped : End) (command : Command) → Ask words command → end ≡ stopped
+    → OpensPlant (plant_word command) (before.held (plant_word command) 0) (Err stopped) → Came words before end
+at_word words before end stopped command ask is opens =
+    at_plant command ask (subst (λ (e : End). OpensPlant (plant_word command) (before.held (plant_word command) 0) (Err e)) (sym is) opens)
+
+came_check : (words : List (List ℕ)) (before : World) (end : End) (word : List ℕ) (opened : Result PlantData End) → Ask words (Check word) → OpensPlant word (before.held word 0) opened → ThenEnds CheckEnds opened end
+    → Came words before end
+came_check words before end word (Ok plant) ask opens ends = in_check plant (record { word = word; ask = ask; leads = opens }) ends
+came_check words before end word (Err stopped) ask opens ends = at_word words before end stopped (Check word) ask ends opens
+
+came_replay : (words : List (List ℕ)) (before : World) (end : End) (word name : List ℕ) (opened : Result PlantData End) → Ask words (Replay word name) → OpensPlant word (before.held word 0) opened
+    → ThenEnds (λ plant. ReplayEnds plant name (before.held name (next_opening word name))) opened end → Came words before end
+came_replay words before end word name (Ok plant) ask opens ends =
+    in_replay plant name (before.held name (next_opening word name)) (record { word = word; ask = ask; leads = opens; held_is = refl }) ends
+came_replay words before end word name (Err stopped) ask opens ends = at_word words before end stopped (Replay word name) ask ends opens
+
+came_audit : (words : List (List ℕ)) (before : World) (end : End) (word : List ℕ) (traces : List (List ℕ)) (opened : Result PlantData End) → Ask words (Audit word traces) → OpensPlant word (before.held word 0) opened
+    → ThenEnds (λ plant. AuditEnds plant (trace_files before.held (opened_for word) traces)) opened end → Came words before end
+came_audit words before end word traces (Ok plant) ask opens ends =
+    in_audit plant (trace_files before.held (opened_for word) traces) (record { word = word; traces = traces; ask = ask; leads = opens; files_are = refl }) ends
+came_audit words before end word traces (Err stopped) ask opens ends = at_word words before end stopped (Audit word traces) ask ends opens
+
+came_by : (words : List (List ℕ)) (before : World) (end : End) (command : Command) → Ask words command → CommandEnds command before end → Came words before end
+came_by words before end (Check word) ask ends = came_check words before end word ends.0 ask ends.1 ends.2
+came_by words before end (Replay word name) ask ends = came_replay words before end word name ends.0 ask ends.1 ends.2
+came_by words before end (Audit word traces) ask ends = came_audit words before end word traces ends.0 ask ends.1 ends.2
+
+abbrev pub Cause : List (List ℕ) → World → World → End → Type 0
+Cause words before now end = EndsAtWords words before now end ⊎ EndsByCommand words before now end
+
+pub came : (words : List (List ℕ)) (before now : World) (end : End) → Cause words before now end → Came words before end
+came words before now end (inl at) = at_words at.ends
+came words before now end (inr by) = came_by words before end by.command by.ask by.ends
+
+-- at words that ask for a command memory ran out
+pub asked_end : (words : List (List ℕ)) (end : End) (command : Command) → Ask words command → WordsEnd words end → end ≡ NoMemory
+asked_end words NoMemory command ask ends = refl
+asked_end words Usage command ask none = absurd (none command ask)
+asked_end words (Done output) command ask ends = absurd ends
+asked_end words (FileMissing name) command ask ends = absurd ends
+asked_end words (FileFault name) command ask ends = absurd ends
+asked_end words (PlantRefused fault) command ask ends = absurd ends
+asked_end words PlantTooLong command ask ends = absurd ends
+asked_end words (LineRefused number) command ask ends = absurd ends
+asked_end words ScriptTooLong command ask ends = absurd ends
+asked_end words (Audited verdict) command ask ends = absurd ends
+asked_end words TraceTooLong command ask ends = absurd ends
+
+-- at words that have no form the run says so
+pub formless_end : (words : List (List ℕ)) (end : End) → HasNoForm words → WordsEnd words end → end ≡ Usage
+formless_end words Usage none ends = refl
+formless_end words NoMemory none ends = absurd (none ends.0 ends.1)
+formless_end words (Done output) none ends = absurd ends
+formless_end words (FileMissing name) none ends = absurd ends
+formless_end words (FileFault name) none ends = absurd ends
+formless_end words (PlantRefused fault) none ends = absurd ends
+formless_end words PlantTooLong none ends = absurd ends
+formless_end words (LineRefused number) none ends = absurd ends
+formless_end words ScriptTooLong none ends = absurd ends
+formless_end words (Audited verdict) none ends = absurd ends
+formless_end words TraceTooLong none ends = absurd ends
+
+-- a command ends at its plant's word, or behind the plant that this leads to
+
+goes_behind : (word : List ℕ) (held : Held) (opened : Result PlantData End) (Next : PlantData → End → Type 0) (end : End) → OpensPlant word held opened → ThenEnds Next opened end
+    → OpensPlant word held (Err end) ⊎ ((plant : PlantData) × OpensPlant word held (Ok plant))
+goes_behind word held (Ok plant) Next end opens ends = inr (plant, opens)
+goes_behind word held (Err stopped) Next end opens ends = inl (subst (λ (e : End). OpensPlant word held (Err e)) (sym ends) opens)
+
+pub command_opens : (command : Command) (before : World) (end : End) → CommandEnds command before end
+    → OpensPlant (plant_word command) (before.held (plant_word command) 0) (Err end) ⊎ ((plant : PlantData) × OpensPlant (plant_word command) (before.held (plant_word command) 0) (Ok plant))
+command_opens (Check word) before end ends = goes_behind word (before.held word 0) ends.0 CheckEnds end ends.1 ends.2
+command_opens (Replay word name) before end ends =
+    goes_behind word (before.held word 0) ends.0 (λ plant. ReplayEnds plant name (before.held name (next_opening word name))) end ends.1 ends.2
+command_opens (Audit word traces) before end ends =
+    goes_behind word (before.held word 0) ends.0 (λ plant. AuditEnds plant (trace_files before.held (opened_for word) traces)) end ends.1 ends.2
+
+-- a status that isn't 7 is that of a text that was written
+pub is_written : (end : End) (before now : World) (status : ℕ) → status ≢ 7 → IsWritten end before now status ⊎ IsCutShort end before now status → IsWritten end before now status
+is_written end before now status other (inl written) = written
+is_written end before now status other (inr cut) = absurd (other cut.status_is)
+
+-- a status is the end's, or 7 with its cause
+pub status_or_7 : (end : End) (before now : World) (status : ℕ) → IsWritten end before now status ⊎ IsCutShort end before now status
+    → (status ≡ status_of end) ⊎ ((status ≡ 7) × (now.output_faults ≡ one_more before.output_faults))
+status_or_7 end before now status (inl written) = inl written.status_is
+status_or_7 end before now status (inr cut) = inr (cut.status_is, cut.output_faults)

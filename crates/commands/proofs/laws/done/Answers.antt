@@ -1,0 +1,12 @@
+use Rattle.commands.proofs.StatusesLemmas.{done, ran_out}
+use Rattle.commands.proofs.AlwaysLemmas.{check_always}
+use Rattle.commands.proofs.laws.done.Goals as goal
+
+pub returns-clause-done : goal.returns-clause-done
+returns-clause-done c = done
+
+pub returns-clause-checked : goal.returns-clause-checked
+returns-clause-checked c = check_always
+
+pub returns-clause-no_memory : goal.returns-clause-no_memory
+returns-clause-no_memory c = ran_out

@@ -1,0 +1,76 @@
+-- How a run may end, with its exit status and its text.
+use Rattle.std.specs.Prelude.{ℕ, Bool, true, false, List}
+use Rattle.plant_file.specs.declared.fault.PlantFault.{PlantFault}
+use Rattle.plant_file.specs.FaultText.{fault_text}
+use Rattle.trace_audit.specs.declared.verdict.Verdict.{Verdict}
+use Rattle.trace_audit.specs.declared.verdict.Verdict.TheVariants.{Confirmed, BadLine, Gap, Repeat, Differs}
+use Rattle.commands.specs.Lines.{usage, no_memory, file_missing, file_fault, plant_refused, plant_too_long, line_refused, script_too_long}
+use Rattle.commands.specs.Lines.{confirmed, trace_line_refused, trace_too_long, gap_at, repeat_at, differs_at}
+
+-- An end, with what its text names: the output of what was done, the name of a file, a plant file's fault, the number of a
+-- line, the verdict of an audit.
+pub data End : Type 0 where
+  Done : (output : List ℕ) → End
+  NoMemory : End
+  Usage : End
+  FileMissing : (name : List ℕ) → End
+  FileFault : (name : List ℕ) → End
+  PlantRefused : (fault : PlantFault) → End
+  PlantTooLong : End
+  LineRefused : (number : ℕ) → End
+  ScriptTooLong : End
+  Audited : (verdict : Verdict) → End
+  TraceTooLong : End
+
+-- the exit status of an audit with this verdict: the traces are confirmed, a line of theirs is refused, or something was found
+abbrev pub verdict_status : Verdict → ℕ
+verdict_status (Confirmed count) = 0
+verdict_status (BadLine number) = 5
+verdict_status (Gap position) = 6
+verdict_status (Repeat position) = 6
+verdict_status (Differs position kept wanted) = 6
+
+-- the line of a verdict
+abbrev pub verdict_line : Verdict → List ℕ
+verdict_line (Confirmed count) = confirmed count
+verdict_line (BadLine number) = trace_line_refused number
+verdict_line (Gap position) = gap_at position
+verdict_line (Repeat position) = repeat_at position
+verdict_line (Differs position kept wanted) = differs_at position kept wanted
+
+-- the exit status
+abbrev pub status_of : End → ℕ
+status_of (Done output) = 0
+status_of NoMemory = 1
+status_of Usage = 2
+status_of (FileMissing name) = 3
+status_of (FileFault name) = 3
+status_of (PlantRefused fault) = 4
+status_of PlantTooLong = 4
+status_of (LineRefused number) = 5
+status_of ScriptTooLong = 5
+status_of (Audited verdict) = verdict_status verdict
+status_of TraceTooLong = 5
+
+-- the status of every end whose text could not be written
+abbrev pub unwritten_status : ℕ
+unwritten_status = 7
+
+-- all that is appended to the output
+abbrev pub end_text : End → List ℕ
+end_text (Done output) = output
+end_text NoMemory = no_memory
+end_text Usage = usage
+end_text (FileMissing name) = file_missing name
+end_text (FileFault name) = file_fault name
+end_text (PlantRefused fault) = plant_refused (fault_text fault)
+end_text PlantTooLong = plant_too_long
+end_text (LineRefused number) = line_refused number
+end_text ScriptTooLong = script_too_long
+end_text (Audited verdict) = verdict_line verdict
+end_text TraceTooLong = trace_too_long
+
+-- whether the files had a fault
+abbrev pub is_file_fault : End → Bool
+is_file_fault (FileFault name) = true
+is_file_fault other = false

@@ -1,0 +1,116 @@
+-- How a run ends: its cause, what it wrote, and what it left of the files.
+use Rattle.std.specs.Prelude.{◌≡◌, ◌⊎◌, ℕ, List, [], ◌∷◌, ◌++◌, Option, Result}
+use Rattle.ctl_io.specs.Faults.{one_more, count_after}
+use Rattle.ctl_io.specs.Sink.{appended, AppendsPart}
+use Rattle.ctl_io.specs.Held.{OtherOpeningsStay}
+use Rattle.ctl_io.specs.WholeFile.{FileReading, Well, Missing, Failed, reading_failed, AfterReading, IsGivenBack}
+use Rattle.plant_config.specs.Plant.{PlantData}
+use Rattle.commands.specs.World.{World, Snapshot, snapshot, FilesUntouched}
+use Rattle.commands.specs.Lines.{no_memory}
+use Rattle.commands.specs.End.{End, NoMemory, Usage, FileMissing, FileFault, status_of, unwritten_status, end_text, is_file_fault}
+use Rattle.commands.specs.Words.{Command, Check, Replay, Audit, plant_word, other_files, Ask, AskCommand, HasNoForm}
+use Rattle.commands.specs.OpensPlant.{OpensPlant, ThenEnds, next_opening, opened_for}
+use Rattle.commands.specs.Check.{CheckEnds}
+use Rattle.commands.specs.Replay.{ReplayEnds}
+use Rattle.commands.specs.Audit.{trace_files, OpensWithin, AuditEnds}
+
+-- A command ends so, in a world that is so before it: its plant's word leads to a plant with which it goes on, or to the end.
+abbrev pub CommandEnds : Command → World → End → Type 0
+CommandEnds (Check word) before end =
+    (opened : Result PlantData End) × OpensPlant word (before.held word 0) opened
+    × ThenEnds CheckEnds opened end
+CommandEnds (Replay word name) before end =
+    (opened : Result PlantData End)
+    × OpensPlant word (before.held word 0) opened
+    × ThenEnds (λ plant. ReplayEnds plant name (before.held name (next_opening word name)))
+    opened end
+CommandEnds (Audit word traces) before end =
+    (opened : Result PlantData End)
+    × OpensPlant word (before.held word 0) opened
+    × ThenEnds (λ plant. AuditEnds plant (trace_files before.held (opened_for word) traces))
+    opened end
+
+-- The file of this name was read so, and what the files hold of other names stays.
+pub record ReadsFile (reading : FileReading) (name : List ℕ) (before now : Snapshot)
+    : Type 0 where
+  pub openings : AfterReading reading (before.held name) (now.held name)
+  pub others : OtherOpeningsStay name before.held now.held
+  pub given_back : IsGivenBack reading name before.custody now.custody
+  pub faults : now.faults ≡ count_after (reading_failed reading) before.faults
+
+-- The files of these names were read one after the other, in order, and all was well.
+abbrev pub ReadsWell : List (List ℕ) → Snapshot → Snapshot → Type 0
+ReadsWell [] before now = now ≡ before
+ReadsWell (name ∷ later) before now =
+    (between : Snapshot) × ReadsFile Well name before between × ReadsWell later between now
+
+-- Of the files that were opened, in order, the last has this name and was read so, and with those before it all was well.
+pub record EndsReading (reading : FileReading) (name : List ℕ) (opened : List (List ℕ))
+    (before now : Snapshot) : Type 0 where
+  pub earlier : List (List ℕ)
+  pub last : opened ≡ earlier ++ name ∷ []
+  pub between : Snapshot
+  pub well : ReadsWell earlier before between
+  pub read : ReadsFile reading name between now
+
+-- What a run that ends so leaves of the files that it opened, in order: the file that it tells of as missing or failed is
+-- the last, and just that was missing or failed. Where it tells of none, all was well.
+abbrev pub LeavesOpened : End → List (List ℕ) → Snapshot → Snapshot → Type 0
+LeavesOpened (FileMissing name) opened before now = EndsReading Missing name opened before now
+LeavesOpened (FileFault name) opened before now = EndsReading Failed name opened before now
+LeavesOpened other opened before now = ReadsWell opened before now
+
+-- A command that ends so has opened its plant's file, and behind it a front of its other files, in order: none where the plant
+-- is refused, and no trace behind others that are too long together.
+pub record LeavesFiles (command : Command) (before now : Snapshot) (end : End) : Type 0 where
+  pub opened : List (List ℕ)
+  pub unopened : List (List ℕ)
+  pub front : other_files command ≡ opened ++ unopened
+  pub left : LeavesOpened end (opened_for (plant_word command) ++ opened) before now
+  pub refused : status_of end ≡ 4 → opened ≡ []
+  pub within : OpensWithin before.held (opened_for (plant_word command)) opened
+
+-- Words lead to this end before any file is opened: they have no form, or they have one and memory runs out.
+abbrev pub WordsEnd : List (List ℕ) → End → Type 0
+WordsEnd words Usage = HasNoForm words
+WordsEnd words NoMemory = AskCommand words
+WordsEnd words other = ⊥
+
+-- The run ends at its words, says so, and leaves the files alone.
+pub record EndsAtWords (words : List (List ℕ)) (before now : World) (end : End) : Type 0 where
+  pub ends : WordsEnd words end
+  pub files : FilesUntouched before now
+
+-- The words ask for a command, which ends so.
+pub record EndsByCommand (words : List (List ℕ)) (before now : World) (end : End) : Type 0 where
+  pub command : Command
+  pub ask : Ask words command
+  pub ends : CommandEnds command before end
+  pub files : LeavesFiles command (snapshot before) (snapshot now) end
+
+-- The end's text was appended, and the status is the end's.
+pub record IsWritten (end : End) (before now : World) (status : ℕ) : Type 0 where
+  pub status_is : status ≡ status_of end
+  pub appends : now.written ≡ appended before.written (end_text end)
+  pub output_faults : now.output_faults ≡ before.output_faults
+
+-- A write failed behind a shorter front of the end's text, and the status says so.
+pub record IsCutShort (end : End) (before now : World) (status : ℕ) : Type 0 where
+  pub status_is : status ≡ unwritten_status
+  pub appends : AppendsPart (end_text end) before.written now.written
+  pub output_faults : now.output_faults ≡ one_more before.output_faults
+
+-- A run ended before its words were known, for want of memory, with this status: between these two moments of the output, and of
+-- the count of its faults, the line that says so was appended, or a write failed behind a shorter front of it.
+abbrev pub EndsUnworded : ℕ → Option (List ℕ) → Option (List ℕ) → ℕ → ℕ → Type 0
+EndsUnworded status before now faults_before faults_now =
+    ((status ≡ 1) × (now ≡ appended before no_memory) × (faults_now ≡ faults_before))
+    ⊎ ((status ≡ unwritten_status) × AppendsPart no_memory before now
+    × (faults_now ≡ one_more faults_before))
+
+-- A run with these words ended with this status, between these two moments.
+pub record RunEnds (words : List (List ℕ)) (before now : World) (status : ℕ) : Type 0 where
+  pub end : End
+  pub cause : EndsAtWords words before now end ⊎ EndsByCommand words before now end
+  pub output : IsWritten end before now status ⊎ IsCutShort end before now status
+  pub file_faults : now.file_faults ≡ count_after (is_file_fault end) before.file_faults

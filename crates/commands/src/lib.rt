@@ -1,0 +1,27 @@
+//! The commands of `plantctl`, the controller of a television plant's routers: what the words of the command line ask is
+//! done, and the exit status tells how it ended. The top call is `run`, which does all that the program does, over any
+//! files, gate and output. What the exit statuses tell are the laws of `laws` and `program_laws`.
+#![tactic(auto)]
+
+mod audit;
+mod check;
+mod drill_command;
+mod laws;
+mod parsed_words;
+mod parts;
+mod plant;
+mod program;
+mod program_laws;
+mod quiet;
+mod replay;
+mod stop;
+mod verdict;
+mod words;
+
+pub use laws::{
+    done, file_refused, files_stay, history_shown, output_fault, plant_refused, script_refused,
+    statuses, traces_audited, usage_told,
+};
+pub use program::{end_without_memory, run};
+pub use program_laws::{drilled, program_output, program_usage};
+pub use quiet::run_quiet;

@@ -1,0 +1,49 @@
+//! The top call.
+
+ghost use Rattle.commands.specs.World.{world};
+ghost use Rattle.commands.specs.Words.{texts};
+ghost use Rattle.commands.specs.Run.{EndsUnworded};
+ghost use Rattle.commands.specs.Program.{ProgramEnds};
+
+use crate::drill_command::{read_drill, work_drill};
+use crate::quiet::run_quiet;
+use crate::stop::{Stop, report};
+use ctl_io::{Files, Sink};
+use ctl_net::Gate;
+use std::alloc::Global;
+use std::sync::Wait;
+use std::thread::Threads;
+
+/// Does what the words ask, and answers the exit status.
+///
+/// The words have four forms: the three of `run_quiet`, to which it hands what these ask, and `drill NUMBER PANELS MESSAGES`.
+/// That works the drill of a number from 0 to 4294967295, with 1 to 16 panels and up to 200,000 messages, at least one for
+/// each panel, and says what it came to. Each session of a drill passes the gate at its start and at its end.
+pub fn run<R: Threads + Wait + Sync, F: Files, G: Gate, K: Sink>(
+    rt: &R,
+    alloc: Global,
+    words: &[String],
+    files: &mut F,
+    gate: &G,
+    out: &mut K,
+) -> u8
+    ensures { ProgramEnds (texts words.now)
+        (world F.held F.custody F.faults K.written K.faults files.old out.old)
+        (world F.held F.custody F.faults K.written K.faults files.new out.new)
+        result }
+{
+    let Some(drill) = read_drill(words) else {
+        return run_quiet(alloc, words, files, out);
+    };
+    let worked = work_drill(rt, alloc, &drill, gate, out);
+    report(out, worked).number()
+}
+
+/// Ends a run for whose words there is no memory: appends the line that says so, and answers the exit status. That is 1, or
+/// 7 where the line can't be written.
+pub fn end_without_memory<K: Sink>(out: &mut K) -> u8
+    ensures { EndsUnworded result
+        (K.written out.old) (K.written out.new) (K.faults out.old) (K.faults out.new) }
+{
+    report(out, Err(Stop::NoMemory)).number()
+}

@@ -1,8 +1,0 @@
-use Rattle.plantctl.proofs.ProgramLemmas.{seven_cause, seven_others}
-use Rattle.plantctl.proofs.program_laws.program_output.Goals as goal
-
-pub returns-clause-failed : goal.returns-clause-failed
-returns-clause-failed c = seven_cause
-
-pub returns-clause-others : goal.returns-clause-others
-returns-clause-others c = seven_others
