@@ -14,7 +14,7 @@ mod words;
 
 use commands::{run, run_quiet};
 use ctl_io::{Bytes, MemFiles, MemSink, MemSource, NamedSource};
-use ctl_net::OpenGate;
+use ctl_net::{MemNet, OpenGate};
 use std::alloc::{AllocError, Global};
 use std::sync::Wait;
 use std::thread::Threads;
@@ -74,12 +74,18 @@ fn first_wrong<R: Threads + Wait + Sync>(
         let mut files = files_of(alloc, texts)?;
         let mut out = MemSink::new(alloc, 1000, Vec::new(alloc))?;
         let words = owned(alloc, words)?;
-        let found = run(rt, alloc, &words, &mut files, &OpenGate, &mut out);
+        let mut net = no_net(alloc)?;
+        let found = run(rt, alloc, &words, &mut files, &mut net, &OpenGate, &mut out);
         if found != status || out.written() != output.as_bytes() {
             return Ok(Some(at));
         }
     }
     Ok(None)
+}
+
+// A net that refuses each opening.
+fn no_net(alloc: Global) -> Result<MemNet, AllocError> {
+    MemNet::new(alloc, Vec::new(alloc), Vec::new(alloc), 0, Vec::new(alloc))
 }
 
 // Files with these texts, each under its name.

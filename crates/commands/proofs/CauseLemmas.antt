@@ -4,7 +4,7 @@ use Rattle.ctl_io.specs.Faults.{one_more}
 use Rattle.ctl_io.specs.Held.{Held}
 use Rattle.plant_config.specs.Plant.{PlantData}
 use Rattle.commands.specs.World.{World}
-use Rattle.commands.specs.End.{End, Done, NoMemory, Usage, FileMissing, FileFault, PlantRefused, PlantTooLong, LineRefused, ScriptTooLong, Audited, TraceTooLong, status_of}
+use Rattle.commands.specs.End.{End, Done, NoMemory, Usage, FileMissing, FileFault, PlantRefused, PlantTooLong, LineRefused, ScriptTooLong, Audited, TraceTooLong, status_of, end_text}
 use Rattle.commands.specs.Words.{Command, Check, Replay, Audit, plant_word, Ask, HasNoForm}
 use Rattle.commands.specs.OpensPlant.{OpensPlant, ThenEnds, next_opening, opened_for}
 use Rattle.commands.specs.Check.{CheckEnds}
@@ -100,12 +100,20 @@ command_opens (Audit word traces) before end ends =
     goes_behind word (before.held word 0) ends.0 (λ plant. AuditEnds plant (trace_files before.held (opened_for word) traces)) end ends.1 ends.2
 
 -- a status that isn't 7 is that of a text that was written
-pub is_written : (end : End) (before now : World) (status : ℕ) → status ≢ 7 → IsWritten end before now status ⊎ IsCutShort end before now status → IsWritten end before now status
-is_written end before now status other (inl written) = written
-is_written end before now status other (inr cut) = absurd (other cut.status_is)
+pub written-unless-7 : (wanted : ℕ) (text : List ℕ) (before now : World) (status : ℕ) → status ≢ 7 → IsWritten wanted text before now status ⊎ IsCutShort text before now status → IsWritten wanted text before now status
+written-unless-7 wanted text before now status other (inl written) = written
+written-unless-7 wanted text before now status other (inr cut) = absurd (other cut.status_is)
 
--- a status is the end's, or 7 with its cause
-pub status_or_7 : (end : End) (before now : World) (status : ℕ) → IsWritten end before now status ⊎ IsCutShort end before now status
+pub is_written : (end : End) (before now : World) (status : ℕ) → status ≢ 7 → IsWritten (status_of end) (end_text end) before now status ⊎ IsCutShort (end_text end) before now status
+    → IsWritten (status_of end) (end_text end) before now status
+is_written end = written-unless-7 (status_of end) (end_text end)
+
+-- a status is the one that is wanted, or 7 with its cause
+pub wanted-or-7 : (wanted : ℕ) (text : List ℕ) (before now : World) (status : ℕ) → IsWritten wanted text before now status ⊎ IsCutShort text before now status
+    → (status ≡ wanted) ⊎ ((status ≡ 7) × (now.output_faults ≡ one_more before.output_faults))
+wanted-or-7 wanted text before now status (inl written) = inl written.status_is
+wanted-or-7 wanted text before now status (inr cut) = inr (cut.status_is, cut.output_faults)
+
+pub status_or_7 : (end : End) (before now : World) (status : ℕ) → IsWritten (status_of end) (end_text end) before now status ⊎ IsCutShort (end_text end) before now status
     → (status ≡ status_of end) ⊎ ((status ≡ 7) × (now.output_faults ≡ one_more before.output_faults))
-status_or_7 end before now status (inl written) = inl written.status_is
-status_or_7 end before now status (inr cut) = inr (cut.status_is, cut.output_faults)
+status_or_7 end = wanted-or-7 (status_of end) (end_text end)

@@ -1,5 +1,5 @@
 -- How a drill comes to its report.
-use Rattle.std.proofs.Common.{◌≡◌, ℕ, ◌*◌, List, [], length, Option, Ok, Err, refl, sym, ◌∙◌, ap, ap₂, subst, decimal, codes, ◌++◌, ◌∷◌, append_assoc}
+use Rattle.std.proofs.Common.{◌≡◌, ℕ, ◌*◌, List, [], Option, Ok, Err, refl, sym, ◌∙◌, ap, subst, ◌++◌, ◌∷◌, append_assoc}
 use Rattle.ctl_io.specs.Sink.{appended, AppendsPart}
 use Rattle.ctl_io.proofs.SinkLemmas.{appended-nil}
 use Rattle.line_text.specs.Lines.{lines}
@@ -16,7 +16,7 @@ use Rattle.commands.specs.declared.stop.Stop.{Stop}
 use Rattle.commands.specs.declared.stop.Stop.TheVariants as stops
 use Rattle.commands.specs.End.{Done, NoMemory}
 use Rattle.commands.specs.Drill.{drill_lines, each_sends, drill_text, IsHistoryOf, IsTraceOf, DrillEnds}
-use Rattle.commands.specs.DrillInside.{AuditConfirms, AuditStops}
+use Rattle.commands.specs.DrillInside.{AuditStops}
 use Rattle.commands.specs.StopInside.{StopsFor}
 
 -- five numbers in a text, each at the end of its line

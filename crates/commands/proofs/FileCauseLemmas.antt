@@ -4,7 +4,7 @@ use Rattle.ctl_io.specs.Sink.{appended}
 use Rattle.ctl_io.specs.Faults.{one_more, count_after}
 use Rattle.ctl_io.specs.WholeFile.{FileReading, Missing, Failed}
 use Rattle.commands.specs.World.{World, snapshot}
-use Rattle.commands.specs.End.{End, Done, NoMemory, Usage, FileMissing, FileFault, PlantRefused, PlantTooLong, LineRefused, ScriptTooLong, Audited, TraceTooLong, is_file_fault}
+use Rattle.commands.specs.End.{End, Done, NoMemory, Usage, FileMissing, FileFault, PlantRefused, PlantTooLong, LineRefused, ScriptTooLong, Audited, TraceTooLong, is_file_fault, status_of, end_text}
 use Rattle.commands.specs.Lines.{file_missing, file_fault}
 use Rattle.commands.specs.Words.{Command, plant_word, other_files, Ask}
 use Rattle.commands.specs.OpensPlant.{opened_for}
@@ -100,7 +100,7 @@ fault_at words before now name (in_audit plant files asks ends) stops count appe
   appends = appends ∙ ap (λ (n : List ℕ). appended before.written (file_fault n)) ends.2;
 }
 
-file_of : (words : List (List ℕ)) (before now : World) (end : End) → Cause words before now end → IsWritten end before now 3 → now.file_faults ≡ count_after (is_file_fault end) before.file_faults
+file_of : (words : List (List ℕ)) (before now : World) (end : End) → Cause words before now end → IsWritten (status_of end) (end_text end) before now 3 → now.file_faults ≡ count_after (is_file_fault end) before.file_faults
     → WasMissing words before now ⊎ HadFileFault words before now
 file_of words before now (FileMissing name) from written count = inl (missing_at words before now name (came words before now (FileMissing name) from) (stops_missing words before now name from) count written.appends)
 file_of words before now (FileFault name) from written count = inr (fault_at words before now name (came words before now (FileFault name) from) (stops_failed words before now name from) count written.appends)

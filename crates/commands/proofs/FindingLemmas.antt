@@ -3,13 +3,13 @@ use Rattle.std.proofs.Common.{ℕ, List, arith}
 use Rattle.trace_audit.specs.declared.verdict.Verdict.{Verdict}
 use Rattle.trace_audit.specs.declared.verdict.Verdict.TheVariants.{Confirmed, BadLine, Gap, Repeat, Differs}
 use Rattle.commands.specs.World.{World}
-use Rattle.commands.specs.End.{End, Done, NoMemory, Usage, FileMissing, FileFault, PlantRefused, PlantTooLong, LineRefused, ScriptTooLong, Audited, TraceTooLong}
+use Rattle.commands.specs.End.{End, Done, NoMemory, Usage, FileMissing, FileFault, PlantRefused, PlantTooLong, LineRefused, ScriptTooLong, Audited, TraceTooLong, status_of, end_text}
 use Rattle.commands.specs.Run.{IsWritten, RunEnds}
 use Rattle.commands.specs.Outcomes.{WereAudited, IsFinding}
 use Rattle.commands.proofs.CauseLemmas.{Came, came, is_written}
 use Rattle.commands.proofs.StatusesLemmas.{audited_at}
 
-verdict_found : (words : List (List ℕ)) (before now : World) (verdict : Verdict) → Came words before (Audited verdict) → IsWritten (Audited verdict) before now 6
+verdict_found : (words : List (List ℕ)) (before now : World) (verdict : Verdict) → Came words before (Audited verdict) → IsWritten (status_of (Audited verdict)) (end_text (Audited verdict)) before now 6
     → (found : Verdict) × IsFinding found × WereAudited words before now found
 verdict_found words before now (Gap position) from written = (Gap position, tt, audited_at words before now (Gap position) from written.appends)
 verdict_found words before now (Repeat position) from written = (Repeat position, tt, audited_at words before now (Repeat position) from written.appends)
@@ -18,7 +18,7 @@ verdict_found words before now (Differs position kept wanted) from written =
 verdict_found words before now (Confirmed count) from written = absurd (let h = written.status_is in omega arith)
 verdict_found words before now (BadLine number) from written = absurd (let h = written.status_is in omega arith)
 
-found_of : (words : List (List ℕ)) (before now : World) (end : End) → Came words before end → IsWritten end before now 6
+found_of : (words : List (List ℕ)) (before now : World) (end : End) → Came words before end → IsWritten (status_of end) (end_text end) before now 6
     → (found : Verdict) × IsFinding found × WereAudited words before now found
 found_of words before now (Audited verdict) from written = verdict_found words before now verdict from written
 found_of words before now (Done output) from written = absurd (let h = written.status_is in omega arith)

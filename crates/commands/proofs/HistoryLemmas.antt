@@ -7,7 +7,7 @@ use Rattle.record_replay.specs.Laws.{Action, Turned, Left, Polled, IsHistory}
 use Rattle.record_replay.specs.TiedReplay.{IsTiedReplay}
 use Rattle.record_replay.specs.ScriptLaws.{HistoriesAreOne, TurnsAnswerItems}
 use Rattle.commands.specs.World.{World}
-use Rattle.commands.specs.End.{End, Done, NoMemory, Usage, FileMissing, FileFault, PlantRefused, PlantTooLong, LineRefused, ScriptTooLong, Audited, TraceTooLong, status_of}
+use Rattle.commands.specs.End.{End, Done, NoMemory, Usage, FileMissing, FileFault, PlantRefused, PlantTooLong, LineRefused, ScriptTooLong, Audited, TraceTooLong, status_of, end_text}
 use Rattle.commands.specs.Replay.{ReplayEnds}
 use Rattle.commands.specs.Run.{IsWritten}
 use Rattle.commands.specs.Outcomes.{WasKept}
@@ -41,7 +41,7 @@ module _ (one : HistoriesAreOne) (answer : TurnsAnswerItems) where
         ties = tied.ties;
       }
 
-  end_shows : (plant : PlantData) (name script : List ℕ) (before now : World) (end : End) → IsWritten end before now 0 → ReplayEnds plant name (Holds script) end ⊎ WasKept before now (status_of end)
+  end_shows : (plant : PlantData) (name script : List ℕ) (before now : World) (end : End) → IsWritten (status_of end) (end_text end) before now 0 → ReplayEnds plant name (Holds script) end ⊎ WasKept before now (status_of end)
       → ShowsHistory plant script before now
   end_shows plant name script before now end written (inr kept) = absurd (not_kept before now (status_of end) written.status_is kept)
   end_shows plant name script before now (Done output) written (inl ends) = tied_shows plant script output before now ends.1 written.appends

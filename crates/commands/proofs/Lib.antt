@@ -27,4 +27,9 @@ pub mod FilesLemmas
 pub mod FilesLeftLemmas
 pub mod DrillWordsLemmas
 pub mod DrillLemmas
+pub mod TraceSinkLemmas
+pub mod ServiceWordsLemmas
+pub mod ServeLemmas
+pub mod ServiceEndLemmas
 pub mod ProgramLemmas
+pub mod ServiceLawLemmas

@@ -1,12 +1,13 @@
 -- The words of the command line, one after the other.
 use Rattle.std.proofs.Common.{◌≡◌, ℕ, ◌+◌, ◌<◌, Bool, true, false, List, [], ◌∷◌, ◌++◌, length, take, drop, get_or, sym, ◌∙◌, ap, subst, append_assoc, arith}
-use Rattle.std.specs.Prelude.{All, IsTrue}
+use Rattle.std.specs.Prelude.{All, IsTrue, Some, slice_get}
 use Rattle.std.specs.Global.{Global}
 use Rattle.std.specs.declared.string.String.{String}
 use Rattle.std.specs.String.{string_bytes}
 use Rattle.std.proofs.lemmas.Bool.{false≢true}
 use Rattle.std.proofs.lemmas.List.{take-append-drop, take_more, map-append, get_or-map, length-map}
 use Rattle.std.proofs.lemmas.List.Elements.{All-push}
+use Rattle.std.proofs.lemmas.Option.{slice_get-get_or}
 use Rattle.commands.specs.Words.{texts, IsFileName}
 
 -- the texts of words in front of one, its own, and those behind it
@@ -45,3 +46,17 @@ pub all_more : (words : List (String Global)) (i : ℕ) (word : String Global) (
 all_more words i word name b less is named only is_one all =
     subst (All NamesOne) (sym (take_more words i word less ∙ ap (λ (w : String Global). take i words ++ w ∷ []) (sym is)))
     (All-push NamesOne (take i words) word all (subst IsFileName named (only is_one)))
+
+-- the text of a word, among those of all
+module _ (words : List (String Global)) (i : ℕ) (word : String Global) (name : List ℕ) (less : i < length words) (is : word ≡ get_or words i word) (named : name ≡ string_bytes word) where
+  within : i < length (texts words)
+  within = omega (arith, less, length-map words string_bytes)
+
+  there : get_or (texts words) i name ≡ name
+  there = get_or-map string_bytes words i word name less ∙ ap string_bytes (sym is) ∙ sym named
+
+  pub text-at : slice_get (texts words) i ≡ Some name
+  text-at = slice_get-get_or (texts words) i name within ∙ ap Some there
+
+  pub take-texts : take (i + 1) (texts words) ≡ take i (texts words) ++ name ∷ []
+  take-texts = take_more (texts words) i name within ∙ ap (λ (n : List ℕ). take i (texts words) ++ n ∷ []) there

@@ -17,11 +17,12 @@ use Rattle.commands.specs.declared.stop.Stop.{Stop}
 use Rattle.commands.specs.declared.stop.Stop.TheVariants as stops
 use Rattle.commands.specs.World.{Snapshot}
 use Rattle.commands.specs.Lines.{plant_refused}
-use Rattle.commands.specs.End.{End, Done, NoMemory, Usage, FileMissing, FileFault as FileFailed, PlantRefused, PlantTooLong, LineRefused, ScriptTooLong, Audited, TraceTooLong}
+use Rattle.commands.specs.End.{End, Done, NoMemory, Usage, FileMissing, FileFault as FileFailed, PlantRefused, PlantTooLong, LineRefused, ScriptTooLong, Audited, TraceTooLong, status_of, end_text}
 use Rattle.commands.specs.OpensPlant.{longest_plant, Reads, OpensFile, OpensBench, is_bench, OpensPlant, opened_for}
 use Rattle.commands.specs.Run.{ReadsFile}
-use Rattle.commands.specs.StopInside.{StopComesTo, IsFrontOf, IsStopOf, OpensAs, LeavesPlant, Opens, OpensNamed, stop_of_file, SaysFault}
+use Rattle.commands.specs.StopInside.{StopComesTo, IsStopOf, OpensAs, LeavesPlant, Opens, OpensNamed, stop_of_file, SaysFault}
 use Rattle.commands.proofs.FilesLemmas.{one_well, one_last}
+use Rattle.commands.proofs.StopLemmas.{says-front}
 
 -- a choice by a test that is known to be true
 match_true : (P Q : Type 0) (b : Bool) → b ≡ true → P → MatchBool b P Q
@@ -50,21 +51,9 @@ if_held NoFile weaker p = p
 if_held (Holds bytes) weaker p = weaker bytes p
 
 -- a stop with all of its end's text to write comes to that end
-front : (stop : Stop) (end : End) (written : Option (List ℕ)) → IsStopOf stop end → IsFrontOf stop end written written
-front stop end written is = record { status_is = is.status_is; front = []; text_is = is.text_is; appends = sym (appended-nil written) }
-
 pub silent : (stop : Stop) (end : End) (written : Option (List ℕ)) → IsStopOf stop end → StopComesTo stop end written written
-silent stops.NoMemory end written is = front stops.NoMemory end written is
-silent stops.Usage end written is = front stops.Usage end written is
-silent (stops.FileMissing name) end written is = front (stops.FileMissing name) end written is
-silent (stops.FileFault name) end written is = front (stops.FileFault name) end written is
-silent (stops.PlantRefused why) end written is = front (stops.PlantRefused why) end written is
-silent stops.PlantTooLong end written is = front stops.PlantTooLong end written is
-silent (stops.LineRefused number) end written is = front (stops.LineRefused number) end written is
-silent stops.ScriptTooLong end written is = front stops.ScriptTooLong end written is
-silent (stops.Found verdict) end written is = front (stops.Found verdict) end written is
-silent stops.TraceTooLong end written is = front stops.TraceTooLong end written is
-silent stops.OutputFault end written is = absurd (false≢true (sym is.output))
+silent stop end written is =
+    says-front stop (status_of end) (end_text end) written written is.output (record { status_is = is.status_is; front = []; text_is = is.text_is; appends = sym (appended-nil written) })
 
 -- the plant's file was not read
 pub file_unread : {A : Type 0} (fault : FileFault) (name : Bor (List ℕ)) (before now : Snapshot) (read : Result A FileFault) → read ≡ Err fault → (read ≡ Err files.Missing → MayBeMissing (before.held name.now 0))
@@ -115,6 +104,9 @@ text_refused fault (stops.LineRefused number) name before now text whole within 
 text_refused fault stops.ScriptTooLong name before now text whole within answers says well = absurd says
 text_refused fault (stops.Found verdict) name before now text whole within answers says well = absurd says
 text_refused fault stops.TraceTooLong name before now text whole within answers says well = absurd says
+text_refused fault (stops.TraceFault name') name before now text whole within answers says well = absurd says
+text_refused fault stops.NetFault name before now text whole within answers says well = absurd says
+text_refused fault stops.LimitsMet name before now text whole within answers says well = absurd says
 text_refused fault stops.OutputFault name before now text whole within answers says well = absurd says
 
 -- a plant's word leads where the bench plant does

@@ -4,7 +4,7 @@ use Rattle.ctl_io.specs.Sink.{appended}
 use Rattle.trace_audit.specs.declared.verdict.Verdict.{Verdict}
 use Rattle.trace_audit.specs.declared.verdict.Verdict.TheVariants.{Confirmed, BadLine, Gap, Repeat, Differs}
 use Rattle.commands.specs.World.{World}
-use Rattle.commands.specs.End.{End, Done, NoMemory, Usage, FileMissing, FileFault, PlantRefused, PlantTooLong, LineRefused, ScriptTooLong, Audited, TraceTooLong}
+use Rattle.commands.specs.End.{End, Done, NoMemory, Usage, FileMissing, FileFault, PlantRefused, PlantTooLong, LineRefused, ScriptTooLong, Audited, TraceTooLong, status_of, end_text}
 use Rattle.commands.specs.Lines.{line_refused, script_too_long, trace_too_long}
 use Rattle.commands.specs.Words.{plant_word}
 use Rattle.commands.specs.Run.{IsWritten, RunEnds}
@@ -51,14 +51,14 @@ traces_at words before now (in_audit plant files asks ends) appends = record { p
 abbrev Refusals : List (List ℕ) → World → World → Type 0
 Refusals words before now = RefusedLine words before now ⊎ RefusedLength words before now ⊎ ((number : ℕ) × WereAudited words before now (BadLine number)) ⊎ RefusedTraces words before now
 
-verdict_refused : (words : List (List ℕ)) (before now : World) (verdict : Verdict) → Came words before (Audited verdict) → IsWritten (Audited verdict) before now 5 → Refusals words before now
+verdict_refused : (words : List (List ℕ)) (before now : World) (verdict : Verdict) → Came words before (Audited verdict) → IsWritten (status_of (Audited verdict)) (end_text (Audited verdict)) before now 5 → Refusals words before now
 verdict_refused words before now (BadLine number) from written = inr (inr (inl (number, audited_at words before now (BadLine number) from written.appends)))
 verdict_refused words before now (Confirmed count) from written = absurd (let h = written.status_is in omega arith)
 verdict_refused words before now (Gap position) from written = absurd (let h = written.status_is in omega arith)
 verdict_refused words before now (Repeat position) from written = absurd (let h = written.status_is in omega arith)
 verdict_refused words before now (Differs position kept wanted) from written = absurd (let h = written.status_is in omega arith)
 
-script_of : (words : List (List ℕ)) (before now : World) (end : End) → Came words before end → IsWritten end before now 5 → Refusals words before now
+script_of : (words : List (List ℕ)) (before now : World) (end : End) → Came words before end → IsWritten (status_of end) (end_text end) before now 5 → Refusals words before now
 script_of words before now (LineRefused number) from written = inl (line_at words before now number from written.appends)
 script_of words before now ScriptTooLong from written = inr (inl (length_at words before now from written.appends))
 script_of words before now (Audited verdict) from written = verdict_refused words before now verdict from written

@@ -63,14 +63,14 @@ done_at words before now output (in_replay plant name held asks ends) appends = 
 }))
 done_at words before now output (in_audit plant files asks ends) appends = absurd ends
 
-verdict_done : (words : List (List ℕ)) (before now : World) (verdict : Verdict) → Came words before (Audited verdict) → IsWritten (Audited verdict) before now 0 → WasDone words before now
+verdict_done : (words : List (List ℕ)) (before now : World) (verdict : Verdict) → Came words before (Audited verdict) → IsWritten (status_of (Audited verdict)) (end_text (Audited verdict)) before now 0 → WasDone words before now
 verdict_done words before now (Confirmed count) from written = inr (inr (count, audited_at words before now (Confirmed count) from written.appends))
 verdict_done words before now (BadLine number) from written = absurd (let h = written.status_is in omega arith)
 verdict_done words before now (Gap position) from written = absurd (let h = written.status_is in omega arith)
 verdict_done words before now (Repeat position) from written = absurd (let h = written.status_is in omega arith)
 verdict_done words before now (Differs position kept wanted) from written = absurd (let h = written.status_is in omega arith)
 
-done_of : (words : List (List ℕ)) (before now : World) (end : End) → Came words before end → IsWritten end before now 0 → WasDone words before now
+done_of : (words : List (List ℕ)) (before now : World) (end : End) → Came words before end → IsWritten (status_of end) (end_text end) before now 0 → WasDone words before now
 done_of words before now (Done output) from written = done_at words before now output from written.appends
 done_of words before now NoMemory from written = absurd (let h = written.status_is in omega arith)
 done_of words before now Usage from written = absurd (let h = written.status_is in omega arith)
@@ -112,7 +112,7 @@ memory_at : (words : List (List ℕ)) (before now : World) → Cause words befor
 memory_at words before now (inl at) appends = record { command = at.ends.0; ask = at.ends.1; there = inl at.files; appends = appends }
 memory_at words before now (inr by) appends = record { command = by.command; ask = by.ask; there = inr (memory_there by.command before by.ends); appends = appends }
 
-memory_of : (words : List (List ℕ)) (before now : World) (end : End) → Cause words before now end → IsWritten end before now 1 → RanOutOfMemory words before now
+memory_of : (words : List (List ℕ)) (before now : World) (end : End) → Cause words before now end → IsWritten (status_of end) (end_text end) before now 1 → RanOutOfMemory words before now
 memory_of words before now NoMemory from written = memory_at words before now from written.appends
 memory_of words before now (Done output) from written = absurd (let h = written.status_is in omega arith)
 memory_of words before now Usage from written = absurd (let h = written.status_is in omega arith)
@@ -196,7 +196,7 @@ too_long_at words before now (in_check plant asks ends) appends = absurd ends
 too_long_at words before now (in_replay plant script held asks ends) appends = absurd ends
 too_long_at words before now (in_audit plant files asks ends) appends = absurd ends
 
-plant_of : (words : List (List ℕ)) (before now : World) (end : End) → Came words before end → IsWritten end before now 4
+plant_of : (words : List (List ℕ)) (before now : World) (end : End) → Came words before end → IsWritten (status_of end) (end_text end) before now 4
     → HadPlantFault words before now ⊎ WasTooLong words before now
 plant_of words before now (PlantRefused fault) from written = inl (plant_fault_at words before now fault from written.appends)
 plant_of words before now PlantTooLong from written = inr (too_long_at words before now from written.appends)

@@ -4,6 +4,7 @@ use Rattle.std.specs.Prelude.{codes}
 use Rattle.std.specs.Fmt.{decimal}
 use Rattle.std.specs.Bool.{OnTrue, OnFalse}
 use Rattle.std.proofs.Math.Seq.{take-append-add}
+use Rattle.std.proofs.lemmas.Bool.{false≢true}
 use Rattle.std.proofs.lemmas.List.{length-append}
 use Rattle.ctl_io.specs.Faults.{one_more, count_after}
 use Rattle.ctl_io.specs.Sink.{appended, AppendsPart}
@@ -14,7 +15,7 @@ use Rattle.commands.specs.World.{World}
 use Rattle.commands.specs.Lines.{line, plant_refused}
 use Rattle.commands.specs.End.{End, end_text, status_of}
 use Rattle.commands.specs.Run.{EndsAtWords, EndsByCommand, IsWritten, IsCutShort, RunEnds}
-use Rattle.commands.specs.StopInside.{line_of, stop_status, stopped_by_output, IsFrontOf, ComesTo, Reports, RunStops}
+use Rattle.commands.specs.StopInside.{line_of, stop_status, is_by_output, stopped_by_output, IsFrontOf, StopSays, Says, Reports, RunStops}
 
 -- a shorter front of what comes behind a front is a shorter front
 pub front-part : (front line : List ℕ) (before mid now : Option (List ℕ)) → mid ≡ appended before front → AppendsPart line mid now → AppendsPart (front ++ line) before now
@@ -55,6 +56,23 @@ plant-all true why text before now is all = all ∙ ap (λ (t : List ℕ). appen
 pub no-part : {P : Type 0} (before now : Option (List ℕ)) → AppendsPart [] before now → P
 no-part before now part = absurd (omega (arith, part.shorter))
 
+-- a stop by which no write failed says its text once its line is written behind the front of that
+pub says-front : (stop : Stop) (status : ℕ) (text : List ℕ) (before now : Option (List ℕ)) → is_by_output stop ≡ false → IsFrontOf stop status text before now → StopSays stop status text before now
+says-front stops.NoMemory status text before now other is = is
+says-front stops.Usage status text before now other is = is
+says-front (stops.FileMissing name) status text before now other is = is
+says-front (stops.FileFault name) status text before now other is = is
+says-front (stops.PlantRefused why) status text before now other is = is
+says-front stops.PlantTooLong status text before now other is = is
+says-front (stops.LineRefused number) status text before now other is = is
+says-front stops.ScriptTooLong status text before now other is = is
+says-front (stops.Found verdict) status text before now other is = is
+says-front stops.TraceTooLong status text before now other is = is
+says-front (stops.TraceFault name) status text before now other is = is
+says-front stops.NetFault status text before now other is = is
+says-front stops.LimitsMet status text before now other is = is
+says-front stops.OutputFault status text before now other is = absurd (false≢true (sym other))
+
 -- The output and the files of a run, as it came to its report and as the report left them.
 abbrev moved : World → Option (List ℕ) → ℕ → World
 moved mid written faults = record mid { written = written; output_faults = faults }
@@ -64,49 +82,52 @@ moved-cause : (words : List (List ℕ)) (before mid : World) (end : End) (writte
 moved-cause words before mid end written faults (inl at) = inl (record { ends = at.ends; files = at.files })
 moved-cause words before mid end written faults (inr by) = inr (record { command = by.command; ask = by.ask; ends = by.ends; files = by.files })
 
--- What the output of a run came to.
-abbrev pub IsOutput : End → Option (List ℕ) → ℕ → Option (List ℕ) → ℕ → ℕ → Type 0
-IsOutput end before faults_before now faults_now status =
-    ((status ≡ status_of end) × (now ≡ appended before (end_text end)) × (faults_now ≡ faults_before))
-    ⊎ ((status ≡ 7) × AppendsPart (end_text end) before now × (faults_now ≡ one_more faults_before))
+-- What the output of a run came to, by the status and the text that are wanted.
+abbrev pub IsOutput : ℕ → List ℕ → Option (List ℕ) → ℕ → Option (List ℕ) → ℕ → ℕ → Type 0
+IsOutput wanted text before faults_before now faults_now status =
+    ((status ≡ wanted) × (now ≡ appended before text) × (faults_now ≡ faults_before))
+    ⊎ ((status ≡ 7) × AppendsPart text before now × (faults_now ≡ one_more faults_before))
 
-left_line : (stop : Stop) (end : End) (before mid now : Option (List ℕ)) (faults_before faults_mid faults_now status : ℕ) → IsFrontOf stop end before mid → faults_mid ≡ faults_before
+left_line : (stop : Stop) (wanted : ℕ) (text : List ℕ) (before mid now : Option (List ℕ)) (faults_before faults_mid faults_now status : ℕ) → IsFrontOf stop wanted text before mid → faults_mid ≡ faults_before
     → ((status ≡ stop_status stop) × (now ≡ appended mid (line_of stop)) × (faults_now ≡ faults_mid)) ⊎ ((status ≡ 7) × AppendsPart (line_of stop) mid now × (faults_now ≡ one_more faults_mid))
-    → IsOutput end before faults_before now faults_now status
-left_line stop end before mid now faults_before faults_mid faults_now status is kept (inl reported) = inl (
+    → IsOutput wanted text before faults_before now faults_now status
+left_line stop wanted text before mid now faults_before faults_mid faults_now status is kept (inl reported) = inl (
   reported.0 ∙ sym is.status_is,
   reported.1 ∙ ap (λ (w : Option (List ℕ)). appended w (line_of stop)) is.appends ∙ appended-appended before is.front (line_of stop) ∙ ap (appended before) (sym is.text_is),
   reported.2 ∙ kept,
 )
-left_line stop end before mid now faults_before faults_mid faults_now status is kept (inr failed) = inr (
+left_line stop wanted text before mid now faults_before faults_mid faults_now status is kept (inr failed) = inr (
   failed.0,
-  subst (λ (text : List ℕ). AppendsPart text before now) (sym is.text_is) (front-part is.front (line_of stop) before mid now is.appends failed.1),
+  subst (λ (t : List ℕ). AppendsPart t before now) (sym is.text_is) (front-part is.front (line_of stop) before mid now is.appends failed.1),
   failed.2 ∙ ap one_more kept,
 )
 
-pub output_of : {T : Type 0} (result : Result T Stop) (end : End) (before mid now : Option (List ℕ)) (faults_before faults_mid faults_now status : ℕ) → ComesTo result end before mid
-    → faults_mid ≡ count_after (stopped_by_output result) faults_before → Reports result status mid now faults_mid faults_now → IsOutput end before faults_before now faults_now status
-output_of (Ok done) end before mid now fb fm fn status comes kept (inl reported) =
+pub output_of : {T : Type 0} (result : Result T Stop) (wanted : ℕ) (text : List ℕ) (before mid now : Option (List ℕ)) (faults_before faults_mid faults_now status : ℕ) → Says result wanted text before mid
+    → faults_mid ≡ count_after (stopped_by_output result) faults_before → Reports result status mid now faults_mid faults_now → IsOutput wanted text before faults_before now faults_now status
+output_of (Ok done) wanted text before mid now fb fm fn status comes kept (inl reported) =
     inl (reported.0 ∙ sym comes.0, reported.1 ∙ appended-nil mid ∙ comes.1, reported.2 ∙ kept)
-output_of (Ok done) end before mid now fb fm fn status comes kept (inr failed) = no-part mid now failed.1
-output_of (Err stops.NoMemory) end before mid now fb fm fn status comes kept reports = left_line stops.NoMemory end before mid now fb fm fn status comes kept reports
-output_of (Err stops.Usage) end before mid now fb fm fn status comes kept reports = left_line stops.Usage end before mid now fb fm fn status comes kept reports
-output_of (Err (stops.FileMissing name)) end before mid now fb fm fn status comes kept reports = left_line (stops.FileMissing name) end before mid now fb fm fn status comes kept reports
-output_of (Err (stops.FileFault name)) end before mid now fb fm fn status comes kept reports = left_line (stops.FileFault name) end before mid now fb fm fn status comes kept reports
-output_of (Err (stops.PlantRefused why)) end before mid now fb fm fn status comes kept reports = left_line (stops.PlantRefused why) end before mid now fb fm fn status comes kept reports
-output_of (Err stops.PlantTooLong) end before mid now fb fm fn status comes kept reports = left_line stops.PlantTooLong end before mid now fb fm fn status comes kept reports
-output_of (Err (stops.LineRefused number)) end before mid now fb fm fn status comes kept reports = left_line (stops.LineRefused number) end before mid now fb fm fn status comes kept reports
-output_of (Err stops.ScriptTooLong) end before mid now fb fm fn status comes kept reports = left_line stops.ScriptTooLong end before mid now fb fm fn status comes kept reports
-output_of (Err (stops.Found verdict)) end before mid now fb fm fn status comes kept reports = left_line (stops.Found verdict) end before mid now fb fm fn status comes kept reports
-output_of (Err stops.TraceTooLong) end before mid now fb fm fn status comes kept reports = left_line stops.TraceTooLong end before mid now fb fm fn status comes kept reports
-output_of (Err stops.OutputFault) end before mid now fb fm fn status comes kept (inl reported) =
-    inr (reported.0, subst (AppendsPart (end_text end) before) (sym (reported.1 ∙ appended-nil mid)) comes, reported.2 ∙ kept)
-output_of (Err stops.OutputFault) end before mid now fb fm fn status comes kept (inr failed) = no-part mid now failed.1
+output_of (Ok done) wanted text before mid now fb fm fn status comes kept (inr failed) = no-part mid now failed.1
+output_of (Err stops.NoMemory) wanted text before mid now fb fm fn status comes kept reports = left_line stops.NoMemory wanted text before mid now fb fm fn status comes kept reports
+output_of (Err stops.Usage) wanted text before mid now fb fm fn status comes kept reports = left_line stops.Usage wanted text before mid now fb fm fn status comes kept reports
+output_of (Err (stops.FileMissing name)) wanted text before mid now fb fm fn status comes kept reports = left_line (stops.FileMissing name) wanted text before mid now fb fm fn status comes kept reports
+output_of (Err (stops.FileFault name)) wanted text before mid now fb fm fn status comes kept reports = left_line (stops.FileFault name) wanted text before mid now fb fm fn status comes kept reports
+output_of (Err (stops.PlantRefused why)) wanted text before mid now fb fm fn status comes kept reports = left_line (stops.PlantRefused why) wanted text before mid now fb fm fn status comes kept reports
+output_of (Err stops.PlantTooLong) wanted text before mid now fb fm fn status comes kept reports = left_line stops.PlantTooLong wanted text before mid now fb fm fn status comes kept reports
+output_of (Err (stops.LineRefused number)) wanted text before mid now fb fm fn status comes kept reports = left_line (stops.LineRefused number) wanted text before mid now fb fm fn status comes kept reports
+output_of (Err stops.ScriptTooLong) wanted text before mid now fb fm fn status comes kept reports = left_line stops.ScriptTooLong wanted text before mid now fb fm fn status comes kept reports
+output_of (Err (stops.Found verdict)) wanted text before mid now fb fm fn status comes kept reports = left_line (stops.Found verdict) wanted text before mid now fb fm fn status comes kept reports
+output_of (Err stops.TraceTooLong) wanted text before mid now fb fm fn status comes kept reports = left_line stops.TraceTooLong wanted text before mid now fb fm fn status comes kept reports
+output_of (Err (stops.TraceFault name)) wanted text before mid now fb fm fn status comes kept reports = left_line (stops.TraceFault name) wanted text before mid now fb fm fn status comes kept reports
+output_of (Err stops.NetFault) wanted text before mid now fb fm fn status comes kept reports = left_line stops.NetFault wanted text before mid now fb fm fn status comes kept reports
+output_of (Err stops.LimitsMet) wanted text before mid now fb fm fn status comes kept reports = left_line stops.LimitsMet wanted text before mid now fb fm fn status comes kept reports
+output_of (Err stops.OutputFault) wanted text before mid now fb fm fn status comes kept (inl reported) =
+    inr (reported.0, subst (AppendsPart text before) (sym (reported.1 ∙ appended-nil mid)) comes, reported.2 ∙ kept)
+output_of (Err stops.OutputFault) wanted text before mid now fb fm fn status comes kept (inr failed) = no-part mid now failed.1
 
-pub is_output : (end : End) (before now : World) (status : ℕ) → IsOutput end before.written before.output_faults now.written now.output_faults status
-    → IsWritten end before now status ⊎ IsCutShort end before now status
-is_output end before now status (inl written) = inl (record { status_is = written.0; appends = written.1; output_faults = written.2 })
-is_output end before now status (inr cut) = inr (record { status_is = cut.0; appends = cut.1; output_faults = cut.2 })
+pub is_output : (wanted : ℕ) (text : List ℕ) (before now : World) (status : ℕ) → IsOutput wanted text before.written before.output_faults now.written now.output_faults status
+    → IsWritten wanted text before now status ⊎ IsCutShort text before now status
+is_output wanted text before now status (inl written) = inl (record { status_is = written.0; appends = written.1; output_faults = written.2 })
+is_output wanted text before now status (inr cut) = inr (record { status_is = cut.0; appends = cut.1; output_faults = cut.2 })
 
 -- a run that stopped ends so behind its report
 pub run_ends : {T : Type 0} (result : Result T Stop) (words : List (List ℕ)) (before mid : World) (status : ℕ) (written : Option (List ℕ)) (faults : ℕ) → RunStops words before mid result
@@ -115,8 +136,8 @@ run_ends result words before mid status written faults stops reports = record {
   end = stops.end;
   cause = moved-cause words before mid stops.end written faults stops.cause;
   output =
-      is_output stops.end before (moved mid written faults) status (
-      output_of result stops.end before.written mid.written written before.output_faults mid.output_faults faults status stops.comes stops.output_faults reports
+      is_output (status_of stops.end) (end_text stops.end) before (moved mid written faults) status (
+      output_of result (status_of stops.end) (end_text stops.end) before.written mid.written written before.output_faults mid.output_faults faults status stops.comes stops.output_faults reports
       );
   file_faults = stops.file_faults ∙ ap (λ (f : Bool). count_after f before.file_faults) (sym stops.fault);
 }

@@ -8,6 +8,8 @@ pub mod Replay
 pub mod Audit
 pub mod Drill
 pub mod Run
+pub mod Traces
+pub mod Serve
 pub mod Program
 pub mod Asked
 pub mod Outcomes
@@ -18,3 +20,4 @@ pub mod StopInside
 pub mod WordsInside
 pub mod AuditInside
 pub mod DrillInside
+pub mod ServeInside

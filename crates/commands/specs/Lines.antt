@@ -50,3 +50,14 @@ abbrev pub differs_at : ℕ → List ℕ → List ℕ → List ℕ
 differs_at position kept wanted =
     line (codes "differs at " ++ decimal position ++ codes ": kept " ++ kept ++ codes " wanted "
     ++ wanted)
+
+abbrev pub net_fault : List ℕ
+net_fault = line (codes "net fault")
+
+abbrev pub limits_met : List ℕ
+limits_met = line (codes "session limits met")
+
+-- the lines on a plant that was served: how many sessions there were, and how many entries the history has
+abbrev pub served_lines : ℕ → ℕ → List ℕ
+served_lines sessions entries =
+    line (codes "sessions " ++ decimal sessions) ++ line (codes "entries " ++ decimal entries)

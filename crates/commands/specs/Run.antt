@@ -88,16 +88,16 @@ pub record EndsByCommand (words : List (List ℕ)) (before now : World) (end : E
   pub ends : CommandEnds command before end
   pub files : LeavesFiles command (snapshot before) (snapshot now) end
 
--- The end's text was appended, and the status is the end's.
-pub record IsWritten (end : End) (before now : World) (status : ℕ) : Type 0 where
-  pub status_is : status ≡ status_of end
-  pub appends : now.written ≡ appended before.written (end_text end)
+-- This text was appended, and the status is the one that is wanted.
+pub record IsWritten (wanted : ℕ) (text : List ℕ) (before now : World) (status : ℕ) : Type 0 where
+  pub status_is : status ≡ wanted
+  pub appends : now.written ≡ appended before.written text
   pub output_faults : now.output_faults ≡ before.output_faults
 
--- A write failed behind a shorter front of the end's text, and the status says so.
-pub record IsCutShort (end : End) (before now : World) (status : ℕ) : Type 0 where
+-- A write failed behind a shorter front of this text, and the status says so.
+pub record IsCutShort (text : List ℕ) (before now : World) (status : ℕ) : Type 0 where
   pub status_is : status ≡ unwritten_status
-  pub appends : AppendsPart (end_text end) before.written now.written
+  pub appends : AppendsPart text before.written now.written
   pub output_faults : now.output_faults ≡ one_more before.output_faults
 
 -- A run ended before its words were known, for want of memory, with this status: between these two moments of the output, and of
@@ -112,5 +112,6 @@ EndsUnworded status before now faults_before faults_now =
 pub record RunEnds (words : List (List ℕ)) (before now : World) (status : ℕ) : Type 0 where
   pub end : End
   pub cause : EndsAtWords words before now end ⊎ EndsByCommand words before now end
-  pub output : IsWritten end before now status ⊎ IsCutShort end before now status
+  pub output : IsWritten (status_of end) (end_text end) before now status
+      ⊎ IsCutShort (end_text end) before now status
   pub file_faults : now.file_faults ≡ count_after (is_file_fault end) before.file_faults

@@ -18,7 +18,7 @@ use Rattle.commands.specs.declared.stop.Status.{Status}
 use Rattle.commands.specs.declared.stop.Status.TheVariants as statuses
 use Rattle.commands.specs.declared.words.Command as code
 use Rattle.commands.specs.declared.words.Command.TheVariants as commands
-use Rattle.commands.specs.Lines.{usage, no_memory, file_missing, file_fault, plant_refused, plant_too_long, line_refused, script_too_long, trace_too_long}
+use Rattle.commands.specs.Lines.{usage, no_memory, file_missing, file_fault, plant_refused, plant_too_long, line_refused, script_too_long, trace_too_long, net_fault, limits_met}
 use Rattle.commands.specs.End.{End, status_of, unwritten_status, end_text, is_file_fault, verdict_status, verdict_line}
 use Rattle.commands.specs.World.{World, Snapshot, snapshot}
 use Rattle.commands.specs.Words.{Command, Check, Replay, Audit, texts}
@@ -36,6 +36,8 @@ number_of statuses.Plant = 4
 number_of statuses.Script = 5
 number_of statuses.Finding = 6
 number_of statuses.Output = 7
+number_of statuses.Net = 8
+number_of statuses.Limits = 9
 
 -- what stands of the two replies in the line of one that differs
 abbrev pub replies_text : List ℕ → List ℕ → List ℕ
@@ -53,6 +55,9 @@ line_of (stops.LineRefused number) = line_refused number
 line_of stops.ScriptTooLong = script_too_long
 line_of (stops.Found verdict) = verdict_line verdict
 line_of stops.TraceTooLong = trace_too_long
+line_of (stops.TraceFault name) = file_fault (string_bytes name)
+line_of stops.NetFault = net_fault
+line_of stops.LimitsMet = limits_met
 line_of stops.OutputFault = []
 
 -- the status of a stop
@@ -67,6 +72,9 @@ stop_status (stops.LineRefused number) = 5
 stop_status stops.ScriptTooLong = 5
 stop_status (stops.Found verdict) = verdict_status verdict
 stop_status stops.TraceTooLong = 5
+stop_status (stops.TraceFault name) = 3
+stop_status stops.NetFault = 8
+stop_status stops.LimitsMet = 9
 stop_status stops.OutputFault = 7
 
 -- Whether a write failed, and whether the files did, before the report.
@@ -76,6 +84,7 @@ is_by_output other = false
 
 abbrev pub is_by_files : Stop → Bool
 is_by_files (stops.FileFault name) = true
+is_by_files (stops.TraceFault name) = true
 is_by_files other = false
 
 abbrev pub stopped_by_output : {T : Type 0} → Result T Stop → Bool
@@ -86,23 +95,32 @@ abbrev pub stopped_by_files : {T : Type 0} → Result T Stop → Bool
 stopped_by_files (Ok done) = false
 stopped_by_files (Err stop) = is_by_files stop
 
--- With the line of this stop, what was written is the text of the end, and the stop has the end's status.
-pub record IsFrontOf (stop : Stop) (end : End) (before now : Option (List ℕ)) : Type 0 where
-  pub status_is : status_of end ≡ stop_status stop
+-- With the line of this stop, what was written is this text, and the stop has this status.
+pub record IsFrontOf (stop : Stop) (status : ℕ) (text : List ℕ) (before now : Option (List ℕ))
+    : Type 0 where
+  pub status_is : status ≡ stop_status stop
   pub front : List ℕ
-  pub text_is : end_text end ≡ front ++ line_of stop
+  pub text_is : text ≡ front ++ line_of stop
   pub appends : now ≡ appended before front
 
--- A stop comes to this end. Where a write failed, a shorter front of the end's text was written.
-abbrev pub StopComesTo : Stop → End → Option (List ℕ) → Option (List ℕ) → Type 0
-StopComesTo stops.OutputFault end before now = AppendsPart (end_text end) before now
-StopComesTo other end before now = IsFrontOf other end before now
+-- A stop says this text, with this status. Where a write failed, a shorter front of the text was written.
+abbrev pub StopSays : Stop → ℕ → List ℕ → Option (List ℕ) → Option (List ℕ) → Type 0
+StopSays stops.OutputFault status text before now = AppendsPart text before now
+StopSays other status text before now = IsFrontOf other status text before now
 
--- What was done, or a stop, comes to this end.
+-- What was done, or a stop, says this text, with this status.
+abbrev pub Says : {T : Type 0} → Result T Stop → ℕ → List ℕ → Option (List ℕ)
+    → Option (List ℕ) → Type 0
+Says (Ok done) status text before now = (status ≡ 0) × (now ≡ appended before text)
+Says (Err stop) status text before now = StopSays stop status text before now
+
+-- A stop, and what was done or a stop, comes to this end.
+abbrev pub StopComesTo : Stop → End → Option (List ℕ) → Option (List ℕ) → Type 0
+StopComesTo stop end before now = StopSays stop (status_of end) (end_text end) before now
+
 abbrev pub ComesTo : {T : Type 0} → Result T Stop → End → Option (List ℕ)
     → Option (List ℕ) → Type 0
-ComesTo (Ok done) end before now = (status_of end ≡ 0) × (now ≡ appended before (end_text end))
-ComesTo (Err stop) end before now = StopComesTo stop end before now
+ComesTo result end before now = Says result (status_of end) (end_text end) before now
 
 -- It comes to an end that has this cause.
 pub record StopsFor {T : Type 0} (result : Result T Stop) (Cause : End → Type 0)

@@ -1,5 +1,5 @@
 -- The words of the command line: what they ask, and their forms.
-use Rattle.std.specs.Prelude.{◌≡◌, ◌≢◌, ℕ, ◌≤◌, List, [], ◌∷◌, length, map, All, codes}
+use Rattle.std.specs.Prelude.{◌≡◌, ◌≢◌, ℕ, ◌≤◌, List, [], ◌∷◌, length, map, All, codes, Option, None, Some, IfSome}
 use Rattle.std.specs.Global.{Global}
 use Rattle.std.specs.declared.string.String.{String}
 use Rattle.std.specs.String.{string_bytes}
@@ -104,3 +104,23 @@ pub record AskDrill (words : List (List ℕ)) (drill : Drill) : Type 0 where
 -- The words ask for no drill.
 abbrev pub AskNoDrill : List (List ℕ) → Type 0
 AskNoDrill words = (drill : Drill) → AskDrill words drill → ⊥
+
+-- What is to be served: a plant's word, and the prefix of its traces' names, where traces are to be kept.
+pub record Service : Type 0 where
+  pub plant : List ℕ
+  pub prefix : Option (List ℕ)
+
+-- the word of the prefix, where there is one
+abbrev pub prefix_word : Option (List ℕ) → List (List ℕ)
+prefix_word None = []
+prefix_word (Some prefix) = prefix ∷ []
+
+-- The words ask for this service. Both words are such as names are.
+pub record AskService (words : List (List ℕ)) (service : Service) : Type 0 where
+  pub form : words ≡ codes "serve" ∷ service.plant ∷ prefix_word service.prefix
+  pub plant_is_name : IsFileName service.plant
+  pub prefix_is_name : IfSome service.prefix IsFileName
+
+-- The words ask for no service.
+abbrev pub AskNoService : List (List ℕ) → Type 0
+AskNoService words = (service : Service) → AskService words service → ⊥

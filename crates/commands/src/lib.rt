@@ -14,7 +14,10 @@ mod program;
 mod program_laws;
 mod quiet;
 mod replay;
+mod serve;
 mod stop;
+mod told;
+mod trace_files;
 mod verdict;
 mod words;
 
@@ -23,5 +26,5 @@ pub use laws::{
     statuses, traces_audited, usage_told,
 };
 pub use program::{end_without_memory, run};
-pub use program_laws::{drilled, program_output, program_usage};
+pub use program_laws::{drilled, limits_met, net_failed, program_output, program_usage, served};
 pub use quiet::run_quiet;

@@ -1,5 +1,6 @@
 //! The top call.
 
+ghost use Rattle.panel_server.specs.PlantServed.{net_shows};
 ghost use Rattle.commands.specs.World.{world};
 ghost use Rattle.commands.specs.Words.{texts};
 ghost use Rattle.commands.specs.Run.{EndsUnworded};
@@ -7,36 +8,47 @@ ghost use Rattle.commands.specs.Program.{ProgramEnds};
 
 use crate::drill_command::{read_drill, work_drill};
 use crate::quiet::run_quiet;
+use crate::serve::{read_service, work_service};
 use crate::stop::{Stop, report};
 use ctl_io::{Files, Sink};
-use ctl_net::Gate;
+use ctl_net::{Gate, Net};
 use std::alloc::Global;
 use std::sync::Wait;
 use std::thread::Threads;
 
 /// Does what the words ask, and answers the exit status.
 ///
-/// The words have four forms: the three of `run_quiet`, to which it hands what these ask, and `drill NUMBER PANELS MESSAGES`.
-/// That works the drill of a number from 0 to 4294967295, with 1 to 16 panels and up to 200,000 messages, at least one for
-/// each panel, and says what it came to. Each session of a drill passes the gate at its start and at its end.
-pub fn run<R: Threads + Wait + Sync, F: Files, G: Gate, K: Sink>(
+/// The words have five forms: the three of `run_quiet`, to which it hands what these ask, and two more.
+/// `drill NUMBER PANELS MESSAGES` works the drill of a number from 0 to 4294967295, with 1 to 16 panels and up to 200,000
+/// messages, at least one for each panel, and says what it came to. `serve PLANT [PREFIX]` serves the panels and the displays
+/// of a plant over the net until all panels had their sessions, and says how many sessions and entries of the history there
+/// were. With PREFIX its traces are made in the files PREFIX.0 and so on, one a panel, and PREFIX.d for the displays. Each
+/// session passes the gate at its start and at its end.
+pub fn run<R: Threads + Wait + Sync, F: Files, N: Net, G: Gate, K: Sink>(
     rt: &R,
     alloc: Global,
     words: &[String],
     files: &mut F,
+    net: &mut N,
     gate: &G,
     out: &mut K,
 ) -> u8
-    ensures { ProgramEnds (texts words.now)
+    ensures { ProgramEnds N.P.was_sent N.P.faults (texts words.now)
         (world F.held F.custody F.faults K.written K.faults files.old out.old)
         (world F.held F.custody F.faults K.written K.faults files.new out.new)
+        (net_shows N.openings N.acceptors N.ports N.open_faults N.close_faults net.old)
+        (net_shows N.openings N.acceptors N.ports N.open_faults N.close_faults net.new)
         result }
 {
-    let Some(drill) = read_drill(words) else {
+    if let Some(drill) = read_drill(words) {
+        let worked = work_drill(rt, alloc, &drill, gate, out);
+        return report(out, worked).number();
+    }
+    let Some(service) = read_service(words) else {
         return run_quiet(alloc, words, files, out);
     };
-    let worked = work_drill(rt, alloc, &drill, gate, out);
-    report(out, worked).number()
+    let served = work_service(rt, alloc, &service, files, net, gate, out);
+    report(out, served).number()
 }
 
 /// Ends a run for whose words there is no memory: appends the line that says so, and answers the exit status. That is 1, or

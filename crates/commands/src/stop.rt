@@ -38,6 +38,10 @@ pub(crate) enum Status {
     Finding = 6,
     /// A write of the output failed.
     Output = 7,
+    /// The net refused an opening, or something that it handed out failed.
+    Net = 8,
+    /// A session, or the worker of the displays, ended by a limit.
+    Limits = 9,
 }
 
 impl Status {
@@ -68,6 +72,12 @@ pub(crate) enum Stop<'a> {
     /// The audit of traces had this verdict, by which they aren't confirmed.
     Found(Verdict),
     TraceTooLong,
+    /// A trace couldn't be made, or a write of it failed: that of the file of this name.
+    TraceFault(String),
+    /// The net refused an opening, or something that it handed out failed.
+    NetFault,
+    /// A session, or the worker of the displays, ended by a limit.
+    LimitsMet,
     /// A write of the output failed.
     OutputFault,
 }
@@ -125,10 +135,12 @@ impl<'a> Stop<'a> {
         match self {
             Stop::NoMemory => Status::NoMemory,
             Stop::Usage => Status::Usage,
-            Stop::FileMissing(_) | Stop::FileFault(_) => Status::File,
+            Stop::FileMissing(_) | Stop::FileFault(_) | Stop::TraceFault(_) => Status::File,
             Stop::PlantRefused(_) | Stop::PlantTooLong => Status::Plant,
             Stop::LineRefused(_) | Stop::ScriptTooLong | Stop::TraceTooLong => Status::Script,
             Stop::Found(verdict) => status_of(verdict),
+            Stop::NetFault => Status::Net,
+            Stop::LimitsMet => Status::Limits,
             Stop::OutputFault => Status::Output,
         }
     }
@@ -155,6 +167,12 @@ impl<'a> Stop<'a> {
             Stop::ScriptTooLong => write_all(out, b"script too long\n"),
             Stop::Found(verdict) => write_verdict(out, verdict),
             Stop::TraceTooLong => write_all(out, b"trace too long\n"),
+            Stop::TraceFault(name) => {
+                let name = name.as_str().as_bytes();
+                write_parts(out, b"file ", name, b" fault\n")
+            }
+            Stop::NetFault => write_all(out, b"net fault\n"),
+            Stop::LimitsMet => write_all(out, b"session limits met\n"),
             Stop::OutputFault => true,
         }
     }

@@ -123,7 +123,7 @@ fn are_names(words: &[String]) -> bool
 }
 
 // Whether a word names something: it isn't empty and doesn't begin with a dash.
-fn is_name(word: &str) -> bool
+pub(crate) fn is_name(word: &str) -> bool
     ensures { IsTrue result ↔ IsFileName word.now }
 {
     match word.as_bytes() {

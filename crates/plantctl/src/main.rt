@@ -1,10 +1,10 @@
 //! `plantctl`, the controller of a television plant's routers. All that it does is `run` of `commands`: `main` hands it the
-//! words of the command line, the real files and the standard output.
+//! words of the command line, the real files, the net over sockets and the standard output.
 #![tactic(auto)]
 
 use commands::{end_without_memory, run, run_quiet};
 use ctl_io::{StdFiles, StdOut};
-use ctl_net::OpenGate;
+use ctl_net::{OpenGate, StdNet};
 use std::io::ErrorKind;
 use std::process::ExitCode;
 use std::rt::Env;
@@ -13,9 +13,12 @@ use std::{env, io};
 fn main(rt: HostRuntime) -> ExitCode {
     let alloc = rt.alloc();
     let mut files = StdFiles::new(&rt);
+    let mut net = StdNet::new(&rt);
     let mut out = StdOut::new(&rt);
     let status = match arguments(&rt) {
-        Ok(words) => run(&rt, alloc, &words, &mut files, &OpenGate, &mut out),
+        Ok(words) => run(
+            &rt, alloc, &words, &mut files, &mut net, &OpenGate, &mut out,
+        ),
         Err(error) if error.kind() == ErrorKind::OutOfMemory => end_without_memory(&mut out),
         // Arguments that are no text have no form, as no words have none.
         Err(_) => run_quiet(alloc, &[], &mut files, &mut out),
