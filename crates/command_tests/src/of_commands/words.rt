@@ -7,7 +7,7 @@ const USAGE: &str =
     "usage: plantctl check PLANT, replay PLANT SCRIPT, audit PLANT TRACE.., serve PLANT [PREFIX], drill NUMBER PANELS MESSAGES\n";
 
 // Runs over no files.
-const RUNS: [Run; 39] = [
+const RUNS: [Run; 42] = [
     // A command's word may name a file, and so may `help`.
     (&["replay", "help", "check"], 3, "file help missing\n"),
     (&["audit", "bench", "audit"], 3, "file audit missing\n"),
@@ -41,7 +41,11 @@ const RUNS: [Run; 39] = [
     (&["audit", "bench", "trace", "--", "trace"], 2, USAGE),
     (&["audit", "bench", "trace", "trace", "-trace"], 2, USAGE),
     (&["", "bench"], 2, USAGE),
-    (&["serve", "bench"], 2, USAGE),
+    // A plant is served, and the net has no port for it.
+    (&["serve", "bench"], 8, "net fault\n"),
+    (&["serve"], 2, USAGE),
+    (&["serve", "bench", "-day"], 2, USAGE),
+    (&["serve", "bench", "day", "night"], 2, USAGE),
     (
         &["drill", "7", "2", "200"],
         0,
