@@ -20,3 +20,4 @@ pub mod DrainLemmas
 pub mod KeptLemmas
 pub mod StartLemmas
 pub mod BoundLemmas
+pub mod RootlessLemmas

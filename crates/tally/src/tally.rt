@@ -103,6 +103,11 @@ impl Tally {
             → steps.new ≤ steps.old
             + read_bound plant.now old graph.now.crosspoints roots changes.now }
     {
+        // Short way: without roots nothing is live.
+        if self.roots.is_empty() {
+            self.flipped.clear();
+            return;
+        }
         settle(
             plant,
             graph,

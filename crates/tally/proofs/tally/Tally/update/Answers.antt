@@ -1,5 +1,7 @@
-use Rattle.std.proofs.Common.{arith}
+use Rattle.std.proofs.Common.{sym, subst, arith}
 use Rattle.tally.specs.Marks.{is_lit}
+use Rattle.tally.specs.Kept.{AreFlipped}
+use Rattle.tally.proofs.RootlessLemmas.{rootless_settled, rootless_flips}
 use Rattle.tally.proofs.KeptLemmas.{turned_none, turned_below, same_settled, flipped_are}
 use Rattle.tally.proofs.tally.Tally.update.Goals as goal
 
@@ -44,3 +46,24 @@ pub returns-clause-counted : goal.returns-clause-counted
 returns-clause-counted g c = λ old roots stood.
     let update = rw (← c.self.view_is) at stood in
     c.settle.ensures.counted old roots (record { rooted = update.before.rooted; settled = update.before.settled; moved = update.moved })
+
+pub returns-then-is_empty-clause-kept : goal.returns-then-is_empty-clause-kept
+returns-then-is_empty-clause-kept g c = λ old roots stood.
+    let update = rw (← c.self.view_is) at stood in
+    let none = c.is_empty.ensures.0 c.if-is_empty.true in
+    record {
+      is_plant = update.before.is_plant;
+      rooted = update.before.rooted;
+      settled = rootless_settled c.args.plant.now roots c.self.inside.roots update.before.rooted none update.before.is_plant old c.args.graph.now.crosspoints c.self.inside.marks update.before.settled;
+      still = update.before.still;
+      idle = update.before.idle;
+      sure = update.before.sure;
+      many = omega (arith, update.before.many, c.clear.ensures.capacity);
+    }
+
+pub returns-then-is_empty-clause-flipped : goal.returns-then-is_empty-clause-flipped
+returns-then-is_empty-clause-flipped g c = λ old roots stood.
+    let update = rw (← c.self.view_is) at stood in
+    let none = c.is_empty.ensures.0 c.if-is_empty.true in
+    subst (AreFlipped c.args.plant.now old c.args.graph.now.crosspoints roots) (sym c.clear.ensures.items)
+    (rootless_flips c.args.plant.now roots c.self.inside.roots update.before.rooted none update.before.is_plant old c.args.graph.now.crosspoints c.self.inside.marks update.before.settled)
