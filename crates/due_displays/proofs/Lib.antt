@@ -1,0 +1,6 @@
+pub mod RowLemmas
+pub mod TableLemmas
+pub mod WatcherLemmas
+pub mod PositionLemmas
+pub mod DueLemmas
+pub mod BecomeLemmas

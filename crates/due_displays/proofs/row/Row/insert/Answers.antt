@@ -1,0 +1,11 @@
+use Rattle.std.proofs.lemmas.List.{get_or_read}
+use Rattle.std.specs.FinSet.{empty}
+use Rattle.std.proofs.Common.{◌/◌, ◌==◌, ◌||◌, length, ap, ◌∙◌, arith}
+use Rattle.due_displays.specs.Row.{Row, has_at}
+use Rattle.due_displays.proofs.RowLemmas.{inserted}
+use Rattle.due_displays.proofs.row.Row.insert.Goals as goal
+
+pub returns-clause-each : goal.returns-clause-each
+returns-clause-each c other =
+    inserted c.self.inside.sets.items c.args.position c.index_mut-set.result.now c.insert.new.self (omega (arith, c.requires, ap length c.self.view_is)) (get_or_read c.self.inside.sets.items (c.args.position / 1024) c.index_mut-set.result.now (omega (arith, c.requires, ap length c.self.view_is)) c.index_mut-set.ensures.value empty) c.insert.ensures other
+    ∙ ap (λ (row : Row). (other == c.args.position) || has_at row other) c.self.view_is
