@@ -27,3 +27,6 @@ pub mod ValueLemmas
 pub mod LampLemmas
 pub mod RefreshLemmas
 pub mod FinishedLemmas
+pub mod DueLemmas
+pub mod TurnLemmas
+pub mod DuePolls

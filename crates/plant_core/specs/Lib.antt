@@ -19,6 +19,7 @@ pub mod Protecting
 pub mod Salvos
 pub mod Displays
 pub mod DisplaysInside
+pub mod DueInside
 pub mod Step
 pub mod AnswerInside
 pub mod Laws

@@ -15,7 +15,9 @@ use Rattle.tally.specs.Update.{MovedOnly}
 use Rattle.tally.specs.Kept.{IsKeptFor}
 use Rattle.plant_core.specs.declared.tables.Tables.{Tables}
 use Rattle.plant_core.specs.declared.tallies.Tallies.{Tallies}
+use Rattle.due_displays.specs.Due.{Due}
 use Rattle.plant_core.specs.State.{State, IsValid}
+use Rattle.plant_core.specs.DueInside.{AreKeptDue}
 
 -- the state that its parts stand for
 abbrev pub state_of : PlantData → Points → Table ℕ → List Group → List Board → Shown → State
@@ -55,9 +57,11 @@ pub record HaveRoom (plant : PlantData) (points : Points) (owners : Table ℕ) :
   pub crosspoints : ArePointsOf plant points
   pub protects : owners.room ≡ destinations_of plant
 
--- A state is kept where it is valid, there is room for all destinations, and the tables beside it go with it.
+-- A state is kept where it is valid, there is room for all destinations, the tables beside it go with it, and each display
+-- that differs is due.
 pub record IsKept (state : State) (points : Points) (owners : Table ℕ) (tables : Tables)
-    : Type 0 where
+    (waiting : Due) : Type 0 where
   pub valid : IsValid state
   pub room : HaveRoom state.plant points owners
   pub beside : AreTablesOf state.plant state.crosspoints tables
+  pub due : AreKeptDue state.plant state.crosspoints state.shown waiting

@@ -10,6 +10,7 @@ ghost use Rattle.plant_core.specs.Connects.{source_wanted, change_of, are_permit
 ghost use Rattle.plant_core.specs.Step.{answered};
 ghost use Rattle.plant_core.specs.AnswerInside.{SaysJust};
 
+use crate::due::follow_changes;
 use crate::state::PlantState;
 use change_boards::Sort;
 use plant_config::{Change, DestId, PanelNo, SourceId};
@@ -119,6 +120,14 @@ impl PlantState {
         let changes = slice::from_ref(change);
         self.tables
             .make(&self.plant, &mut self.crosspoints, planned, changes);
+        let tallies = &self.tables.tallies;
+        follow_changes(
+            &mut self.due,
+            &self.plant,
+            &self.crosspoints,
+            tallies,
+            changes,
+        );
     }
 }
 

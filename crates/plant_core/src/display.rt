@@ -1,17 +1,19 @@
 //! Display polls: the displays of a screen that differ are shown their values.
 
-ghost use Rattle.std.specs.Prelude.{◌≡◌, ◌<◌, ◌≤◌, nat_eq, true, if◌then◌else◌};
+ghost use Rattle.std.specs.Prelude.{◌≡◌, ◌<◌, ◌≤◌, true, if◌then◌else◌};
 ghost use Rattle.std.specs.Prelude.{[], ◌∷◌, ◌++◌, length};
-ghost use Rattle.std.specs.List.{IsDistinct, list_any, range_with_len};
+ghost use Rattle.std.specs.List.{list_any, range_with_len};
 ghost use Rattle.plant_config.specs.Screens.{has_screen};
+ghost use Rattle.change_boards.specs.Screens.{displays_of};
 ghost use Rattle.change_boards.specs.Shown.{differs as is_news, with_shown};
 ghost use Rattle.plant_core.specs.declared.answer.Answer.TheVariants.{Lamp};
 ghost use Rattle.plant_core.specs.State.{IsValid};
 ghost use Rattle.plant_core.specs.StateInside.{AreTalliesOf};
+ghost use Rattle.plant_core.specs.DueInside.{AreKeptDue};
 ghost use Rattle.plant_core.specs.Displays.{lamp_limit, display_value, differs};
 ghost use Rattle.plant_core.specs.Displays.{value_in, shown_all, lamps_of};
 ghost use Rattle.plant_core.specs.Displays.{refreshed, is_finished, display_polled};
-ghost use Rattle.plant_core.specs.DisplaysInside.{CarrySources, first_differing, AreBelow};
+ghost use Rattle.plant_core.specs.DisplaysInside.{CarrySources, first_differing};
 ghost use Rattle.plant_core.specs.DisplaysInside.{lit_first};
 ghost use Rattle.plant_core.specs.Answer.{room_of};
 
@@ -20,6 +22,7 @@ use crate::state::PlantState;
 use crate::tallies::Tallies;
 use change_boards::{Shown, Value};
 use crosspoint_state::Crosspoints;
+use due_displays::DueDisplays;
 use history_lock::OutBox;
 use plant_config::{DestId, DisplayId, Plant};
 
@@ -92,13 +95,22 @@ impl Picture<'_> {
         }
     }
 
-    // Shows displays that differ their values, the first 64 of these, and answers a lamp for each.
-    fn show_first(&self, displays: &[DisplayId], shown: &mut Shown, out: &mut OutBox<Answer>)
+    // Shows the displays of a screen that differ their values, the first 64 of these, and answers a lamp for each. It looks at
+    // those that are due, and those that it has looked at aren't any more.
+    fn show_first(
+        &self,
+        screen: u16,
+        displays: &[DisplayId],
+        shown: &mut Shown,
+        due: &mut DueDisplays,
+        out: &mut OutBox<Answer>,
+    )
         requires found { AreTalliesOf self.now.plant.now self.now.points.now.entries
             self.now.tallies.now }
         requires carried { CarrySources self.now.plant.now self.now.points.now.entries }
-        requires below { AreBelow (length self.now.plant.now.displays) displays.now }
-        requires once { IsDistinct nat_eq displays.now }
+        requires displays { displays.now ≡ displays_of self.now.plant.now screen }
+        requires due { AreKeptDue self.now.plant.now self.now.points.now.entries shown.old
+            due.old }
         requires count { length shown.old ≡ length self.now.plant.now.displays }
         requires empty { out.old.items ≡ [] }
         requires places { lamp_limit ≤ out.old.places }
@@ -107,13 +119,20 @@ impl Picture<'_> {
             shown.old }
         ensures answers { let values = value_in self.now.plant.now self.now.points.now.entries in
             out.new.items ≡ lamps_of values (first_differing values shown.old displays.now) }
+        ensures due { AreKeptDue self.now.plant.now self.now.points.now.entries shown.new
+            due.new }
         ensures places { out.new.places ≡ out.old.places }
     {
-        for display in displays {
+        for _turn in 0..displays.len() {
             if out.items().len() == LAMP_LIMIT {
                 return;
             }
-            self.show(*display, shown, out);
+            let Some(position) = due.first(screen) else {
+                return;
+            };
+            let display = displays[position];
+            self.show(display, shown, out);
+            due.remove(self.plant, display);
         }
     }
 }
@@ -157,7 +176,9 @@ impl PlantState {
         ensures valid { IsValid self.old }
     {
         if refresh {
-            self.shown.forget(self.tables.screens.displays(screen));
+            let displays = self.tables.screens.displays(screen);
+            self.shown.forget(displays);
+            self.due.add_all(&self.plant, displays);
         }
     }
 
@@ -174,7 +195,8 @@ impl PlantState {
             points: &self.crosspoints,
             tallies: &self.tables.tallies,
         };
-        picture.show_first(self.tables.screens.displays(screen), &mut self.shown, out);
+        let displays = self.tables.screens.displays(screen);
+        picture.show_first(screen, displays, &mut self.shown, &mut self.due, out);
     }
 
     // Whether all panels have left and no display of any screen differs.
@@ -189,6 +211,10 @@ impl PlantState {
         ensures { result ≡ list_any (differs self.now)
             (range_with_len 0 (length self.now.plant.displays)) }
     {
+        // Short way: where no display is due, none differs.
+        if self.due.is_empty() {
+            return false;
+        }
         for number in 0..self.plant.displays().len() as u32 {
             if self.differs(DisplayId::of(number)) {
                 return true;

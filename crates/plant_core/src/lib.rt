@@ -7,6 +7,7 @@ mod answer;
 mod connect;
 mod display;
 mod display_laws;
+mod due;
 mod dump;
 mod hear;
 mod history_laws;

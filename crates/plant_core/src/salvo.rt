@@ -17,6 +17,7 @@ ghost use Rattle.plant_core.specs.Step.{answered};
 ghost use Rattle.plant_core.specs.AnswerInside.{SaysJust, SaysAtMost};
 
 use crate::connect::are_permitted;
+use crate::due::follow_changes;
 use crate::notify::notify_moved;
 use crate::place::message_place;
 use crate::state::PlantState;
@@ -136,6 +137,14 @@ impl PlantState {
         notify_moved(&mut self.notices, panels, &self.crosspoints, entries);
         self.tables
             .make(&self.plant, &mut self.crosspoints, planned, entries);
+        let tallies = &self.tables.tallies;
+        follow_changes(
+            &mut self.due,
+            &self.plant,
+            &self.crosspoints,
+            tallies,
+            entries,
+        );
         self.groups.clear(salvo);
     }
 

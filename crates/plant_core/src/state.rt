@@ -21,6 +21,7 @@ use crate::request::Request;
 use crate::tables::Tables;
 use change_boards::{Notices, Shown};
 use crosspoint_state::Crosspoints;
+use due_displays::DueDisplays;
 use history_lock::OutBox;
 use plant_config::{DestId, PanelNo, Plant, SourceId, TieNo};
 use protects::Protects;
@@ -39,8 +40,9 @@ pub struct PlantState {
     pub(crate) groups: Groups,
     pub(crate) notices: Notices,
     pub(crate) shown: Shown,
-    // Behind one pointer: a state is moved and let go in few steps.
+    // Behind pointers: a state is moved and let go in few steps.
     pub(crate) tables: Box<Tables>,
+    pub(crate) due: Box<DueDisplays>,
 }
 
 impl Model for PlantState {
@@ -69,7 +71,7 @@ impl Model for PlantState {
 
     ghost invariant = { λ state. IsKept (state_of state.plant state.crosspoints state.protects
         state.groups state.notices state.shown) state.crosspoints state.protects
-        state.tables.value };
+        state.tables.value state.due.value };
 }
 
 impl PlantState {
@@ -85,6 +87,7 @@ impl PlantState {
         let notices = Notices::new(alloc, plant)?;
         let shown = Shown::new(alloc, plant)?;
         let tables = Box::new(alloc, Tables::new(alloc, plant)?)?;
+        let due = Box::new(alloc, DueDisplays::new(alloc, plant, &tables.screens)?)?;
         let plant = plant.copy(alloc)?;
         Ok(PlantState {
             plant,
@@ -94,6 +97,7 @@ impl PlantState {
             notices,
             shown,
             tables,
+            due,
         })
     }
 

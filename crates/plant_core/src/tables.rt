@@ -9,6 +9,7 @@ ghost use Rattle.crosspoint_state.specs.Ties.{HaveValidTies};
 ghost use Rattle.crosspoint_state.specs.Applied.{applied, are_enough};
 ghost use Rattle.plant_core.specs.State.{AreCrosspoints, IsChangeOf};
 ghost use Rattle.plant_core.specs.StateInside.{AreTablesOf};
+ghost use Rattle.plant_core.specs.DueInside.{HaveTurned};
 
 use crate::tallies::Tallies;
 use change_boards::Screens;
@@ -65,6 +66,8 @@ impl Tables {
         ensures made { points.new.entries ≡ applied plant.now points.old.entries changes.now }
         ensures kept { ArePointsOf plant.now points.new }
         ensures tables { AreTablesOf plant.now points.new.entries self.new }
+        ensures turned { HaveTurned plant.now points.old.entries points.new.entries changes.now
+            self.new.tallies }
     {
         self.ties.commit(plant, points, planned, changes);
         let graph = Graph::new(&self.mixers, points);

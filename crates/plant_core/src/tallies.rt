@@ -9,7 +9,9 @@ ghost use Rattle.crosspoint_state.specs.Taps.{AreTapsOf};
 ghost use Rattle.mixer_effects.specs.Wiring.{IsWiringOf};
 ghost use Rattle.tally.specs.Tally.{roots_of};
 ghost use Rattle.tally.specs.Kept.{IsKeptFor};
+ghost use Rattle.tally.specs.Update.{MovedOnly};
 ghost use Rattle.plant_core.specs.StateInside.{AreTalliesOf, WereTallies};
+ghost use Rattle.plant_core.specs.DueInside.{HaveTurned};
 
 use mixer_effects::Graph;
 use plant_config::{Change, Plant};
@@ -44,7 +46,10 @@ impl Tallies {
         requires tapped { AreTapsOf plant.now graph.now.crosspoints graph.now.taps }
         requires dests { All (λ change. IsDest plant.now change.dest) changes.now }
         requires before { WereTallies plant.now graph.now.crosspoints changes.now self.old }
-        ensures { AreTalliesOf plant.now graph.now.crosspoints self.new }
+        ensures kept { AreTalliesOf plant.now graph.now.crosspoints self.new }
+        ensures turned { (old : carried.Crosspoints) → AreTalliesOf plant.now old self.old
+            → MovedOnly old graph.now.crosspoints changes.now
+            → HaveTurned plant.now old graph.now.crosspoints changes.now self.new }
     {
         self.follow_counted::<Brand>(plant, graph, changes, Blank::new(1));
     }
@@ -65,7 +70,10 @@ impl Tallies {
         requires tapped { AreTapsOf plant.now graph.now.crosspoints graph.now.taps }
         requires dests { All (λ change. IsDest plant.now change.dest) changes.now }
         requires before { WereTallies plant.now graph.now.crosspoints changes.now self.old }
-        ensures { AreTalliesOf plant.now graph.now.crosspoints self.new }
+        ensures kept { AreTalliesOf plant.now graph.now.crosspoints self.new }
+        ensures turned { (old : carried.Crosspoints) → AreTalliesOf plant.now old self.old
+            → MovedOnly old graph.now.crosspoints changes.now
+            → HaveTurned plant.now old graph.now.crosspoints changes.now self.new }
     {
         let (book, share) = blank.open::<L>();
         let mut steps = Steps::begin(book, share);

@@ -9,4 +9,5 @@ invariant_of-self c =
       valid = rw c.notify_others.ensures (IsValid-others (state_of c.self.inside.plant c.self.inside.crosspoints c.self.inside.protects c.self.inside.groups c.self.inside.notices c.self.inside.shown) c.args.asker c.args.dest c.args.sort within c.self.invariant.valid);
       room = c.self.invariant.room;
       beside = c.self.invariant.beside;
+      due = c.self.invariant.due;
     }

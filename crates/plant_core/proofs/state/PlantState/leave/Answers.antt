@@ -8,4 +8,5 @@ invariant_of-self c =
       valid = rw c.drop_panel.ensures (IsValid-leave (state_of c.self.inside.plant c.self.inside.crosspoints c.self.inside.protects c.self.inside.groups c.self.inside.notices c.self.inside.shown) c.args.panel c.self.invariant.valid);
       room = c.self.invariant.room;
       beside = c.self.invariant.beside;
+      due = c.self.invariant.due;
     }

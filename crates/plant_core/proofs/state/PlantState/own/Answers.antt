@@ -10,4 +10,5 @@ invariant_of-self c =
       valid = rw c.take.ensures.owners (IsValid-owners (state_of c.self.inside.plant c.self.inside.crosspoints c.self.inside.protects c.self.inside.groups c.self.inside.notices c.self.inside.shown) _ c.self.invariant.valid (AreOwners-taken c.self.inside.plant c.self.inside.protects.entries c.args.device c.args.dest within c.requires.device c.self.invariant.valid.owners));
       room = record { crosspoints = c.self.invariant.room.crosspoints; protects = c.take.ensures.room ∙ c.self.invariant.room.protects };
       beside = c.self.invariant.beside;
+      due = c.self.invariant.due;
     }

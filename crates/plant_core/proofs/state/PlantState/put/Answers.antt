@@ -9,4 +9,5 @@ invariant_of-self c =
       valid = rw c.store.ensures.groups (IsValid-store (state_of c.self.inside.plant c.self.inside.crosspoints c.self.inside.protects c.self.inside.groups c.self.inside.notices c.self.inside.shown) c.args.salvo c.args.change c.self.invariant.valid is);
       room = c.self.invariant.room;
       beside = c.self.invariant.beside;
+      due = c.self.invariant.due;
     }

@@ -1,6 +1,7 @@
 use Rattle.std.proofs.Common.{sym, ap, ◌∙◌}
 use Rattle.plant_config.specs.Plant.{destinations_of}
 use Rattle.plant_core.proofs.Validity.{IsValid-start}
+use Rattle.plant_core.proofs.DuePolls.{kept_start}
 use Rattle.plant_core.proofs.state.PlantState.start.Goals as goal
 
 pub invariant_of-result : goal.invariant_of-result
@@ -11,4 +12,5 @@ invariant_of-result c = record {
     protects = c.in_ok-protects.ensures.room ∙ c.destination_count-destinations.ensures.count ∙ ap destinations_of (sym c.in_ok-plant.ensures.equal);
   };
   beside = rw (c.in_ok-crosspoints.ensures.parked, c.in_ok-plant.ensures.equal, c.in_ok-tables.ensures.ok) c.in_ok-new.ensures;
+  due = rw (c.in_ok-plant.ensures.equal, c.in_ok-due.ensures.ok) (kept_start c.args.plant.now _ _ _ c.in_ok-new-2.ensures.kept c.in_ok-new-2.ensures.all);
 }

@@ -12,6 +12,7 @@ invariant_of-self c =
       valid = rw c.take_lowest.ensures.taken (IsValid-take (state_of c.self.inside.plant c.self.inside.crosspoints c.self.inside.protects c.self.inside.groups c.self.inside.notices c.self.inside.shown) c.args.panel c.self.invariant.valid);
       room = c.self.invariant.room;
       beside = c.self.invariant.beside;
+      due = c.self.invariant.due;
     }
 
 pub returns-clause-dest : goal.returns-clause-dest

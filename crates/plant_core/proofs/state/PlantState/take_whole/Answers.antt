@@ -1,16 +1,26 @@
+use Rattle.std.proofs.Common.{sym, subst}
+use Rattle.due_displays.specs.Due.{Due, AreDueOf}
+use Rattle.plant_core.specs.declared.tables.Tables.{Tables}
 use Rattle.plant_core.specs.StateInside.{state_of}
+use Rattle.plant_core.specs.DueInside.{HaveTurned, FollowValues}
 use Rattle.plant_core.proofs.StepValidity.{IsValid-taken_whole}
+use Rattle.plant_core.proofs.TurnLemmas.{kept_followed}
 use Rattle.plant_core.proofs.state.PlantState.take_whole.Goals as goal
 
 pub invariant_of-self : goal.invariant_of-self
 invariant_of-self c =
     let enough = rw (← c.self.view_is) at c.requires.enough in
+    let turned : HaveTurned c.self.inside.plant c.self.inside.crosspoints.entries c.make.new.points.entries c.entries-entries.result.now c.deref.result.now.tallies =
+    subst (λ (tables : Tables). HaveTurned c.self.inside.plant c.self.inside.crosspoints.entries c.make.new.points.entries c.entries-entries.result.now tables.tallies) (sym c.deref.ensures) c.make.ensures.turned in
+    let follow : FollowValues c.self.inside.plant c.self.inside.crosspoints.entries c.make.new.points.entries c.self.inside.due.value c.follow_changes.new.due =
+    subst (λ (due : Due). FollowValues c.self.inside.plant c.self.inside.crosspoints.entries c.make.new.points.entries due c.follow_changes.new.due) c.deref_mut-2.ensures.value (c.follow_changes.ensures c.self.inside.crosspoints.entries turned) in
     record {
       valid =
           rw (c.clear.ensures, c.make.ensures.made, c.notify_moved.ensures, c.entries-entries.ensures.entries)
           (IsValid-taken_whole (state_of c.self.inside.plant c.self.inside.crosspoints c.self.inside.protects c.self.inside.groups c.self.inside.notices c.self.inside.shown) c.args.salvo c.self.invariant.valid enough);
       room = record { crosspoints = c.make.ensures.kept; protects = c.self.invariant.room.protects };
       beside = c.make.ensures.tables;
+      due = kept_followed c.self.inside.plant c.self.inside.crosspoints.entries c.make.new.points.entries c.self.inside.shown c.self.inside.due.value c.follow_changes.new.due follow c.self.invariant.due;
     }
 
 pub make-requires : goal.make-requires
@@ -26,3 +36,9 @@ make-requires c =
       once = c.entries-entries.ensures.group.distinct;
       enough = rw c.entries-entries.ensures.entries enough;
     }
+
+pub follow_changes-requires : goal.follow_changes-requires
+follow_changes-requires c = record {
+  due = subst (AreDueOf c.self.inside.plant) (sym c.deref_mut-2.ensures.value) c.self.invariant.due.tables;
+  tapped = c.make.ensures.kept.tapped;
+}

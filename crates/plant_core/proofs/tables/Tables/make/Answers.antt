@@ -4,6 +4,7 @@ use Rattle.crosspoint_state.specs.Taps.{AreTapsOf}
 use Rattle.tap_lists.specs.Lists.{Lists}
 use Rattle.mixer_effects.specs.Wiring.{IsWiringOf}
 use Rattle.plant_core.specs.StateInside.{AreTalliesOf}
+use Rattle.plant_core.specs.DueInside.{HaveTurned}
 use Rattle.plant_core.proofs.Changes.{moved-applied}
 use Rattle.plant_core.proofs.tables.Tables.make.Goals as goal
 
@@ -35,6 +36,12 @@ pub returns-clause-tables : goal.returns-clause-tables
 returns-clause-tables c = record {
   counted = c.commit.ensures.counts;
   wired = c.requires.tables.wired;
-  tallied = subst (λ (points : Crosspoints). AreTalliesOf c.args.plant.now points c.follow.new.self) c.new-graph.ensures.crosspoints c.follow.ensures;
+  tallied = subst (λ (points : Crosspoints). AreTalliesOf c.args.plant.now points c.follow.new.self) c.new-graph.ensures.crosspoints c.follow.ensures.kept;
   screened = c.requires.tables.screened;
 }
+
+pub returns-clause-turned : goal.returns-clause-turned
+returns-clause-turned c =
+    let moved = moved-applied c.args.plant.now c.args.points.now.entries _ c.args.changes.now (c.new-graph.ensures.crosspoints ∙ c.commit.ensures.made) in
+    subst (λ (points : Crosspoints). HaveTurned c.args.plant.now c.args.points.now.entries points c.args.changes.now c.follow.new.self) c.new-graph.ensures.crosspoints
+    (c.follow.ensures.turned c.args.points.now.entries c.requires.tables.tallied moved)
