@@ -2,6 +2,7 @@
 
 mod of_change_boards;
 mod of_crosspoint_state;
+mod of_due_displays;
 mod of_mixer_effects;
 mod of_plant_config;
 mod of_plant_core;
