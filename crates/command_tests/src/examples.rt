@@ -1,3 +1,4 @@
-//! One short use of the commands, which their PROMISES.md shows word for word.
+//! One short use of each crate, which its PROMISES.md shows word for word.
 
+mod of_command_words;
 mod of_commands;

@@ -1,5 +1,5 @@
-//! The tests of the commands, over files and an output in memory, with one example of their use in `examples`.
-//! They use what `commands` gives to all, and stand above it, so that it is proved once.
+//! The tests of the commands, over files and an output in memory, with an example of each crate in `examples`.
+//! They use what `command_words` and `commands` give to all, and stand above them, so that each is proved once.
 #![tactic(auto)]
 
 #[cfg(test)]

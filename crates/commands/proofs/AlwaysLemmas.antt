@@ -11,7 +11,7 @@ use Rattle.record_replay.specs.Laws.{work_of}
 use Rattle.record_replay.proofs.IsReplayLemmas.{none_bad}
 use Rattle.commands.specs.World.{World, FilesUntouched}
 use Rattle.commands.specs.End.{End, Done, NoMemory, Usage, FileMissing, FileFault, PlantRefused, PlantTooLong, LineRefused, ScriptTooLong, Audited, TraceTooLong, status_of, is_file_fault}
-use Rattle.commands.specs.Words.{Command, Check, Replay, plant_word, Ask}
+use Rattle.command_words.specs.Words.{Command, Check, Replay, plant_word, Ask}
 use Rattle.commands.specs.OpensPlant.{longest_plant, is_bench, OpensBench, OpensFile, OpensPlant, next_opening}
 use Rattle.commands.specs.Check.{CheckEnds}
 use Rattle.commands.specs.Replay.{IfFits, ReplayEnds}
@@ -20,7 +20,7 @@ use Rattle.commands.specs.Run.{RunEnds}
 use Rattle.commands.specs.Outcomes.{IsRefusedPlant, IsAccepted, IsRefused, WasKept}
 use Rattle.commands.proofs.AskedLemmas.{same_word, same_name, no_check, no_audit, no_replay, opened_of}
 use Rattle.commands.proofs.CauseLemmas.{Cause, Came, at_words, at_plant, in_check, in_replay, in_audit, came, asked_end, status_or_7}
-use Rattle.commands.proofs.WordsLemmas.{same_command}
+use Rattle.command_words.proofs.WordsLemmas.{same_command}
 
 -- Of the end of a run: that it has this status, or that the run was kept from another end.
 abbrev pub IsOrKept : ℕ → World → World → End → Type 0

@@ -7,7 +7,7 @@ use Rattle.plant_config.specs.Plant.{PlantData}
 use Rattle.commands.specs.declared.stop.Stop.{Stop}
 use Rattle.commands.specs.World.{World, Snapshot, snapshot}
 use Rattle.commands.specs.End.{End, Done, NoMemory, Usage, FileMissing, FileFault, PlantRefused, PlantTooLong, LineRefused, ScriptTooLong, Audited, TraceTooLong, status_of}
-use Rattle.commands.specs.Words.{Command, Check, Replay, Audit, plant_word, other_files, Ask}
+use Rattle.command_words.specs.Words.{Command, Check, Replay, Audit, plant_word, other_files, Ask}
 use Rattle.commands.specs.OpensPlant.{next_opening, opened_for}
 use Rattle.commands.specs.Check.{CheckEnds}
 use Rattle.commands.specs.Replay.{ReplayEnds}

@@ -11,7 +11,7 @@ use Rattle.trace_audit.specs.Laws.{AreLinesOf, HistoriesAreConfirmed, TracesHave
 use Rattle.trace_audit.specs.declared.verdict.Verdict.TheVariants.{Confirmed}
 use Rattle.trace_audit.specs.Verdict.{IsVerdict}
 use Rattle.drill.specs.Stream.{bad_among, good_among}
-use Rattle.commands.specs.declared.drill_command.Drill.{Drill}
+use Rattle.command_words.specs.declared.drill_words.Drill.{Drill}
 use Rattle.commands.specs.declared.stop.Stop.{Stop}
 use Rattle.commands.specs.declared.stop.Stop.TheVariants as stops
 use Rattle.commands.specs.End.{Done, NoMemory}

@@ -6,7 +6,7 @@ use Rattle.ctl_io.specs.WholeFile.{FileReading, Missing, Failed}
 use Rattle.commands.specs.World.{World, snapshot}
 use Rattle.commands.specs.End.{End, Done, NoMemory, Usage, FileMissing, FileFault, PlantRefused, PlantTooLong, LineRefused, ScriptTooLong, Audited, TraceTooLong, is_file_fault, status_of, end_text}
 use Rattle.commands.specs.Lines.{file_missing, file_fault}
-use Rattle.commands.specs.Words.{Command, plant_word, other_files, Ask}
+use Rattle.command_words.specs.Words.{Command, plant_word, other_files, Ask}
 use Rattle.commands.specs.OpensPlant.{opened_for}
 use Rattle.commands.specs.Run.{EndsReading, IsWritten, RunEnds}
 use Rattle.commands.specs.Outcomes.{StopsAtFile, WasMissing, HadFileFault}

@@ -8,7 +8,7 @@ use Rattle.ctl_io.specs.Held.{Held, Stays}
 use Rattle.ctl_io.specs.WholeFile.{FileReading, Well, Missing, Failed, CameBack, GivenBack}
 use Rattle.commands.specs.World.{World, Snapshot, snapshot}
 use Rattle.commands.specs.End.{End, Done, NoMemory, Usage, FileMissing, FileFault, PlantRefused, PlantTooLong, LineRefused, ScriptTooLong, Audited, TraceTooLong, status_of, is_file_fault}
-use Rattle.commands.specs.Words.{Command, plant_word, other_files, Ask}
+use Rattle.command_words.specs.Words.{Command, plant_word, other_files, Ask}
 use Rattle.commands.specs.OpensPlant.{is_bench, opened_for, files_of}
 use Rattle.commands.specs.Asked.{AskFile, NamesFile}
 use Rattle.commands.specs.Run.{ReadsFile, ReadsWell, LeavesFiles, RunEnds}

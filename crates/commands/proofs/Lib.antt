@@ -1,12 +1,6 @@
 pub mod VerdictLemmas
 pub mod StopLemmas
-pub mod GetterLemmas
-pub mod FormLemmas
-pub mod DashLemmas
-pub mod ClapLemmas
 pub mod OpensLemmas
-pub mod NamesLemmas
-pub mod WordsLemmas
 pub mod TraceFilesLemmas
 pub mod CheckLemmas
 pub mod CommandLemmas
@@ -25,10 +19,8 @@ pub mod TracesLemmas
 pub mod RunEndsLemmas
 pub mod FilesLemmas
 pub mod FilesLeftLemmas
-pub mod DrillWordsLemmas
 pub mod DrillLemmas
 pub mod TraceSinkLemmas
-pub mod ServiceWordsLemmas
 pub mod ServeLemmas
 pub mod ServiceEndLemmas
 pub mod ProgramLemmas

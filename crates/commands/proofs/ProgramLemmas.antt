@@ -5,24 +5,24 @@ use Rattle.ctl_io.specs.Sink.{appended}
 use Rattle.std.specs.Prelude.{option_map}
 use Rattle.std.proofs.lemmas.Bool.{false≢true}
 use Rattle.panel_server.specs.PlantServed.{NetData}
-use Rattle.commands.specs.declared.serve.Service as code
-use Rattle.commands.specs.declared.drill_command.Drill.{Drill}
+use Rattle.command_words.specs.declared.service_words.Service as code
+use Rattle.command_words.specs.declared.drill_words.Drill.{Drill}
 use Rattle.commands.specs.declared.stop.Stop.{Stop}
 use Rattle.commands.specs.World.{World, FilesUntouched}
-use Rattle.commands.specs.Words.{SaysNumber, AskDrill, Service, AskService}
+use Rattle.command_words.specs.Words.{SaysNumber, AskDrill, Service, AskService}
 use Rattle.commands.specs.Lines.{no_memory}
 use Rattle.commands.specs.End.{End, Done, NoMemory, status_of, end_text}
 use Rattle.commands.specs.Drill.{DrillEnds}
 use Rattle.commands.specs.Run.{IsWritten, RunEnds}
 use Rattle.commands.specs.Serve.{serve_status, serve_text}
-use Rattle.commands.specs.ServeInside.{service_of}
+use Rattle.command_words.specs.Read.{service_of}
 use Rattle.commands.specs.Program.{DrillRunEnds, ProgramEnds}
 use Rattle.commands.specs.Statuses.{IsKnown}
 use Rattle.commands.specs.ProgramStatuses.{WasDrilled, OthersRunQuietly, OthersLeaveNet, ZeroHasDrilled, OneSaysNoMemory, DrillEndsWithZero, DrillsLeaveFiles, ProgramTwoTellsUsage, NoProgramFormEndsWithTwo, ProgramSevenHasCause, ProgramOthersWriteAll}
 use Rattle.commands.specs.StopInside.{stopped_by_output, StopsFor, Reports}
 use Rattle.commands.proofs.CauseLemmas.{is_written, status_or_7, written-unless-7}
-use Rattle.commands.proofs.DrillWordsLemmas.{ask_only}
-use Rattle.commands.proofs.ServiceWordsLemmas.{counted}
+use Rattle.command_words.proofs.DrillWordsLemmas.{ask_only}
+use Rattle.command_words.proofs.ServiceWordsLemmas.{counted}
 use Rattle.commands.proofs.ServiceEndLemmas.{service_statuses, status_so}
 use Rattle.commands.proofs.RunEndsLemmas.{eight_statuses, output_cause, output_others}
 use Rattle.commands.proofs.StatusesLemmas.{usage_no_form, usage_line, usage_always}

@@ -6,7 +6,7 @@ use Rattle.trace_audit.specs.declared.verdict.Verdict.TheVariants.{Confirmed, Ba
 use Rattle.commands.specs.World.{World}
 use Rattle.commands.specs.End.{End, Done, NoMemory, Usage, FileMissing, FileFault, PlantRefused, PlantTooLong, LineRefused, ScriptTooLong, Audited, TraceTooLong, status_of, end_text}
 use Rattle.commands.specs.Lines.{line_refused, script_too_long, trace_too_long}
-use Rattle.commands.specs.Words.{plant_word}
+use Rattle.command_words.specs.Words.{plant_word}
 use Rattle.commands.specs.Run.{IsWritten, RunEnds}
 use Rattle.commands.specs.Outcomes.{RefusedLine, RefusedLength, WereAudited, RefusedTraces}
 use Rattle.commands.proofs.OpensLemmas.{if_held}

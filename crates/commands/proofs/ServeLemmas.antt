@@ -22,7 +22,7 @@ use Rattle.panel_server.specs.declared.plant.ServeFault.{ServeFault}
 use Rattle.commands.specs.declared.stop.Stop.{Stop}
 use Rattle.commands.specs.declared.stop.Stop.TheVariants as stops
 use Rattle.commands.specs.World.{World, Snapshot, snapshot}
-use Rattle.commands.specs.Words.{Service, texts}
+use Rattle.command_words.specs.Words.{Service, texts}
 use Rattle.commands.specs.Lines.{file_fault}
 use Rattle.commands.specs.End.{NoMemory, FileFault}
 use Rattle.commands.specs.Traces.{trace_names, panel_trace, MakesFiles, AreAsMade, FailsAt, TakesAllBack}
@@ -31,7 +31,7 @@ use Rattle.commands.specs.Serve.{IsNewTrace, HaveNames, EndsServed, PlantService
 use Rattle.commands.specs.ServeInside.{ServiceStops, StopsUnserved, Tells}
 use Rattle.commands.specs.StopInside.{stopped_by_output, Says, Reports, OpensAs, Opens}
 use Rattle.commands.specs.Program.{ServiceRunEnds}
-use Rattle.commands.proofs.NamesLemmas.{text-at}
+use Rattle.command_words.proofs.NamesLemmas.{text-at}
 use Rattle.commands.proofs.StopLemmas.{says-front, output_of, is_output}
 
 -- a shorter front is one of a longer text too

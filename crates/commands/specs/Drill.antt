@@ -9,7 +9,7 @@ use Rattle.trace_audit.specs.Laws.{AreLinesOf, IsTraceable}
 use Rattle.trace_audit.specs.Verdict.{IsVerdict}
 use Rattle.drill.specs.Drilled.{FitsItsStream, share_of, stream_tells, told_by}
 use Rattle.drill.specs.Stream.{bad_among, good_among}
-use Rattle.commands.specs.declared.drill_command.Drill.{Drill}
+use Rattle.command_words.specs.declared.drill_words.Drill.{Drill}
 use Rattle.commands.specs.Lines.{line}
 use Rattle.commands.specs.End.{End, Done, NoMemory}
 

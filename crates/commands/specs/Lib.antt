@@ -1,5 +1,4 @@
 pub mod World
-pub mod Words
 pub mod Lines
 pub mod End
 pub mod OpensPlant
@@ -17,7 +16,6 @@ pub mod History
 pub mod Statuses
 pub mod ProgramStatuses
 pub mod StopInside
-pub mod WordsInside
 pub mod AuditInside
 pub mod DrillInside
 pub mod ServeInside

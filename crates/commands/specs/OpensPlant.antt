@@ -5,7 +5,7 @@ use Rattle.plant_file.specs.declared.fault.PlantFault.{PlantFault}
 use Rattle.plant_config.specs.Plant.{PlantData}
 use Rattle.plant_config.specs.Bench.{bench}
 use Rattle.plant_config.specs.PlantOfText.{plant_of_text}
-use Rattle.commands.specs.Words.{Command, plant_word, other_files}
+use Rattle.command_words.specs.Words.{Command, plant_word, other_files}
 use Rattle.commands.specs.End.{End, NoMemory, FileMissing, FileFault, PlantRefused, PlantTooLong}
 
 -- the most bytes of a plant file, 4 MiB

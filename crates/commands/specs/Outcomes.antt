@@ -15,7 +15,7 @@ use Rattle.trace_audit.specs.declared.verdict.Verdict.TheVariants.{Confirmed, Ba
 use Rattle.commands.specs.World.{World, snapshot, FilesUntouched}
 use Rattle.commands.specs.Lines.{no_memory, file_missing, file_fault, plant_refused, plant_too_long, line_refused, script_too_long, trace_too_long}
 use Rattle.commands.specs.End.{verdict_line}
-use Rattle.commands.specs.Words.{Command, plant_word, Ask}
+use Rattle.command_words.specs.Words.{Command, plant_word, Ask}
 use Rattle.commands.specs.OpensPlant.{longest_plant, Reads, files_of}
 use Rattle.commands.specs.Check.{check_text}
 use Rattle.commands.specs.Replay.{longest_script}

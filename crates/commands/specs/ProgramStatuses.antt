@@ -3,9 +3,9 @@ use Rattle.std.specs.Prelude.{◌≡◌, ◌≢◌, ◌⊎◌, ℕ, List, ◌++�
 use Rattle.ctl_io.specs.Faults.{Rose, one_more}
 use Rattle.ctl_io.specs.Sink.{appended}
 use Rattle.panel_server.specs.PlantServed.{NetData}
-use Rattle.commands.specs.declared.drill_command.Drill.{Drill}
+use Rattle.command_words.specs.declared.drill_words.Drill.{Drill}
 use Rattle.commands.specs.World.{World, snapshot, FilesUntouched}
-use Rattle.commands.specs.Words.{Service, HasNoForm, AskDrill, AskNoDrill, AskService, AskNoService}
+use Rattle.command_words.specs.Words.{Service, HasNoForm, AskDrill, AskNoDrill, AskService, AskNoService}
 use Rattle.commands.specs.Lines.{net_fault, no_memory, served_lines, usage}
 use Rattle.commands.specs.Drill.{drill_text, IsTraceOf}
 use Rattle.commands.specs.Run.{RunEnds}

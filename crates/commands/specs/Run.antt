@@ -8,7 +8,7 @@ use Rattle.plant_config.specs.Plant.{PlantData}
 use Rattle.commands.specs.World.{World, Snapshot, snapshot, FilesUntouched}
 use Rattle.commands.specs.Lines.{no_memory}
 use Rattle.commands.specs.End.{End, NoMemory, Usage, FileMissing, FileFault, status_of, unwritten_status, end_text, is_file_fault}
-use Rattle.commands.specs.Words.{Command, Check, Replay, Audit, plant_word, other_files, Ask, AskCommand, HasNoForm}
+use Rattle.command_words.specs.Words.{Command, Check, Replay, Audit, plant_word, other_files, Ask, AskCommand, HasNoForm}
 use Rattle.commands.specs.OpensPlant.{OpensPlant, ThenEnds, next_opening, opened_for}
 use Rattle.commands.specs.Check.{CheckEnds}
 use Rattle.commands.specs.Replay.{ReplayEnds}

@@ -11,7 +11,7 @@ use Rattle.panel_server.specs.declared.plant.PlantDone.{PlantDone}
 use Rattle.panel_server.specs.declared.plant.ServeFault.{ServeFault}
 use Rattle.panel_server.specs.declared.plant.ServeFault.TheVariants as faults
 use Rattle.commands.specs.World.{Snapshot}
-use Rattle.commands.specs.Words.{Service}
+use Rattle.command_words.specs.Words.{Service}
 use Rattle.commands.specs.Lines.{file_fault, net_fault, limits_met, served_lines}
 use Rattle.commands.specs.End.{End, NoMemory, FileFault, status_of, end_text}
 use Rattle.commands.specs.OpensPlant.{OpensPlant, opened_for}

@@ -1,28 +1,8 @@
 -- How a service stops in the code, before its end is written out.
-use Rattle.std.specs.Prelude.{◌≡◌, ℕ, List, Option, None, Some, Result, false}
-use Rattle.std.specs.Option.{option_map}
-use Rattle.std.specs.Borrow.{Bor}
-use Rattle.commands.specs.declared.serve.Service as code
+use Rattle.std.specs.Prelude.{◌≡◌, ℕ, List, Option, Result, false}
 use Rattle.commands.specs.declared.stop.Stop.{Stop}
-use Rattle.commands.specs.Words.{Service}
 use Rattle.commands.specs.Serve.{Telling, ServeEnd, serve_status, serve_text, telling_status, telling_line}
 use Rattle.commands.specs.StopInside.{Says, is_by_output, line_of, stop_status, number_of_end, rest_of, stopped_by_output}
-
--- the text of a prefix, where there is one
-abbrev pub prefix_of : Option (Bor (List ℕ)) → Option (List ℕ)
-prefix_of prefix = option_map (λ (word : Bor (List ℕ)). word.now) prefix
-
--- what the code calls this service
-abbrev pub service_of : code.Service → Service
-service_of service =
-    record { plant = service.plant.now; prefix = prefix_of service.prefix }
-
--- the service of a plant without traces, and with traces of this prefix
-abbrev pub untraced : List ℕ → Service
-untraced plant = record { plant = plant; prefix = None }
-
-abbrev pub traced : List ℕ → List ℕ → Service
-traced plant prefix = record { plant = plant; prefix = Some prefix }
 
 -- What was done, or a stop, comes to an end of a service that has this cause.
 pub record ServiceStops {T : Type 0} (result : Result T Stop) (Cause : ServeEnd → Type 0)

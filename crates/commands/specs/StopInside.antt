@@ -16,12 +16,10 @@ use Rattle.commands.specs.declared.stop.Stop.{Stop}
 use Rattle.commands.specs.declared.stop.Stop.TheVariants as stops
 use Rattle.commands.specs.declared.stop.Status.{Status}
 use Rattle.commands.specs.declared.stop.Status.TheVariants as statuses
-use Rattle.commands.specs.declared.words.Command as code
-use Rattle.commands.specs.declared.words.Command.TheVariants as commands
 use Rattle.commands.specs.Lines.{usage, no_memory, file_missing, file_fault, plant_refused, plant_too_long, line_refused, script_too_long, trace_too_long, net_fault, limits_met}
 use Rattle.commands.specs.End.{End, status_of, unwritten_status, end_text, is_file_fault, verdict_status, verdict_line}
 use Rattle.commands.specs.World.{World, Snapshot, snapshot}
-use Rattle.commands.specs.Words.{Command, Check, Replay, Audit, texts}
+use Rattle.command_words.specs.Words.{Command}
 use Rattle.commands.specs.OpensPlant.{OpensPlant, OpensFile, next_opening, opened_for}
 use Rattle.commands.specs.Replay.{ReplayEnds}
 use Rattle.commands.specs.Run.{ReadsWell, LeavesOpened, CommandEnds, LeavesFiles, EndsAtWords, EndsByCommand}
@@ -204,12 +202,6 @@ SaysFault fault stops.NoMemory = Unit {0}
 SaysFault fault (stops.PlantRefused why) =
     (string_bytes why ≡ fault_text fault) × (fault ≢ plants.NoMemory)
 SaysFault fault other = ⊥
-
--- what the code calls this command
-abbrev pub asked : code.Command → Command
-asked (commands.Check plant) = Check plant.now
-asked (commands.Replay plant script) = Replay plant.now script.now
-asked (commands.Audit plant traces) = Audit plant.now (texts traces.now)
 
 -- A command came to the report.
 pub record CommandStops {T : Type 0} (command : Command) (before now : World)

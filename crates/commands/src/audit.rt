@@ -3,7 +3,7 @@
 ghost use Rattle.std.specs.Prelude.{◌≡◌, [], false, IfOk, OnOk, IfErr};
 ghost use Rattle.ctl_io.specs.Faults.{count_after};
 ghost use Rattle.commands.specs.World.{snapshot_of};
-ghost use Rattle.commands.specs.Words.{texts};
+ghost use Rattle.command_words.specs.Words.{texts};
 ghost use Rattle.commands.specs.End.{Audited};
 ghost use Rattle.commands.specs.Audit.{trace_files};
 ghost use Rattle.commands.specs.StopInside.{stopped_by_files, stopped_by_output, StopsFor, ComesTo};

@@ -1,17 +1,16 @@
 //! The command `drill`.
 
-ghost use Rattle.std.specs.Prelude.{◌≡◌, ◌≤◌, false, IfErr, IfOk, IfSome, OnOk, string_bytes};
+ghost use Rattle.std.specs.Prelude.{◌≡◌, ◌≤◌, false, IfErr, IfOk, OnOk, string_bytes};
 ghost use Rattle.ctl_io.specs.Faults.{count_after};
 ghost use Rattle.line_text.specs.Lines.{lines};
 ghost use Rattle.plant_config.specs.DrillPlant.{drill_panel_limit};
 ghost use Rattle.drill.specs.Drilled.{most_messages};
-ghost use Rattle.commands.specs.Words.{AskDrill, SayDrill, texts};
 ghost use Rattle.commands.specs.Drill.{drill_lines, DrillEnds};
 ghost use Rattle.commands.specs.DrillInside.{AuditConfirms, AuditStops};
 ghost use Rattle.commands.specs.StopInside.{stopped_by_files, stopped_by_output, StopsFor};
 
 use crate::stop::Stop;
-use crate::words::read_number;
+use command_words::Drill;
 use ctl_io::{Sink, write_all};
 use ctl_net::Gate;
 use drill::{Drilled, run_drill};
@@ -20,55 +19,6 @@ use std::alloc::{AllocError, Global};
 use std::sync::Wait;
 use std::thread::Threads;
 use trace_audit::{Verdict, audit, histories_are_confirmed, traces_have_one_verdict};
-
-// The greatest number that a drill is made from.
-const GREATEST_NUMBER: u64 = u32::MAX as u64;
-
-// The most panels of a drill.
-const MAX_PANELS: u64 = 16;
-
-// The most messages of all panels of a drill together.
-const MAX_MESSAGES: u64 = 200_000;
-
-/// What a drill is asked to be.
-#[derive(Clone, Copy, Debug, PartialEq, Eq)]
-pub(crate) struct Drill {
-    /// It is made from this number alone.
-    number: u64,
-    panels: u32,
-    /// Those of all panels together. Where they don't come out even, the rest is left out.
-    messages: u64,
-}
-
-// The drill that words ask for, `None` where they ask for none.
-pub(crate) fn read_drill(words: &[String]) -> Option<Drill>
-    ensures found { IfSome result (λ drill. AskDrill (texts words.now) drill) }
-    ensures only { (drill : Drill) → AskDrill (texts words.now) drill → result ≡ Some drill }
-{
-    let [first, number, panels, messages] = words else {
-        return None;
-    };
-    match first.as_str() {
-        "drill" => drill_of(number.as_str(), panels.as_str(), messages.as_str()),
-        _ => None,
-    }
-}
-
-// The drill that these three words say.
-fn drill_of(number: &str, panels: &str, messages: &str) -> Option<Drill>
-    ensures found { IfSome result (λ drill. SayDrill number.now panels.now messages.now drill) }
-    ensures only { (drill : Drill) → SayDrill number.now panels.now messages.now drill
-        → result ≡ Some drill }
-{
-    let number = read_number(number, 0, GREATEST_NUMBER)?;
-    let panels = read_number(panels, 1, MAX_PANELS)?;
-    let messages = read_number(messages, panels, MAX_MESSAGES)?;
-    Some(Drill {
-        number,
-        panels: panels as u32,
-        messages,
-    })
-}
 
 // Works a drill, audits its trace, and says what it came to. Nothing is written before the trace is confirmed, which it
 // always is.

@@ -7,7 +7,6 @@ mod audit;
 mod check;
 mod drill_command;
 mod laws;
-mod parsed_words;
 mod parts;
 mod plant;
 mod program;
@@ -19,7 +18,6 @@ mod stop;
 mod told;
 mod trace_files;
 mod verdict;
-mod words;
 
 pub use laws::{
     done, file_refused, files_stay, history_shown, output_fault, plant_refused, script_refused,

@@ -2,14 +2,15 @@
 
 ghost use Rattle.panel_server.specs.PlantServed.{net_shows};
 ghost use Rattle.commands.specs.World.{world};
-ghost use Rattle.commands.specs.Words.{texts};
+ghost use Rattle.command_words.specs.Words.{texts};
 ghost use Rattle.commands.specs.Run.{EndsUnworded};
 ghost use Rattle.commands.specs.Program.{ProgramEnds};
 
-use crate::drill_command::{read_drill, work_drill};
+use crate::drill_command::work_drill;
 use crate::quiet::run_quiet;
-use crate::serve::{read_service, work_service};
+use crate::serve::work_service;
 use crate::stop::{Stop, report};
+use command_words::{read_drill, read_service};
 use ctl_io::{Files, Sink};
 use ctl_net::{Gate, Net};
 use std::alloc::Global;

@@ -1,7 +1,7 @@
 //! The runs that wait for nobody.
 
 ghost use Rattle.commands.specs.World.{world};
-ghost use Rattle.commands.specs.Words.{Check, Replay, Audit, texts};
+ghost use Rattle.command_words.specs.Words.{Check, Replay, Audit, texts};
 ghost use Rattle.commands.specs.Run.{RunEnds};
 ghost use Rattle.commands.specs.StopInside.{CommandStops, RunStops};
 
@@ -10,7 +10,7 @@ use crate::check::check;
 use crate::plant::open_plant;
 use crate::replay::replay;
 use crate::stop::{Stop, report};
-use crate::words::{Command, read_words};
+use command_words::{Command, read_words};
 use ctl_io::{Files, Sink};
 use std::alloc::Global;
 

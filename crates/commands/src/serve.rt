@@ -1,22 +1,21 @@
 //! The command `serve`.
 
-ghost use Rattle.std.specs.Prelude.{◌≡◌, ◌∷◌, None, Some, IfErr, IfOk, IfSome, OnErr};
-ghost use Rattle.std.specs.Prelude.{codes, option_map};
+ghost use Rattle.std.specs.Prelude.{◌≡◌, None, Some, IfErr, IfOk, OnErr};
 ghost use Rattle.ctl_io.specs.Faults.{count_after};
 ghost use Rattle.panel_server.specs.PlantServed.{net_shows};
 ghost use Rattle.commands.specs.declared.stop.Stop.TheVariants.{NoMemory};
 ghost use Rattle.commands.specs.World.{Snapshot, snapshot_of};
-ghost use Rattle.commands.specs.Words.{AskService, IsFileName, Service as Asked, texts};
+ghost use Rattle.command_words.specs.Words.{texts};
 ghost use Rattle.commands.specs.Serve.{EndsServed, PlantServiceEnds, ServiceEnds, answered_end};
 ghost use Rattle.commands.specs.ServeInside.{ServiceStops, StopsUnserved};
-ghost use Rattle.commands.specs.ServeInside.{prefix_of, service_of, traced, untraced};
+ghost use Rattle.command_words.specs.Read.{prefix_of, service_of};
 ghost use Rattle.commands.specs.StopInside.{stopped_by_output};
 
 use crate::plant::open_plant;
 use crate::stop::Stop;
 use crate::told::tell;
 use crate::trace_files::{Unmade, close_traces, make_traces, trace_names};
-use crate::words::is_name;
+use command_words::Service;
 use ctl_io::{Dropped, Files, Sink};
 use ctl_net::{Gate, Net};
 use panel_server::{PlantDone, ServeFault, serve};
@@ -26,84 +25,12 @@ use std::alloc::Global;
 use std::sync::Wait;
 use std::thread::Threads;
 
-/// What is to be served.
-#[derive(Clone, Copy, Debug, PartialEq, Eq)]
-pub(crate) struct Service<'a> {
-    plant: &'a str,
-    /// That of the names of its traces, where traces are to be kept.
-    prefix: Option<&'a str>,
-}
-
 // What came of serving a plant.
 #[derive(Drop)]
 struct Outcome {
     // The names of its traces: none where none were kept.
     names: Vec<String>,
     answer: Result<PlantDone, ServeFault>,
-}
-
-// The service that words ask for, `None` where they ask for none.
-pub(crate) fn read_service<'a>(words: &'a [String]) -> Option<Service<'a>>
-    ensures found { IfSome result (λ service. AskService (texts words.now) (service_of service)) }
-    ensures only { (service : Asked) → AskService (texts words.now) service
-        → option_map service_of result ≡ Some service }
-{
-    let [first, others @ ..] = words else {
-        return None;
-    };
-    match first.as_str() {
-        "serve" => read_behind(others),
-        _ => None,
-    }
-}
-
-// The service that the words behind `serve` ask for.
-fn read_behind<'a>(words: &'a [String]) -> Option<Service<'a>>
-    ensures found { IfSome result
-        (λ service. AskService (codes "serve" ∷ texts words.now) (service_of service)) }
-    ensures only { (service : Asked) → AskService (codes "serve" ∷ texts words.now) service
-        → option_map service_of result ≡ Some service }
-{
-    match words {
-        [plant] => without_traces(plant.as_str()),
-        [plant, prefix] => with_traces(plant.as_str(), prefix.as_str()),
-        _ => None,
-    }
-}
-
-// The service of a plant's word, if that is a name.
-fn without_traces<'a>(plant: &'a str) -> Option<Service<'a>>
-    ensures found { IfSome result (λ service. service_of service ≡ untraced plant.now) }
-    ensures named { IfSome result (λ _. IsFileName plant.now) }
-    ensures only { IsFileName plant.now
-        → option_map service_of result ≡ Some (untraced plant.now) }
-{
-    if is_name(plant) {
-        Some(Service {
-            plant,
-            prefix: None,
-        })
-    } else {
-        None
-    }
-}
-
-// The service of a plant's word and a prefix, if both are names.
-fn with_traces<'a>(plant: &'a str, prefix: &'a str) -> Option<Service<'a>>
-    ensures found { IfSome result (λ service. service_of service ≡ traced plant.now prefix.now) }
-    ensures named { IfSome result (λ _. IsFileName plant.now) }
-    ensures prefix_named { IfSome result (λ _. IsFileName prefix.now) }
-    ensures only { IsFileName plant.now → IsFileName prefix.now
-        → option_map service_of result ≡ Some (traced plant.now prefix.now) }
-{
-    if is_name(plant) && is_name(prefix) {
-        Some(Service {
-            plant,
-            prefix: Some(prefix),
-        })
-    } else {
-        None
-    }
 }
 
 // Serves the plant of a word over the net, with its traces in files where there is a prefix, and says what came of it.

@@ -4,7 +4,7 @@ ghost use Rattle.std.specs.Prelude.{◌≡◌, not, option_map, string_bytes};
 ghost use Rattle.std.specs.Bool.{OnTrue, OnFalse};
 ghost use Rattle.ctl_io.specs.Faults.{count_after};
 ghost use Rattle.ctl_io.specs.Sink.{appended, AppendsPart};
-ghost use Rattle.commands.specs.Words.{texts};
+ghost use Rattle.command_words.specs.Words.{texts};
 ghost use Rattle.commands.specs.Lines.{served_lines};
 ghost use Rattle.commands.specs.Serve.{answered_end, name_at, serve_status, serve_text, telling_of};
 ghost use Rattle.commands.specs.ServeInside.{Tells};

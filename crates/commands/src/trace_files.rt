@@ -2,7 +2,7 @@
 
 ghost use Rattle.std.specs.Prelude.{◌≡◌, ◌≤◌, [], length, map, IfErr, IfOk, OnOk};
 ghost use Rattle.std.specs.Prelude.{vec_capacity};
-ghost use Rattle.commands.specs.Words.{texts};
+ghost use Rattle.command_words.specs.Words.{texts};
 ghost use Rattle.commands.specs.World.{snapshot_of};
 ghost use Rattle.commands.specs.Traces.{AreAsMade, FailsToMakeAll, MakesFiles, StopsMaking};
 ghost use Rattle.commands.specs.Traces.{TakesAllBack, trace_names};

@@ -1,4 +1,4 @@
-use Rattle.commands.specs.Words.{texts}
+use Rattle.command_words.specs.Words.{texts}
 use Rattle.commands.proofs.AuditLemmas.{unread_stop, audit_memory, audit_told}
 use Rattle.commands.proofs.audit.audit.Goals as goal
 

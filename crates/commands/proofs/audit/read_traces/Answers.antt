@@ -2,12 +2,12 @@ use Rattle.std.proofs.Common.{◌+◌, ◌-◌, [], List, ℕ, refl, sym, ◌∙
 use Rattle.std.proofs.lemmas.List.{take_all}
 use Rattle.commands.specs.declared.stop.Stop.TheVariants as stops
 use Rattle.commands.specs.World.{snapshot_of}
-use Rattle.commands.specs.Words.{texts}
+use Rattle.command_words.specs.Words.{texts}
 use Rattle.commands.specs.Audit.{trace_files}
 use Rattle.commands.specs.StopInside.{stop_of_file}
 use Rattle.commands.specs.AuditInside.{AreJoined, ReadsAll, StopsReading}
 use Rattle.commands.proofs.OpensLemmas.{if_held}
-use Rattle.commands.proofs.NamesLemmas.{texts-at, texts-more}
+use Rattle.command_words.proofs.NamesLemmas.{texts-at, texts-more}
 use Rattle.commands.proofs.AuditLemmas.{HasRead, read_more, read_all, read_no_memory, read_stop, if_err}
 use Rattle.commands.proofs.audit.read_traces.Goals as goal
 

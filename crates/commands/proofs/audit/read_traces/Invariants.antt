@@ -1,6 +1,6 @@
 use Rattle.std.proofs.Common.{◌≡◌, take}
 use Rattle.commands.specs.World.{snapshot_of}
-use Rattle.commands.specs.Words.{texts}
+use Rattle.command_words.specs.Words.{texts}
 use Rattle.commands.proofs.AuditLemmas.{HasRead}
 use Rattle.commands.proofs.audit.read_traces.Given as goal
 

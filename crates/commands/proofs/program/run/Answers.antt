@@ -1,6 +1,6 @@
 use Rattle.std.proofs.Common.{inl, inr, refl}
 use Rattle.commands.specs.World.{world}
-use Rattle.commands.specs.ServeInside.{service_of}
+use Rattle.command_words.specs.Read.{service_of}
 use Rattle.commands.specs.StopInside.{number_of}
 use Rattle.commands.proofs.ProgramLemmas.{drill_ends, not_read}
 use Rattle.commands.proofs.ServeLemmas.{service-ends}

@@ -2,8 +2,8 @@ use Rattle.std.proofs.Common.{inl, [], refl, sym, subst}
 use Rattle.std.specs.Prelude.{MatchOption}
 use Rattle.ctl_io.proofs.SinkLemmas.{appended-nil}
 use Rattle.commands.specs.End.{NoMemory, Usage}
-use Rattle.commands.specs.Words.{Ask, HasNoForm, texts}
-use Rattle.commands.specs.StopInside.{asked}
+use Rattle.command_words.specs.Words.{Ask, HasNoForm, texts}
+use Rattle.command_words.specs.Read.{asked}
 use Rattle.commands.proofs.quiet.carry_out.Goals as goal
 
 pub returns-in-Ok-None : goal.returns-in-Ok-None

@@ -1,7 +1,7 @@
 use Rattle.std.proofs.Common.{Err, refl, ◌∙◌, ap}
 use Rattle.ctl_io.specs.Faults.{count_after}
 use Rattle.commands.specs.World.{snapshot_of}
-use Rattle.commands.specs.Words.{Audit, texts}
+use Rattle.command_words.specs.Words.{Audit, texts}
 use Rattle.commands.specs.StopInside.{stopped_by_files}
 use Rattle.commands.proofs.CommandLemmas.{at_plant, audit_went}
 use Rattle.commands.proofs.quiet.run_audit.Goals as goal

@@ -1,5 +1,5 @@
 use Rattle.std.proofs.Common.{Err, refl}
-use Rattle.commands.specs.Words.{Check}
+use Rattle.command_words.specs.Words.{Check}
 use Rattle.commands.proofs.CommandLemmas.{at_plant, check_went}
 use Rattle.commands.proofs.quiet.run_check.Goals as goal
 

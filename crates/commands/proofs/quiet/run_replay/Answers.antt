@@ -1,7 +1,7 @@
 use Rattle.std.proofs.Common.{Err, refl, ◌∙◌, ap}
 use Rattle.ctl_io.specs.Faults.{count_after}
 use Rattle.commands.specs.World.{snapshot_of}
-use Rattle.commands.specs.Words.{Replay}
+use Rattle.command_words.specs.Words.{Replay}
 use Rattle.commands.specs.StopInside.{stopped_by_files}
 use Rattle.commands.proofs.CommandLemmas.{at_plant, replay_went}
 use Rattle.commands.proofs.quiet.run_replay.Goals as goal

@@ -1,6 +1,6 @@
 use Rattle.std.proofs.Common.{refl}
 use Rattle.commands.specs.World.{snapshot_of}
-use Rattle.commands.specs.ServeInside.{prefix_of}
+use Rattle.command_words.specs.Read.{prefix_of}
 use Rattle.commands.proofs.ServeLemmas.{unready, unready-err}
 use Rattle.commands.proofs.serve.serve_plant.Goals as goal
 

@@ -5,7 +5,7 @@ use Rattle.panel_server.specs.Workers.{sink_shows}
 use Rattle.plant_config.specs.declared.records.Panel.{Panel}
 use Rattle.commands.specs.declared.trace_files.Unmade.{Unmade}
 use Rattle.commands.specs.World.{snapshot_of}
-use Rattle.commands.specs.Words.{texts}
+use Rattle.command_words.specs.Words.{texts}
 use Rattle.commands.specs.Traces.{FailsToMakeAll, trace_names}
 use Rattle.commands.proofs.ServeLemmas.{names-length, unready, at-trace, served-traced}
 use Rattle.commands.proofs.TraceSinkLemmas.{as_made-length, fails_at-within}

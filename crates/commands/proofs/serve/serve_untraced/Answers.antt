@@ -1,5 +1,5 @@
 use Rattle.std.proofs.Common.{None, refl, ap}
-use Rattle.commands.specs.Words.{texts}
+use Rattle.command_words.specs.Words.{texts}
 use Rattle.commands.proofs.ServeLemmas.{served-untraced}
 use Rattle.commands.proofs.serve.serve_untraced.Goals as goal
 

@@ -1,5 +1,5 @@
 use Rattle.commands.specs.World.{snapshot_of}
-use Rattle.commands.specs.ServeInside.{service_of}
+use Rattle.command_words.specs.Read.{service_of}
 use Rattle.commands.proofs.ServeLemmas.{at-word, behind-stop}
 use Rattle.commands.proofs.serve.work_service.Goals as goal
 

@@ -1,4 +1,4 @@
-use Rattle.commands.specs.Words.{texts}
+use Rattle.command_words.specs.Words.{texts}
 use Rattle.commands.specs.Lines.{served_lines}
 use Rattle.commands.specs.Serve.{name_at, telling_line, telling_of}
 use Rattle.commands.proofs.ServeLemmas.{part-longer}

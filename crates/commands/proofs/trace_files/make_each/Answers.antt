@@ -1,7 +1,7 @@
 use Rattle.std.proofs.Common.{arith}
 use Rattle.commands.specs.World.{snapshot_of}
 use Rattle.panel_server.specs.Workers.{sink_shows}
-use Rattle.commands.proofs.NamesLemmas.{text-at, take-texts}
+use Rattle.command_words.proofs.NamesLemmas.{text-at, take-texts}
 use Rattle.commands.proofs.TraceSinkLemmas.{makes-more, as_made-more, out-more}
 use Rattle.commands.proofs.trace_files.make_each.Goals as goal
 

@@ -1,5 +1,5 @@
 use Rattle.std.proofs.Common.{◌≡◌, ◌≤◌, length, map, take, vec_len, vec_capacity}
-use Rattle.commands.specs.Words.{texts}
+use Rattle.command_words.specs.Words.{texts}
 use Rattle.commands.specs.World.{snapshot_of}
 use Rattle.panel_server.specs.Workers.{sink_shows}
 use Rattle.commands.specs.Traces.{AreAsMade, MakesFiles}

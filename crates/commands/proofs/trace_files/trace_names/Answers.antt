@@ -3,7 +3,7 @@ use Rattle.std.specs.List.{range_with_len}
 use Rattle.std.specs.String.{string_bytes}
 use Rattle.std.proofs.lemmas.List.{map-append}
 use Rattle.std.proofs.lemmas.List.FromFn.{map-range_with_len_more}
-use Rattle.commands.specs.Words.{texts}
+use Rattle.command_words.specs.Words.{texts}
 use Rattle.commands.specs.Traces.{panel_trace}
 use Rattle.commands.proofs.trace_files.trace_names.Goals as goal
 

@@ -1,6 +1,6 @@
 use Rattle.std.proofs.Common.{◌≡◌, map}
 use Rattle.std.specs.List.{range_with_len}
-use Rattle.commands.specs.Words.{texts}
+use Rattle.command_words.specs.Words.{texts}
 use Rattle.commands.specs.Traces.{panel_trace}
 use Rattle.commands.proofs.trace_files.trace_names.Given as goal
 

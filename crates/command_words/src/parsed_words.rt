@@ -1,0 +1,122 @@
+//! What `clap` makes of the words.
+
+ghost use Rattle.std.specs.Prelude.{◌≡◌, ◌-◌, ◌<◌, false, drop, length, option_map, IfOk};
+ghost use Rattle.std.specs.Prelude.{MatchOption, MatchResult, Some};
+ghost use Rattle.clap.specs.Words.{app_of, found_of, kind_of, rows_of, rule_of};
+ghost use Rattle.clap.specs.Words.{subcommand_rows_of};
+ghost use Rattle.command_words.specs.Words.{Command as Commands, Ask, texts};
+ghost use Rattle.command_words.specs.Read.{asked};
+ghost use Rattle.command_words.specs.WordsInside.{IsArg, IsForm, audit, check, command_in};
+ghost use Rattle.command_words.specs.WordsInside.{command_with, program, replay, several, word};
+
+use crate::words::{Command, MAX_TRACES};
+use clap::error::ErrorKind;
+use clap::{Arg, ArgMatches};
+use std::alloc::{AllocError, Global};
+
+// What `clap` makes of the words. It refuses no words that have a form, but for want of memory.
+pub(crate) fn parse<'a>(alloc: Global, words: &'a [String]) -> Result<ArgMatches<'a>, clap::Error>
+    ensures { (command : Commands) → Ask (texts words.now) command → MatchResult result
+        (λ matches. command_in (subcommand_rows_of matches) ≡ Some command)
+        (λ error. kind_of error ≡ ErrorKind.OutOfMemory) }
+{
+    let program = forms(alloc)?;
+    program.try_get_matches_from(words)
+}
+
+// The three forms, for `clap`. The words are without the program's name.
+fn forms<'a>(alloc: Global) -> Result<clap::Command<'a>, AllocError>
+    ensures { IfOk result (λ command. app_of command ≡ program) }
+{
+    let check = check_form(alloc)?;
+    let replay = replay_form(alloc)?;
+    let audit = audit_form(alloc)?;
+    clap::Command::new(alloc, "plantctl")
+        .no_binary_name(true)
+        .subcommand(check)?
+        .subcommand(replay)?
+        .subcommand(audit)
+}
+
+fn check_form<'a>(alloc: Global) -> Result<clap::Command<'a>, AllocError>
+    ensures { IfOk result (IsForm check) }
+{
+    clap::Command::new(alloc, "check").arg(word(alloc, "plant"))
+}
+
+fn replay_form<'a>(alloc: Global) -> Result<clap::Command<'a>, AllocError>
+    ensures { IfOk result (IsForm replay) }
+{
+    clap::Command::new(alloc, "replay")
+        .arg(word(alloc, "plant"))?
+        .arg(word(alloc, "script"))
+}
+
+fn audit_form<'a>(alloc: Global) -> Result<clap::Command<'a>, AllocError>
+    ensures { IfOk result (IsForm audit) }
+{
+    clap::Command::new(alloc, "audit")
+        .arg(word(alloc, "plant"))?
+        .arg(several(word(alloc, "trace")))
+}
+
+// One word.
+fn word<'a>(alloc: Global, name: &'a str) -> Arg<'a>
+    ensures { IsArg (word name.now) result }
+{
+    Arg::new(alloc, name).required(true)
+}
+
+// As many words as an audit has traces.
+fn several<'a>(word: Arg<'a>) -> Arg<'a>
+    requires { word.global ≡ false }
+    ensures { IsArg (several (rule_of word.entry)) result }
+{
+    word.num_args(1..=MAX_TRACES)
+}
+
+// The command that the matches give, where they are those of the words.
+pub(crate) fn command_of<'a>(matches: &ArgMatches<'a>, words: &'a [String]) -> Option<Command<'a>>
+    ensures { (command : Commands) → Ask (texts words.now) command
+        → command_in (subcommand_rows_of matches.now) ≡ Some command
+        → option_map asked result ≡ Some command }
+{
+    match matches.subcommand() {
+        Some((name, found)) => command_named(name, found, words),
+        None => None,
+    }
+}
+
+// The command of this name, with the words that `clap` found for it.
+fn command_named<'a>(name: &str, found: &ArgMatches<'a>, words: &'a [String]) -> Option<Command<'a>>
+    ensures { (command : Commands) → Ask (texts words.now) command
+        → command_with name.now (rows_of (found_of found.now)) ≡ Some command
+        → option_map asked result ≡ Some command }
+{
+    let plant = found.get_str("plant")?;
+    match name {
+        "check" => Some(Command::Check { plant }),
+        "replay" => {
+            let script = found.get_str("script")?;
+            Some(Command::Replay { plant, script })
+        }
+        "audit" => {
+            let names = found.get_strs("trace")?;
+            let traces = last(words, names.len())?;
+            Some(Command::Audit { plant, traces })
+        }
+        _ => None,
+    }
+}
+
+// The last so many words.
+fn last(words: &[String], count: usize) -> Option<&[String]>
+    ensures { MatchOption result
+        (length words.now < count)
+        (λ found. found.now ≡ drop (length words.now - count) words.now) }
+{
+    if words.len() < count {
+        return None;
+    }
+    Some(&words[words.len() - count..])
+}
