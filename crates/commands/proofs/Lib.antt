@@ -23,5 +23,6 @@ pub mod DrillLemmas
 pub mod TraceSinkLemmas
 pub mod ServeLemmas
 pub mod ServiceEndLemmas
+pub mod ServiceKeptLemmas
 pub mod ProgramLemmas
 pub mod ServiceLawLemmas

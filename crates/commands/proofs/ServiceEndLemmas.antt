@@ -45,16 +45,16 @@ at_plant : (word : List ℕ) (held : Held) (end : End) → OpensPlant word held 
 at_plant word held end opens = either (OpensBench (Err end)) (OpensFile word held (Err end)) (IsEarly (status_of end)) (is_bench word) (at_bench end) (at_file word held end) opens
 
 -- which kind of end it is, and what it has
-abbrev kind : ServeEnd → ℕ
+abbrev pub kind : ServeEnd → ℕ
 kind (Unserved end) = 0
 kind NetRefused = 1
 kind (Served sessions entries telling) = 2
 
-abbrev its_end : ServeEnd → End
+abbrev pub its_end : ServeEnd → End
 its_end (Unserved end) = end
 its_end other = NoMemory
 
-abbrev its_telling : ServeEnd → Telling
+abbrev pub its_telling : ServeEnd → Telling
 its_telling (Served sessions entries telling) = telling
 its_telling other = AllWell
 
@@ -228,14 +228,14 @@ module _ {P : Type 0} (WasSent : P → List (List ℕ) → Type 0) (faults : P �
   plant_refused plant prefix opened now net net_then (inl (untouched, inr trace)) = absurd (let h = ap kind trace.end_is in omega arith)
   plant_refused plant prefix opened now net net_then (inr served) = answered_refused plant net net_then served.traces served.traces_then _ served.answer served.served served.end_is
 
-  rose : (service : Service) (before now : Snapshot) (net net_then : NetData P) (sessions entries : ℕ) (told : Telling) → told ≡ NetFailed
+  pub rose : (service : Service) (before now : Snapshot) (net net_then : NetData P) (sessions entries : ℕ) (told : Telling) → told ≡ NetFailed
       → ServiceEnds WasSent faults service before now net net_then (Served sessions entries told) → Rose net.close_faults net_then.close_faults
   rose service before now net net_then sessions entries told is (inl at) = absurd (let h = ap kind at.1.end_is in omega arith)
   rose service before now net net_then sessions entries told is (inr behind) =
       plant_rose behind.plant service.prefix behind.opened now net net_then sessions entries
       (subst (λ (t : Telling). PlantServiceEnds WasSent faults behind.plant service.prefix behind.opened now net net_then (Served sessions entries t)) is behind.ends)
 
-  refused : (service : Service) (before now : Snapshot) (net net_then : NetData P) → ServiceEnds WasSent faults service before now net net_then NetRefused → net_then.open_faults ≡ one_more net.open_faults
+  pub refused : (service : Service) (before now : Snapshot) (net net_then : NetData P) → ServiceEnds WasSent faults service before now net net_then NetRefused → net_then.open_faults ≡ one_more net.open_faults
   refused service before now net net_then (inl at) = absurd (let h = ap kind at.1.end_is in omega arith)
   refused service before now net net_then (inr behind) = plant_refused behind.plant service.prefix behind.opened now net net_then behind.ends
 

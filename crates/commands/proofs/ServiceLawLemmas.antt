@@ -4,10 +4,11 @@ use Rattle.panel_server.specs.PlantServed.{NetData}
 use Rattle.commands.specs.World.{World}
 use Rattle.command_words.specs.Words.{Service, AskService}
 use Rattle.commands.specs.Program.{ServiceRunEnds, ProgramEnds}
-use Rattle.commands.specs.ProgramStatuses.{ZeroHasServed, EightHasCause, NineMetLimits, ServiceStatusesAreKnown}
+use Rattle.commands.specs.ProgramStatuses.{ZeroHasServed, EightHasCause, NineMetLimits, ServiceStatusesAreKnown, ShownPlantIsServed}
 use Rattle.commands.proofs.ProgramLemmas.{not_both, drill_status, quiet_status}
 use Rattle.command_words.proofs.ServiceWordsLemmas.{same_service}
 use Rattle.commands.proofs.ServiceEndLemmas.{service_statuses, service_zero, service_eight, service_nine}
+use Rattle.commands.proofs.ServiceKeptLemmas.{served_or_kept}
 
 module _ {P : Type 0} (WasSent : P → List (List ℕ) → Type 0) (faults : P → ℕ) where
   -- a run whose words ask for a service ends with it
@@ -34,3 +35,7 @@ module _ {P : Type 0} (WasSent : P → List (List ℕ) → Type 0) (faults : P �
   nine_limits words before now net net_then (inl ends) = absurd (drill_status ends.0 before now 9 ends.2 (λ h. omega (arith, h)) (λ h. omega (arith, h)) (λ h. omega (arith, h)))
   nine_limits words before now net net_then (inr (inl ends)) = (ends.0, ends.1, service_nine WasSent faults ends.0 before now net net_then ends.2)
   nine_limits words before now net net_then (inr (inr ends)) = absurd (quiet_status words before now 9 ends.2 (omega arith))
+
+  pub shown_served : ShownPlantIsServed WasSent faults
+  shown_served words before now net net_then status service plant ask shows run =
+      served_or_kept WasSent faults service plant before now net net_then status shows (service_of words before now net net_then status service ask run)

@@ -2,6 +2,7 @@
 use Rattle.std.specs.Prelude.{◌≡◌, ◌≢◌, ◌⊎◌, ℕ, List, ◌++◌}
 use Rattle.ctl_io.specs.Faults.{Rose, one_more}
 use Rattle.ctl_io.specs.Sink.{appended}
+use Rattle.plant_config.specs.Plant.{PlantData}
 use Rattle.panel_server.specs.PlantServed.{NetData}
 use Rattle.command_words.specs.declared.drill_words.Drill.{Drill}
 use Rattle.commands.specs.World.{World, snapshot, FilesUntouched}
@@ -10,6 +11,7 @@ use Rattle.commands.specs.Lines.{net_fault, no_memory, served_lines, usage}
 use Rattle.commands.specs.Drill.{drill_text, IsTraceOf}
 use Rattle.commands.specs.Run.{RunEnds}
 use Rattle.commands.specs.Serve.{AllWell, LimitsMet, NetFailed, NetRefused, Served, ServiceEnds, Telling, telling_line}
+use Rattle.commands.specs.Asked.{ShowsPlant}
 use Rattle.commands.specs.Program.{ProgramEnds}
 
 -- A drill was worked: exactly its lines were appended, and behind them there is its trace.
@@ -151,3 +153,27 @@ ServiceStatusesAreKnown {P} WasSent faults =
     → ProgramEnds WasSent faults words before now net net_then status
     → (status ≡ 0) ⊎ (status ≡ 1) ⊎ (status ≡ 3) ⊎ (status ≡ 4) ⊎ (status ≡ 7)
     ⊎ (status ≡ 8) ⊎ (status ≡ 9)
+
+-- A service was kept from its end: memory ran out; the files had a fault, or a write of a trace failed; a write of the output
+-- failed; or the net refused an opening, or something that it handed out came back with a fault. Their counts show it.
+abbrev pub WasKeptFromServing : {P : Type 0} → World → World → NetData P → NetData P → ℕ → Type 0
+WasKeptFromServing before now net net_then status =
+    (status ≡ 1)
+    ⊎ ((status ≡ 3) × Rose before.file_faults now.file_faults)
+    ⊎ ((status ≡ 7) × (now.output_faults ≡ one_more before.output_faults))
+    ⊎ ((status ≡ 8) × (Rose net.open_faults net_then.open_faults
+    ⊎ Rose net.close_faults net_then.close_faults))
+
+-- All was well, or limits were met, or the service was kept from its end.
+abbrev pub IsServedOrKept : {P : Type 0} → World → World → NetData P → NetData P → ℕ → Type 0
+IsServedOrKept before now net net_then status =
+    (status ≡ 0) ⊎ (status ≡ 9) ⊎ WasKeptFromServing before now net net_then status
+
+-- A plant that is to be served, and that the files show, leads to 0 or to 9, unless the service is kept from its end.
+abbrev pub ShownPlantIsServed : {P : Type 0} → (P → List (List ℕ) → Type 0) → (P → ℕ) → Type 0
+ShownPlantIsServed {P} WasSent faults =
+    (words : List (List ℕ)) (before now : World) (net net_then : NetData P) (status : ℕ)
+    (service : Service) (plant : PlantData)
+    → AskService words service → ShowsPlant service.plant before plant
+    → ProgramEnds WasSent faults words before now net net_then status
+    → IsServedOrKept before now net net_then status

@@ -4,6 +4,7 @@ ghost use Rattle.commands.specs.ProgramStatuses.{OthersRunQuietly, OthersLeaveNe
 ghost use Rattle.commands.specs.ProgramStatuses.{ZeroHasDrilled, OneSaysNoMemory};
 ghost use Rattle.commands.specs.ProgramStatuses.{DrillEndsWithZero, DrillsLeaveFiles};
 ghost use Rattle.commands.specs.ProgramStatuses.{ZeroHasServed, ServiceStatusesAreKnown};
+ghost use Rattle.commands.specs.ProgramStatuses.{ShownPlantIsServed};
 ghost use Rattle.commands.specs.ProgramStatuses.{EightHasCause, NineMetLimits};
 ghost use Rattle.commands.specs.ProgramStatuses.{ProgramTwoTellsUsage, NoProgramFormEndsWithTwo};
 ghost use Rattle.commands.specs.ProgramStatuses.{ProgramSevenHasCause, ProgramOthersWriteAll};
@@ -24,10 +25,12 @@ pub fn drilled<P: DisplayPort>()
 
 /// Words that ask for a service. Status 0: the plant was served, so that there is a closed history in which that was done, no
 /// trace failed, the net had no fault, no limit was met, and exactly the lines of it were appended. Such words end with 0, 1, 3,
-/// 4, 7, 8 or 9. Other words leave the net alone.
+/// 4, 7, 8 or 9. With a plant that the files show they always end with 0 or 9, but for want of memory and what a count of the
+/// files, of the output or of the net shows. Other words leave the net alone.
 pub fn served<P: DisplayPort>()
     ensures done { ZeroHasServed P.was_sent P.faults }
     ensures statuses { ServiceStatusesAreKnown P.was_sent P.faults }
+    ensures accepted { ShownPlantIsServed P.was_sent P.faults }
     ensures net { OthersLeaveNet P.was_sent P.faults }
 {}
 
