@@ -1,6 +1,6 @@
 -- How the plant and the sessions of a replay stand, and what works make of them.
-use Rattle.std.specs.Prelude.{◌≡◌, ◌≢◌, ℕ, ◌+◌, ◌*◌, ◌^◌, ◌<◌, ◌≤◌, zero, suc, ◌==◌, ◌||◌, if◌then◌else◌, Bool, List, [], ◌∷◌, ◌++◌, length, slice_index_or}
-use Rattle.dle_framing.specs.Numbers.{etx, ack_byte, nak_byte}
+use Rattle.std.specs.Prelude.{◌≡◌, ◌≢◌, ℕ, ◌+◌, ◌*◌, ◌^◌, ◌<◌, ◌≤◌, suc, ◌==◌, ◌||◌, ◌&&◌, if◌then◌else◌, Bool, false, List, [], ◌∷◌, ◌++◌, length, slice_index_or}
+use Rattle.dle_framing.specs.Numbers.{dle, etx, ack_byte, nak_byte}
 use Rattle.plant_config.specs.Plant.{PlantData}
 use Rattle.plant_core.specs.Answer.{room_of}
 use Rattle.plant_core.specs.State.{IsValid}
@@ -28,18 +28,19 @@ pub record AreNew (plant : PlantData) (sessions : List Session) : Type 0 where
 abbrev pub is_end : ℕ → Bool
 is_end byte = byte == etx || (byte == ack_byte || byte == nak_byte)
 
--- how many bytes of a text may be the last of an item
+-- How many bytes of a text stand behind a DLE and may end an item, where a DLE stands just before the text or not.
+abbrev pub ends_behind : Bool → List ℕ → ℕ
+ends_behind dle_before [] = 0
+ends_behind dle_before (byte ∷ bytes) =
+    if dle_before && is_end byte then suc (ends_behind (byte == dle) bytes)
+    else ends_behind (byte == dle) bytes
+
+-- how many bytes of a text stand behind a DLE in it and may end an item
 abbrev pub ends_in : List ℕ → ℕ
-ends_in [] = 0
-ends_in (byte ∷ bytes) = if is_end byte then suc (ends_in bytes) else ends_in bytes
+ends_in text = ends_behind false text
 
--- one where it is none
-abbrev pub at_least_one : ℕ → ℕ
-at_least_one zero = 1
-at_least_one (suc n) = suc n
-
--- What a session has done stays small: each of its turns, and each byte of them with which an item may end, has two bytes of
--- the script.
+-- What a session has done stays small: each of its turns, and each byte of them that stands behind a DLE and may end an item,
+-- has two bytes of the script.
 pub record IsSmall (used : ℕ) (past : Progress) : Type 0 where
   pub ends : 2 * ends_in (bytes_read past.turns) ≤ used
   pub turns : 2 * length past.turns ≤ used
@@ -57,9 +58,10 @@ pub record StandsAt (plant : PlantData) (replayer : Replayer) (stand : ReplaySta
   pub empty : replayer.outbox.items ≡ []
   pub places : room_of plant ≤ replayer.outbox.places
 
--- how many bytes of the script a piece of work needs
+-- How many bytes of the script a piece of work needs: a turn has one end of an item more than stands in its piece, since the
+-- piece may begin behind a DLE.
 abbrev pub need_of : Work → ℕ
-need_of (Read panel piece) = 2 * at_least_one (ends_in piece)
+need_of (Read panel piece) = 2 * suc (ends_in piece)
 need_of (Leave panel) = 0
 need_of (Show screen refresh) = 0
 
