@@ -1,6 +1,7 @@
 //! Runs over files and an output in memory, by subject.
 
 mod audits;
+mod calls_fail;
 mod changes;
 mod day;
 mod ends;
@@ -8,6 +9,7 @@ mod frames;
 mod limits;
 mod plants;
 mod replays;
+mod services;
 mod sessions;
 mod ties;
 mod words;
