@@ -5,6 +5,7 @@ ghost use Rattle.std.specs.Prelude.{◌≡◌, ◌≤◌, length};
 mod board;
 mod days;
 mod dumps;
+mod nasty;
 mod packets;
 mod serving;
 mod streams;

@@ -1,4 +1,4 @@
-//! Streams of bytes that a panel may send, as a whole and cut in two anywhere.
+//! Streams of bytes that a panel may send, as a whole, cut in two anywhere, and byte by byte.
 
 use super::board::Board;
 use super::turn;
@@ -9,14 +9,14 @@ use std::alloc::{AllocError, Global};
 use std::test::Fail;
 
 // Bytes, and how often they stand there.
-type Run = (&'static [u8], usize);
+pub(super) type Run = (&'static [u8], usize);
 
 // An interrogate of destination 5, which is parked; the answer, and its ACK before it.
-const ASK: &[u8] = b"\x10\x02\x01\x00\x00\x05\x04\xF6\x10\x03";
+pub(super) const ASK: &[u8] = b"\x10\x02\x01\x00\x00\x05\x04\xF6\x10\x03";
 
-const PARKED: &[u8] = b"\x10\x02\x03\x00\x07\x05\x7F\x05\x6D\x10\x03";
+pub(super) const PARKED: &[u8] = b"\x10\x02\x03\x00\x07\x05\x7F\x05\x6D\x10\x03";
 
-const ANSWER: &[u8] = b"\x10\x06\x10\x02\x03\x00\x07\x05\x7F\x05\x6D\x10\x03";
+pub(super) const ANSWER: &[u8] = b"\x10\x06\x10\x02\x03\x00\x07\x05\x7F\x05\x6D\x10\x03";
 
 const START: &[u8] = b"\x10\x02";
 
@@ -108,13 +108,13 @@ const STREAMS: &[(&[Run], &[Run])] = &[
     (&[(ASK, 1), (NAK, 7)], &[(ANSWER, 1), (PARKED, 5)]),
     (&[(NAK, 3), (ACK, 10), (ASK, 1)], &[(ANSWER, 1)]),
     (&[(b"\x10\x02\x01\0\0\x05\x04\xF5\x10\x03", 8)], &[(NAK, 8)]),
-    // 64 KiB of noise without an end, and with a frame behind it.
-    (&[(b"A", 65_536)], &[]),
+    // 64 KiB of noise before a frame, and of a frame without an end.
     (&[(b"\x02\x03", 32_768), (ASK, 1)], &[(ANSWER, 1)]),
+    (&[(START, 1), (b"A", 65_536), (ASK, 1)], &[(ANSWER, 1)]),
 ];
 
 // The bytes of runs, joined.
-fn bytes_of(alloc: Global, runs: &[Run]) -> Result<Vec<u8>, AllocError> {
+pub(super) fn bytes_of(alloc: Global, runs: &[Run]) -> Result<Vec<u8>, AllocError> {
     let mut all = Vec::new(alloc);
     for (bytes, times) in runs {
         append(bytes, *times, &mut all)?;
@@ -145,7 +145,7 @@ fn are_answered(
 
 // The first place where a stream is cut in two and isn't answered so, its start among them, which is a cut behind an idle
 // read. A stream of more than 500 bytes is cut nowhere else.
-fn first_cut(
+pub(super) fn first_cut(
     alloc: Global,
     session: &mut Session<'_>,
     stream: &[u8],
@@ -162,6 +162,21 @@ fn first_cut(
     Ok(None)
 }
 
+// What a session that is made anew is sent where a panel sends a stream byte by byte.
+pub(super) fn in_bytes(
+    alloc: Global,
+    session: &mut Session<'_>,
+    stream: &[u8],
+) -> Result<Vec<u8>, Fail> {
+    let mut board = Board::new();
+    session.reset();
+    let mut sent = Vec::new(alloc);
+    for byte in stream.chunks(1) {
+        sent.extend_from_slice(&turn(alloc, session, &mut board, byte)?)?;
+    }
+    Ok(sent)
+}
+
 #[test]
 fn streams_are_answered_however_they_are_cut(rt: HostRuntime) -> Result<(), Fail> {
     let alloc = rt.alloc();
@@ -171,6 +186,7 @@ fn streams_are_answered_however_they_are_cut(rt: HostRuntime) -> Result<(), Fail
     for (stream, wanted) in STREAMS {
         let (stream, wanted) = (bytes_of(alloc, stream)?, bytes_of(alloc, wanted)?);
         assert_eq!(rt; first_cut(alloc, &mut session, &stream, &wanted)?, None);
+        assert_eq!(rt; in_bytes(alloc, &mut session, &stream)?, wanted);
     }
     Ok(())
 }
