@@ -6,6 +6,10 @@
 #[cfg(test)]
 mod examples;
 #[cfg(test)]
+mod holding_gate;
+#[cfg(test)]
+mod in_memory;
+#[cfg(test)]
 mod of_drill;
 #[cfg(test)]
 mod of_panel_server;

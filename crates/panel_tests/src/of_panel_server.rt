@@ -1,6 +1,11 @@
-//! What no clause says of the worker of the displays: what comes of it over ports and traces that fail.
+//! What no clause says of the workers that share a plant: what comes of them if a call outside fails.
+
+mod panels;
+mod plants;
 
 use crate::examples::of_panel_server::{LINES, TOWER, after_leave};
+use crate::in_memory::Call::{Line, Send};
+use crate::in_memory::{Failing, NOTHING, front, listed};
 use ctl_io::MemSink;
 use ctl_net::MemPort;
 use panel_server::{DriverEnd, drive_displays};
@@ -9,42 +14,60 @@ use std::alloc::{AllocError, Global};
 use std::sync::Wait;
 use std::test::Fail;
 
-// How the worker of the tower's displays ended, and its port and trace, whose listed sends and writes fail.
-fn driven<W: Wait>(
+// An interrogate of destination 5, which is parked.
+const INTERROGATE: &[u8] = b"\x10\x02\x01\x00\x00\x05\x04\xF6\x10\x03";
+
+// What a panel is sent that asks that: an ACK and the tally.
+const ANSWER: &[u8] = b"\x10\x06\x10\x02\x03\x00\x07\x05\x7F\x05\x6D\x10\x03";
+
+// The packet of each of the tower's screens, and both.
+const FIRST: &[u8] = b"\x0A\0\0\0\x03\0\0\0\xC0\0\0\0";
+
+const SECOND: &[u8] = b"\x0A\0\0\0\x07\0\x01\0\xC0\0\0\0";
+
+const BOTH: &[u8] = b"\x0A\0\0\0\x03\0\0\0\xC0\0\0\0\x0A\0\0\0\x07\0\x01\0\xC0\0\0\0";
+
+// How the worker of the tower's displays ends if both packets were sent, and if one was lost.
+const SENT: DriverEnd = DriverEnd::Finished { sent: 2, failed: 0 };
+
+const LOST: DriverEnd = DriverEnd::Finished { sent: 1, failed: 1 };
+
+// What fails; and then how the worker ends, what was sent, and how many bytes were traced.
+type Case = (Failing, DriverEnd, &'static [u8], usize);
+
+// A lost packet isn't sent again, and what isn't traced isn't sent.
+const CASES: [Case; 8] = [
+    (NOTHING, SENT, BOTH, 98),
+    ((Send, 0), LOST, SECOND, 98),
+    ((Send, 1), LOST, FIRST, 98),
+    ((Send, 2), SENT, BOTH, 98),
+    ((Line(0), 0), DriverEnd::TraceFault, b"", 0),
+    ((Line(0), 1), DriverEnd::TraceFault, FIRST, 38),
+    ((Line(0), 2), DriverEnd::TraceFault, BOTH, 76),
+    ((Line(0), 3), SENT, BOTH, 98),
+];
+
+// Whether the worker does as a case says.
+fn drives_so<W: Wait>(
     rt: &W,
     alloc: Global,
     plant: &Plant,
-    lost: Vec<u64>,
-    untraced: Vec<u64>,
-) -> Result<(DriverEnd, MemPort, MemSink), AllocError> {
+    case: &Case,
+) -> Result<bool, AllocError> {
+    let (failing, wanted, sent, traced) = *case;
     let (lock, mut seat) = after_leave(rt, alloc, plant)?;
-    let mut port = MemPort::new(alloc, 24, lost)?;
-    let mut trace = MemSink::new(alloc, 1000, untraced)?;
+    let mut port = MemPort::new(alloc, 24, listed(alloc, failing, Send)?)?;
+    let mut trace = MemSink::new(alloc, 1000, listed(alloc, failing, Line(0))?)?;
     let end = drive_displays(rt, alloc, plant, &lock, &mut seat, &mut port, &mut trace);
-    Ok((end, port, trace))
+    Ok(end == wanted && port.bytes() == sent && trace.written() == front(LINES, traced))
 }
 
 #[test]
-fn a_lost_packet_is_not_sent_again(rt: HostRuntime) -> Result<(), Fail> {
+fn displays_are_driven_as_their_calls_go(rt: HostRuntime) -> Result<(), Fail> {
     let alloc = rt.alloc();
     let plant = Plant::from_toml(alloc, TOWER)?;
-    let (end, port, trace) = driven(&rt, alloc, &plant, vec![in alloc; 0]?, Vec::new(alloc))?;
-    assert_eq!(rt; end, DriverEnd::Finished { sent: 1, failed: 1 });
-    assert_eq!(rt;
-        port.bytes(),
-        b"\x0A\0\0\0\x07\0\x01\0\xC0\0\0\0".as_slice()
-    );
-    assert_eq!(rt; trace.written(), LINES);
-    Ok(())
-}
-
-#[test]
-fn what_is_not_traced_is_not_sent(rt: HostRuntime) -> Result<(), Fail> {
-    let alloc = rt.alloc();
-    let plant = Plant::from_toml(alloc, TOWER)?;
-    let (end, port, trace) = driven(&rt, alloc, &plant, Vec::new(alloc), vec![in alloc; 1]?)?;
-    assert_eq!(rt; end, DriverEnd::TraceFault);
-    assert_eq!(rt; port.lengths(), [12].as_slice());
-    assert_eq!(rt; trace.written(), &LINES[..38]);
+    for (at, case) in CASES.iter().enumerate() {
+        assert!(rt; drives_so(&rt, alloc, &plant, case)?, "case {at}");
+    }
     Ok(())
 }

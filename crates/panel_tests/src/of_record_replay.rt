@@ -1,9 +1,11 @@
 //! Scripts, and what they give.
 
+mod notices;
 mod streams;
 
 use crate::studio::STUDIO;
 use ctl_io::MemSink;
+use notices::NOTICES;
 use plant_config::Plant;
 use plant_names::Names;
 use record_replay::{ReplayFault, replay_script};
@@ -99,7 +101,7 @@ const REFUSED: &[&[u8]] = &[
 // What a script gives on a plant.
 fn replayed(alloc: Global, plant: &Plant, script: &[u8]) -> Result<Vec<u8>, ReplayFault> {
     let names = Names::new(alloc, plant)?;
-    let mut out = MemSink::new(alloc, 1000, Vec::new(alloc))?;
+    let mut out = MemSink::new(alloc, 3000, Vec::new(alloc))?;
     replay_script(alloc, plant, &names, script, &mut out)?;
     Ok(out.written().to_vec(alloc)?)
 }
@@ -124,6 +126,8 @@ fn scripts_are_replayed(rt: HostRuntime) -> Result<(), Fail> {
     give(&rt, alloc, &studio, DAYS)?;
     let plant = Plant::from_toml(alloc, PLANT)?;
     give(&rt, alloc, &plant, TAKES)?;
+    let bench = Plant::bench(alloc)?;
+    give(&rt, alloc, &bench, NOTICES)?;
     Ok(())
 }
 

@@ -3,8 +3,10 @@
 ghost use Rattle.std.specs.Prelude.{◌≡◌, ◌^◌, ◌≤◌, IfOk};
 ghost use Rattle.panel_server.specs.Seats.{IsSeatOf};
 
-use ctl_io::{Bytes, MemSink};
-use ctl_net::{LinkEvent, MemLink};
+use crate::in_memory::Call::{Line, Read, Write};
+use crate::in_memory::{Failing, NOTHING, front, link_of, listed, locked};
+use ctl_io::MemSink;
+use ctl_net::MemLink;
 use history_lock::{HistoryLock, Seat};
 use panel_session::{Session, SessionEnd, serve_session};
 use plant_config::{PanelNo, Plant};
@@ -44,30 +46,6 @@ level = [{ matrix = 0, level = 0, sources = 4, destinations = 8 }]
 panel = [{ port = 9001, device = 1 }]
 "#;
 
-// The number of no call.
-const NEVER: u64 = u64::MAX;
-
-// The call that fails, by its number from 0: a read, a write, a write of the trace.
-#[derive(Clone, Copy)]
-enum Failing {
-    Nothing,
-    Read(u64),
-    Write(u64),
-    Line(u64),
-}
-
-impl Failing {
-    // The numbers of the read, the write and the write of the trace that fail.
-    fn numbers(self) -> (u64, u64, u64) {
-        match self {
-            Failing::Nothing => (NEVER, NEVER, NEVER),
-            Failing::Read(number) => (number, NEVER, NEVER),
-            Failing::Write(number) => (NEVER, number, NEVER),
-            Failing::Line(number) => (NEVER, NEVER, number),
-        }
-    }
-}
-
 // What fails, and in how many turns the session is served; how it ends, and how many bytes were written and traced then.
 type Case = (Failing, u32, SessionEnd, usize, usize);
 
@@ -85,21 +63,21 @@ const FRAMES: Day = Day {
     written: ANSWERED,
     traced: TRACED,
     cases: &[
-        (Failing::Nothing, 10, SessionEnd::Ended, 26, 109),
-        (Failing::Read(0), 10, SessionEnd::ReadFault, 0, 0),
-        (Failing::Read(1), 10, SessionEnd::ReadFault, 26, 109),
-        (Failing::Read(2), 10, SessionEnd::Ended, 26, 109),
-        (Failing::Write(0), 10, SessionEnd::WriteFault, 0, 0),
-        (Failing::Write(1), 10, SessionEnd::WriteFault, 2, 47),
-        (Failing::Write(2), 10, SessionEnd::WriteFault, 13, 47),
-        (Failing::Write(3), 10, SessionEnd::WriteFault, 15, 92),
-        (Failing::Write(4), 10, SessionEnd::Ended, 26, 109),
-        (Failing::Line(0), 10, SessionEnd::TraceFault, 2, 0),
-        (Failing::Line(1), 10, SessionEnd::TraceFault, 15, 47),
-        (Failing::Line(2), 10, SessionEnd::TraceFault, 26, 92),
-        (Failing::Line(3), 10, SessionEnd::Ended, 26, 109),
-        (Failing::Nothing, 1, SessionEnd::Spent, 26, 109),
-        (Failing::Read(0), 0, SessionEnd::Spent, 0, 0),
+        (NOTHING, 10, SessionEnd::Ended, 26, 109),
+        ((Read, 0), 10, SessionEnd::ReadFault, 0, 0),
+        ((Read, 1), 10, SessionEnd::ReadFault, 26, 109),
+        ((Read, 2), 10, SessionEnd::Ended, 26, 109),
+        ((Write, 0), 10, SessionEnd::WriteFault, 0, 0),
+        ((Write, 1), 10, SessionEnd::WriteFault, 2, 47),
+        ((Write, 2), 10, SessionEnd::WriteFault, 13, 47),
+        ((Write, 3), 10, SessionEnd::WriteFault, 15, 92),
+        ((Write, 4), 10, SessionEnd::Ended, 26, 109),
+        ((Line(0), 0), 10, SessionEnd::TraceFault, 2, 0),
+        ((Line(0), 1), 10, SessionEnd::TraceFault, 15, 47),
+        ((Line(0), 2), 10, SessionEnd::TraceFault, 26, 92),
+        ((Line(0), 3), 10, SessionEnd::Ended, 26, 109),
+        (NOTHING, 1, SessionEnd::Spent, 26, 109),
+        ((Read, 0), 0, SessionEnd::Spent, 0, 0),
     ],
 };
 
@@ -109,45 +87,14 @@ const IDLE: Day = Day {
     written: b"",
     traced: POLLED,
     cases: &[
-        (Failing::Nothing, 10, SessionEnd::IdleOut, 0, 51),
-        (Failing::Nothing, 3, SessionEnd::IdleOut, 0, 51),
-        (Failing::Nothing, 2, SessionEnd::Spent, 0, 34),
-        (Failing::Line(2), 3, SessionEnd::TraceFault, 0, 34),
-        (Failing::Line(1), 2, SessionEnd::TraceFault, 0, 17),
-        (Failing::Read(2), 3, SessionEnd::ReadFault, 0, 34),
+        (NOTHING, 10, SessionEnd::IdleOut, 0, 51),
+        (NOTHING, 3, SessionEnd::IdleOut, 0, 51),
+        (NOTHING, 2, SessionEnd::Spent, 0, 34),
+        ((Line(0), 2), 3, SessionEnd::TraceFault, 0, 34),
+        ((Line(0), 1), 2, SessionEnd::TraceFault, 0, 17),
+        ((Read, 2), 3, SessionEnd::ReadFault, 0, 34),
     ],
 };
-
-// A link over which these pieces come, one of whose reads and one of whose writes fails.
-fn link_of(alloc: Global, pieces: &[&[u8]], read: u64, write: u64) -> Result<MemLink, AllocError> {
-    let mut events = Vec::new(alloc);
-    for piece in pieces {
-        events.push(event_of(alloc, piece)?)?;
-    }
-    let (reads, writes) = (vec![in alloc; read]?, vec![in alloc; write]?);
-    MemLink::new(alloc, events, 1000, reads, writes)
-}
-
-fn event_of(alloc: Global, piece: &[u8]) -> Result<LinkEvent, AllocError> {
-    if piece.is_empty() {
-        return Ok(LinkEvent::Idle);
-    }
-    Ok(LinkEvent::Piece(Bytes::of(piece.to_vec(alloc)?)))
-}
-
-// A lock round a plant at its start, with one seat.
-fn locked(
-    alloc: Global,
-    plant: &Plant,
-) -> Result<(HistoryLock<PlantState>, Seat<PlantState>), AllocError>
-    ensures { IfOk result (λ made. IsSeatOf plant.now made.0 made.1) }
-{
-    let (lock, mut seats) = HistoryLock::new(alloc, PlantState::start(alloc, plant)?, 1)?;
-    let Some(seat) = seats.pop() else {
-        unreachable!()
-    };
-    Ok((lock, seat))
-}
 
 // Serves a new session of panel 0 from a seat of the plant's lock.
 fn serve<R: Wait>(
@@ -178,9 +125,8 @@ fn goes_so<R: Wait>(
     case: &Case,
 ) -> Result<bool, AllocError> {
     let (failing, turns, wanted, written, traced) = *case;
-    let (read, write, line) = failing.numbers();
-    let mut link = link_of(alloc, day.pieces, read, write)?;
-    let mut trace = MemSink::new(alloc, 200, vec![in alloc; line]?)?;
+    let mut link = link_of(alloc, day.pieces, failing)?;
+    let mut trace = MemSink::new(alloc, 200, listed(alloc, failing, Line(0))?)?;
     let (lock, mut seat) = locked(alloc, plant)?;
     let end = serve(
         rt,
@@ -212,10 +158,6 @@ fn faults_of(end: SessionEnd) -> (u64, u64, u64) {
         u64::from(end == SessionEnd::WriteFault),
         u64::from(end == SessionEnd::TraceFault),
     )
-}
-
-fn front(bytes: &[u8], count: usize) -> &[u8] {
-    &bytes[..count.min(bytes.len())]
 }
 
 // The first case of a day that doesn't go as it says.
@@ -259,7 +201,7 @@ fn said<R: Wait>(
     requires seat { IsSeatOf plant.now lock.now seat.old }
     ensures { IfOk result (λ all. IsSeatOf plant.now lock.now seat.new) }
 {
-    let mut link = link_of(alloc, &[piece], NEVER, NEVER)?;
+    let mut link = link_of(alloc, &[piece], NOTHING)?;
     let mut trace = MemSink::new(alloc, 200, Vec::new(alloc))?;
     let _ended = serve(rt, alloc, plant, lock, seat, &mut link, &mut trace, 10)?;
     link.written().to_vec(alloc)
