@@ -5,7 +5,7 @@ DLE, STX, ETX, ACK, NAK = 0x10, 0x02, 0x03, 0x06, 0x15
 MOST_PACKET = 2048
 
 # The greatest value of a byte that has one.
-LIMITS = {"d": 127, "s": 127, "v": 127, "size": 2, "operation": 1, "salvo": 127, "status": 4, "details": 1, "validity": 2}
+LIMITS = {"m": 15, "l": 15, "d": 127, "s": 127, "v": 127, "size": 2, "operation": 1, "salvo": 127, "status": 4, "details": 1, "validity": 2}
 
 
 class Unread(Exception):

@@ -1,6 +1,6 @@
 -- The definitions at worked DATA.
 use Rattle.std.proofs.Common.{◌≡◌, true, false, inl, inr, [], ◌∷◌, Some, None, refl, arith}
-use Rattle.swp08_messages.specs.declared.message.Message.TheVariants.{Interrogate, Connect, Tally, Connected, ProtectAsk, ProtectTally, ProtectConnect, ProtectConnected, ProtectDisconnect, ProtectDisconnected, DumpAsk, SourceNamesAsk, SourceNameAsk, DestNamesAsk, DestNameAsk, Store, Stored, Go, GoDone, EntryAsk, Entry}
+use Rattle.swp08_messages.specs.declared.message.Message.TheVariants.{Interrogate, Connect, Tally, Connected, ProtectAsk, ProtectTally, ProtectConnect, ProtectConnected, ProtectDisconnect, ProtectDisconnected, DumpAsk, SourceNamesAsk, SourceNameAsk, DestNamesAsk, DestNameAsk, Store, Stored, Go, GoDone, EntryAsk, Entry, ExtInterrogate, ExtConnect, ExtTally, ExtConnected}
 use Rattle.swp08_messages.specs.declared.go_status.GoStatus.TheVariants.{Protected, NoTie}
 use Rattle.swp08_messages.specs.declared.validity.Validity.TheVariants.{Last, NoEntry}
 use Rattle.swp08_messages.specs.declared.point.Point.{Point}
@@ -133,6 +133,19 @@ tells_no_entry = refl
 
 dumps_the_last : dump_text 15 15 1022 (Some 0 ∷ Some 1022 ∷ []) ≡ 23 ∷ 255 ∷ 2 ∷ 3 ∷ 254 ∷ 0 ∷ 0 ∷ 3 ∷ 254 ∷ []
 dumps_the_last = refl
+
+-- the extended commands: numbers past those of the others, a parked destination, and the last numbers
+connects_2000_to_1500 : text (ExtConnect (record { matrix = 0; level = 0; dest = 2000 }) (Some 1500)) ≡ 130 ∷ 0 ∷ 0 ∷ 7 ∷ 0xD0 ∷ 5 ∷ 0xDC ∷ []
+connects_2000_to_1500 = refl
+
+asks_for_3000 : text (ExtInterrogate (record { matrix = 0; level = 0; dest = 3000 })) ≡ 129 ∷ 0 ∷ 0 ∷ 0x0B ∷ 0xB8 ∷ []
+asks_for_3000 = refl
+
+tells_3000_parked : text (ExtTally (record { matrix = 0; level = 0; dest = 3000 }) None) ≡ 131 ∷ 0 ∷ 0 ∷ 0x0B ∷ 0xB8 ∷ 255 ∷ 255 ∷ []
+tells_3000_parked = refl
+
+tells_the_last_of_all_connected : text (ExtConnected (record { matrix = 15; level = 15; dest = 65535 }) (Some 65534)) ≡ 132 ∷ 15 ∷ 15 ∷ 255 ∷ 255 ∷ 255 ∷ 254 ∷ []
+tells_the_last_of_all_connected = refl
 
 refuses_nothing : IsRefused [] (WrongLength 0 1)
 refuses_nothing = (refl, refl)

@@ -1,17 +1,21 @@
 -- What holds of one field and its byte.
 use Rattle.std.proofs.Common.{◌≡◌, ℕ, ◌<◌, Bool, true, false, Option, Some, None, refl, arith}
 use Rattle.swp08_messages.specs.declared.field.Field.{Field}
-use Rattle.swp08_messages.specs.declared.field.Field.TheVariants.{MatrixLevel, Matrix, DestHigh, CrosspointHigh, DestLow, SourceLow, NameSize, NumberHigh, NumberLow, ProtectHigh, DeviceLow, SpareLow, Details, Salvo, Operation, Status, Index, EntryValidity}
+use Rattle.swp08_messages.specs.declared.field.Field.TheVariants.{MatrixLevel, Matrix, DestHigh, CrosspointHigh, DestLow, SourceLow, NameSize, NumberHigh, NumberLow, ProtectHigh, DeviceLow, SpareLow, Details, Salvo, Operation, Status, Index, EntryValidity, ExtMatrix, ExtLevel, ExtSourceHigh, ExtSourceLow}
 use Rattle.swp08_messages.specs.declared.go_status.GoStatus.{GoStatus}
 use Rattle.swp08_messages.specs.declared.go_status.GoStatus.TheVariants.{Made, Cleared, Empty, Protected, NoTie}
 use Rattle.swp08_messages.specs.declared.validity.Validity.{Validity}
 use Rattle.swp08_messages.specs.declared.validity.Validity.TheVariants.{More, Last, NoEntry}
-use Rattle.swp08_messages.specs.Field.{flag, status_number, validity_number, number_of, IsSource, byte_of, looked_at, HasRoom}
+use Rattle.swp08_messages.specs.Field.{flag, status_number, validity_number, number_of, IsSource, ext_number_of, IsExtSource, byte_of, looked_at, HasRoom}
 use Rattle.swp08_messages.specs.ReadingInside.{limit_of}
 
 pub number_of-below : (source : Option ℕ) → IsSource source → number_of source < 1024
 number_of-below None h = omega arith
 number_of-below (Some source) h = omega arith
+
+pub ext_number_of-below : (source : Option ℕ) → IsExtSource source → ext_number_of source < 65536
+ext_number_of-below None h = omega arith
+ext_number_of-below (Some source) h = omega arith
 
 -- The numbers of what is counted are below the count.
 
@@ -51,6 +55,10 @@ below-limit_of (Operation clear) byte h room e = omega (arith, e, flag-below cle
 below-limit_of (Status status) byte h room e = omega (arith, e, status_number-below status)
 below-limit_of (Index index) byte h room e = h
 below-limit_of (EntryValidity validity) byte h room e = omega (arith, e, validity_number-below validity)
+below-limit_of (ExtMatrix matrix) byte h room e = omega (arith, room, e)
+below-limit_of (ExtLevel level) byte h room e = omega (arith, room, e)
+below-limit_of (ExtSourceHigh source) byte h room e = h
+below-limit_of (ExtSourceLow source) byte h room e = h
 
 -- A field's byte has none of the bits that aren't looked at.
 pub looked_at-byte_of : (field : Field) → HasRoom field → looked_at field (byte_of field) ≡ byte_of field
@@ -72,6 +80,10 @@ looked_at-byte_of (Operation clear) room = refl
 looked_at-byte_of (Status status) room = refl
 looked_at-byte_of (Index index) room = refl
 looked_at-byte_of (EntryValidity validity) room = refl
+looked_at-byte_of (ExtMatrix matrix) room = refl
+looked_at-byte_of (ExtLevel level) room = refl
+looked_at-byte_of (ExtSourceHigh source) room = refl
+looked_at-byte_of (ExtSourceLow source) room = refl
 
 pub byte_of-below : (field : Field) → HasRoom field → byte_of field < 256
 byte_of-below (MatrixLevel matrix level) room = omega (arith, room.0, room.1)
@@ -92,6 +104,10 @@ byte_of-below (Operation clear) room = omega (arith, flag-below clear)
 byte_of-below (Status status) room = omega (arith, status_number-below status)
 byte_of-below (Index index) room = omega (arith, room)
 byte_of-below (EntryValidity validity) room = omega (arith, validity_number-below validity)
+byte_of-below (ExtMatrix matrix) room = omega (arith, room)
+byte_of-below (ExtLevel level) room = omega (arith, room)
+byte_of-below (ExtSourceHigh source) room = omega (arith, ext_number_of-below source room)
+byte_of-below (ExtSourceLow source) room = omega arith
 
 pub limit_of-positive : (field : Field) → 0 < limit_of field
 limit_of-positive (MatrixLevel matrix level) = omega arith
@@ -112,3 +128,7 @@ limit_of-positive (Operation clear) = omega arith
 limit_of-positive (Status status) = omega arith
 limit_of-positive (Index index) = omega arith
 limit_of-positive (EntryValidity validity) = omega arith
+limit_of-positive (ExtMatrix matrix) = omega arith
+limit_of-positive (ExtLevel level) = omega arith
+limit_of-positive (ExtSourceHigh source) = omega arith
+limit_of-positive (ExtSourceLow source) = omega arith

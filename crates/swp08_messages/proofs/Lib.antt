@@ -6,6 +6,7 @@ pub mod LayoutLemmas
 pub mod NamesLemmas
 pub mod ProtectsLemmas
 pub mod SalvosLemmas
+pub mod ExtendedLemmas
 pub mod ReadingLemmas
 pub mod SpellsLemmas
 pub mod DumpLemmas

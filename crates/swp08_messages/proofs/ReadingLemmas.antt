@@ -4,17 +4,18 @@ use Rattle.std.proofs.Math.Decide.{ℕ_discrete}
 use Rattle.swp08_messages.specs.declared.field.Field.{Field}
 use Rattle.swp08_messages.specs.declared.field.Field.TheVariants.{SpareLow}
 use Rattle.swp08_messages.specs.declared.message.Message.{Message}
-use Rattle.swp08_messages.specs.declared.message.Message.TheVariants.{Interrogate, Connect, Tally, Connected, ProtectAsk, ProtectTally, ProtectConnect, ProtectConnected, ProtectDisconnect, ProtectDisconnected, DumpAsk, SourceNamesAsk, SourceNameAsk, DestNamesAsk, DestNameAsk, Store, Go, Stored, GoDone, EntryAsk, Entry}
+use Rattle.swp08_messages.specs.declared.message.Message.TheVariants.{Interrogate, Connect, Tally, Connected, ProtectAsk, ProtectTally, ProtectConnect, ProtectConnected, ProtectDisconnect, ProtectDisconnected, DumpAsk, SourceNamesAsk, SourceNameAsk, DestNamesAsk, DestNameAsk, Store, Go, Stored, GoDone, EntryAsk, Entry, ExtInterrogate, ExtConnect, ExtTally, ExtConnected}
 use Rattle.swp08_messages.specs.Field.{byte_of}
 use Rattle.swp08_messages.specs.Row.{destination, row}
 use Rattle.swp08_messages.specs.Text.{text, InRange}
 use Rattle.swp08_messages.specs.Spelled.{SpellFields, Spells}
-use Rattle.swp08_messages.specs.ReadingInside.{limit_of, held_to, point_in, source_in, device_in, owned_in, told_point_in, told_device_in, matrix_in, level_in, size_in, wide_in, status_of, entry_in}
-use Rattle.swp08_messages.specs.ReadingInside.{crosspoint_message, protect_message, dump_message, names_message, salvo_message, first_of, message_of}
+use Rattle.swp08_messages.specs.ReadingInside.{limit_of, held_to, point_in, source_in, device_in, owned_in, told_point_in, told_device_in, matrix_in, level_in, size_in, wide_in, status_of, entry_in, ext_point_in, ext_source_in}
+use Rattle.swp08_messages.specs.ReadingInside.{crosspoint_message, protect_message, dump_message, names_message, salvo_message, extended_message, first_of, message_of}
 use Rattle.swp08_messages.proofs.LayoutLemmas.{Below, SpellThem, destination-in, crosspoint-in, point_in-again, crosspoint-again}
 use Rattle.swp08_messages.proofs.NamesLemmas.{one_level-in, one_level-again, source_names_ask-in, source_names_ask-again, source_name_ask-in, source_name_ask-again, dest_names_ask-in, dest_names_ask-again, dest_name_ask-in, dest_name_ask-again}
 use Rattle.swp08_messages.proofs.ProtectsLemmas.{protect-in, protect-again, protect_told-in, protect_told-again, spare-in, spare-again}
 use Rattle.swp08_messages.proofs.SalvosLemmas.{stored_crosspoint-in, stored_crosspoint-again, entry-in, entry-again, go-in, go-again, go_done-in, go_done-again, entry_ask-in, entry_ask-again}
+use Rattle.swp08_messages.proofs.ExtendedLemmas.{ext_destination-in, ext_destination-again, ext_crosspoint-in, ext_crosspoint-again}
 use Rattle.swp08_messages.proofs.HeldLemmas.{held_to-fields, held_to-longer, held_to-plain}
 use Rattle.swp08_messages.proofs.SpelledLemmas.{Spells-text}
 
@@ -58,6 +59,10 @@ limits_of-message_of (Stored at source salvo) bytes = refl
 limits_of-message_of (GoDone status salvo) bytes = refl
 limits_of-message_of (EntryAsk salvo index) bytes = refl
 limits_of-message_of (Entry at source salvo index validity) bytes = refl
+limits_of-message_of (ExtInterrogate at) bytes = refl
+limits_of-message_of (ExtConnect at source) bytes = refl
+limits_of-message_of (ExtTally at source) bytes = refl
+limits_of-message_of (ExtConnected at source) bytes = refl
 
 -- a message's bytes give it back
 message_of-again : (message : Message) (bytes : List ℕ) → InRange message → SpellFields bytes (row message).fields → message_of (row message).command bytes ≡ Some message
@@ -92,6 +97,10 @@ message_of-again (EntryAsk salvo index) bytes room spell = let e = entry_ask-aga
 message_of-again (Entry at source salvo index validity) bytes room spell =
     let e = entry-again at source salvo index validity bytes room spell in
     rw (e.carried.point, e.carried.source_is, e.salvo_is, e.index_is, e.validity_is) refl
+message_of-again (ExtInterrogate at) bytes room spell = ap (λ p. Some (ExtInterrogate p)) (ext_destination-again at bytes spell)
+message_of-again (ExtConnect at source) bytes room spell = let e = ext_crosspoint-again at source bytes room spell in rw (e.point, e.source_is) refl
+message_of-again (ExtTally at source) bytes room spell = let e = ext_crosspoint-again at source bytes room spell in rw (e.point, e.source_is) refl
+message_of-again (ExtConnected at source) bytes room spell = let e = ext_crosspoint-again at source bytes room spell in rw (e.point, e.source_is) refl
 
 -- the same with what DATA may have behind them
 message_of-longer : (message : Message) (bytes : List ℕ) → InRange message → SpellFields bytes ((row message).fields ++ (row message).spare)
@@ -187,6 +196,14 @@ salvo_message-reads command bytes message =
     reads_at command 125 bytes message _ _ (reads command bytes (entry_in bytes) refl (entry-in bytes)) (
     λ none. absurd cc))))))
 
+extended_message-reads : (command : ℕ) (bytes : List ℕ) (message : Message) → extended_message command bytes ≡ Some message → IsRead command bytes message
+extended_message-reads command bytes message =
+    reads_at command 129 bytes message _ _ (reads command bytes (ExtInterrogate (ext_point_in bytes)) refl (ext_destination-in bytes)) (
+    reads_at command 130 bytes message _ _ (reads command bytes (ExtConnect (ext_point_in bytes) (ext_source_in bytes)) refl (ext_crosspoint-in bytes)) (
+    reads_at command 131 bytes message _ _ (reads command bytes (ExtTally (ext_point_in bytes) (ext_source_in bytes)) refl (ext_crosspoint-in bytes)) (
+    reads_at command 132 bytes message _ _ (reads command bytes (ExtConnected (ext_point_in bytes) (ext_source_in bytes)) refl (ext_crosspoint-in bytes)) (
+    λ none. absurd cc))))
+
 -- by the first of two families that has the command
 first_of-reads : (command : ℕ) (bytes : List ℕ) (message : Message) (first others : Option Message)
     → (first ≡ Some message → IsRead command bytes message) → (others ≡ Some message → IsRead command bytes message)
@@ -200,7 +217,8 @@ message_of-reads command bytes message =
     first_of-reads command bytes message _ _ (crosspoint_message-reads command bytes message) (
     first_of-reads command bytes message _ _ (protect_message-reads command bytes message) (
     first_of-reads command bytes message _ _ (dump_message-reads command bytes message) (
-    first_of-reads command bytes message _ _ (names_message-reads command bytes message) (salvo_message-reads command bytes message))))
+    first_of-reads command bytes message _ _ (names_message-reads command bytes message) (
+    first_of-reads command bytes message _ _ (salvo_message-reads command bytes message) (extended_message-reads command bytes message)))))
 
 -- Of which nothing is read is the command of no message.
 pub message_of-none : (command : ℕ) (bytes : List ℕ) → message_of command bytes ≡ None → (message : Message) → (row message).command ≢ command

@@ -5,7 +5,7 @@ use Rattle.std.proofs.Math.Decide.{ℕ_discrete}
 use Rattle.std.proofs.lemmas.List.Elements.{All-from_recursion}
 use Rattle.swp08_messages.specs.declared.field.Field.{Field}
 use Rattle.swp08_messages.specs.declared.message.Message.{Message}
-use Rattle.swp08_messages.specs.declared.message.Message.TheVariants.{Interrogate, Connect, Tally, Connected, ProtectAsk, ProtectTally, ProtectConnect, ProtectConnected, ProtectDisconnect, ProtectDisconnected, DumpAsk, SourceNamesAsk, SourceNameAsk, DestNamesAsk, DestNameAsk, Store, Go, Stored, GoDone, EntryAsk, Entry}
+use Rattle.swp08_messages.specs.declared.message.Message.TheVariants.{Interrogate, Connect, Tally, Connected, ProtectAsk, ProtectTally, ProtectConnect, ProtectConnected, ProtectDisconnect, ProtectDisconnected, DumpAsk, SourceNamesAsk, SourceNameAsk, DestNamesAsk, DestNameAsk, Store, Go, Stored, GoDone, EntryAsk, Entry, ExtInterrogate, ExtConnect, ExtTally, ExtConnected}
 use Rattle.swp08_messages.specs.Field.{byte_of, HasRoom}
 use Rattle.swp08_messages.specs.Row.{MessageRow, row}
 use Rattle.swp08_messages.specs.Text.{text, InRange}
@@ -114,6 +114,10 @@ command_below (Stored at source salvo) = omega arith
 command_below (GoDone status salvo) = omega arith
 command_below (EntryAsk salvo index) = omega arith
 command_below (Entry at source salvo index validity) = omega arith
+command_below (ExtInterrogate at) = omega arith
+command_below (ExtConnect at source) = omega arith
+command_below (ExtTally at source) = omega arith
+command_below (ExtConnected at source) = omega arith
 
 -- Each number of a text is a byte.
 pub All-text : (message : Message) → InRange message → All (λ byte. byte < 256) (text message)

@@ -3,9 +3,9 @@ use Rattle.std.proofs.Common.{◌≡◌, ℕ, ◌⊎◌, inl, inr, List, [], ◌
 use Rattle.std.specs.List.{AllByRecursion}
 use Rattle.std.proofs.Math.Decide.{dec_lt, ℕ_discrete}
 use Rattle.swp08_messages.specs.declared.field.Field.{Field}
-use Rattle.swp08_messages.specs.declared.field.Field.TheVariants.{MatrixLevel, Matrix, DestHigh, CrosspointHigh, DestLow, SourceLow, NameSize, NumberHigh, NumberLow, ProtectHigh, DeviceLow, SpareLow, Details, Salvo, Operation, Status, Index, EntryValidity}
+use Rattle.swp08_messages.specs.declared.field.Field.TheVariants.{MatrixLevel, Matrix, DestHigh, CrosspointHigh, DestLow, SourceLow, NameSize, NumberHigh, NumberLow, ProtectHigh, DeviceLow, SpareLow, Details, Salvo, Operation, Status, Index, EntryValidity, ExtMatrix, ExtLevel, ExtSourceHigh, ExtSourceLow}
 use Rattle.swp08_messages.specs.declared.message.Message.{Message}
-use Rattle.swp08_messages.specs.Field.{parked, IsSource, HasRoom}
+use Rattle.swp08_messages.specs.Field.{parked, ext_parked, IsSource, IsExtSource, HasRoom}
 use Rattle.swp08_messages.specs.Row.{row}
 use Rattle.swp08_messages.specs.Text.{InRange}
 use Rattle.swp08_messages.specs.Spelled.{SpellFields, SpellRow, Spells}
@@ -30,6 +30,10 @@ source_in_range : (source : Option ℕ) → Dec (IsSource source)
 source_in_range None = yes tt
 source_in_range (Some source) = dec_lt source parked
 
+ext_source_in_range : (source : Option ℕ) → Dec (IsExtSource source)
+ext_source_in_range None = yes tt
+ext_source_in_range (Some source) = dec_lt source ext_parked
+
 has_room : (field : Field) → Dec (HasRoom field)
 has_room (MatrixLevel matrix level) = both (dec_lt _ _) (dec_lt _ _)
 has_room (Matrix matrix) = dec_lt _ _
@@ -49,6 +53,10 @@ has_room (Operation clear) = yes tt
 has_room (Status status) = yes tt
 has_room (Index index) = dec_lt _ _
 has_room (EntryValidity validity) = yes tt
+has_room (ExtMatrix matrix) = dec_lt _ _
+has_room (ExtLevel level) = dec_lt _ _
+has_room (ExtSourceHigh source) = ext_source_in_range source
+has_room (ExtSourceLow source) = ext_source_in_range source
 
 have_room : (fields : List Field) → Dec (AllByRecursion HasRoom fields)
 have_room [] = yes tt

@@ -5,6 +5,7 @@ use Rattle.swp08_messages.specs.declared.field.Field.TheVariants.{MatrixLevel, M
 use Rattle.swp08_messages.specs.declared.field.Field.TheVariants.{DestLow, SourceLow, NameSize, NumberHigh, NumberLow}
 use Rattle.swp08_messages.specs.declared.field.Field.TheVariants.{ProtectHigh, DeviceLow, SpareLow, Details}
 use Rattle.swp08_messages.specs.declared.field.Field.TheVariants.{Salvo, Operation, Status, Index, EntryValidity}
+use Rattle.swp08_messages.specs.declared.field.Field.TheVariants.{ExtMatrix, ExtLevel, ExtSourceHigh, ExtSourceLow}
 use Rattle.swp08_messages.specs.declared.go_status.GoStatus.{GoStatus}
 use Rattle.swp08_messages.specs.declared.go_status.GoStatus.TheVariants.{Made, Cleared, Empty, Protected, NoTie}
 use Rattle.swp08_messages.specs.declared.validity.Validity.{Validity}
@@ -14,13 +15,17 @@ use Rattle.swp08_messages.specs.declared.validity.Validity.TheVariants.{More, La
 abbrev pub levels : ℕ
 levels = 16
 
--- destinations are numbered from 0 and below this
+-- destinations are numbered from 0 and below this, but for those of the extended commands
 abbrev pub dests : ℕ
 dests = 1024
 
 -- the number of a source that says 'parked'; sources are numbered from 0 and below it
 abbrev pub parked : ℕ
 parked = 1023
+
+-- the same in the extended commands
+abbrev pub ext_parked : ℕ
+ext_parked = 65535
 
 -- a number is sent in two parts: its high part is the number DIV this, its low part the number MOD this
 abbrev pub part : ℕ
@@ -60,6 +65,16 @@ abbrev pub IsSource : Option ℕ → Type 0
 IsSource None = Unit {0}
 IsSource (Some source) = source < parked
 
+-- The same in the extended commands.
+
+abbrev pub ext_number_of : Option ℕ → ℕ
+ext_number_of None = ext_parked
+ext_number_of (Some source) = source
+
+abbrev pub IsExtSource : Option ℕ → Type 0
+IsExtSource None = Unit {0}
+IsExtSource (Some source) = source < ext_parked
+
 -- the number that stands for a yes or a no
 abbrev pub flag : Bool → ℕ
 flag holds = if holds then 1 else 0
@@ -98,6 +113,10 @@ byte_of (Operation clear) = flag clear
 byte_of (Status status) = status_number status
 byte_of (Index index) = index
 byte_of (EntryValidity validity) = validity_number validity
+byte_of (ExtMatrix matrix) = matrix
+byte_of (ExtLevel level) = level
+byte_of (ExtSourceHigh source) = ext_number_of source / whole_part
+byte_of (ExtSourceLow source) = ext_number_of source % whole_part
 
 -- A byte with the bits made 0 that aren't looked at. Of a multiplier these are bits 3 and 7 and, of a destination
 -- alone, bits 0 to 2. Of a matrix with no level they are the bits of a level, 0 to 3. Of a low part that isn't kept they
@@ -121,6 +140,10 @@ looked_at (Operation clear) byte = byte
 looked_at (Status status) byte = byte
 looked_at (Index index) byte = byte
 looked_at (EntryValidity validity) byte = byte
+looked_at (ExtMatrix matrix) byte = byte
+looked_at (ExtLevel level) byte = byte
+looked_at (ExtSourceHigh source) byte = byte
+looked_at (ExtSourceLow source) byte = byte
 
 -- The values of a field are in their ranges.
 abbrev pub HasRoom : Field → Type 0
@@ -142,3 +165,7 @@ HasRoom (Operation clear) = Unit {0}
 HasRoom (Status status) = Unit {0}
 HasRoom (Index index) = index < indexes
 HasRoom (EntryValidity validity) = Unit {0}
+HasRoom (ExtMatrix matrix) = matrix < levels
+HasRoom (ExtLevel level) = level < levels
+HasRoom (ExtSourceHigh source) = IsExtSource source
+HasRoom (ExtSourceLow source) = IsExtSource source

@@ -8,6 +8,7 @@ use Rattle.swp08_messages.specs.declared.field.Field.TheVariants.{MatrixLevel, M
 use Rattle.swp08_messages.specs.declared.field.Field.TheVariants.{DestLow, SourceLow, NameSize, NumberHigh, NumberLow}
 use Rattle.swp08_messages.specs.declared.field.Field.TheVariants.{ProtectHigh, DeviceLow, SpareLow, Details}
 use Rattle.swp08_messages.specs.declared.field.Field.TheVariants.{Salvo, Operation, Status, Index, EntryValidity}
+use Rattle.swp08_messages.specs.declared.field.Field.TheVariants.{ExtMatrix, ExtLevel, ExtSourceHigh, ExtSourceLow}
 use Rattle.swp08_messages.specs.declared.go_status.GoStatus.{GoStatus}
 use Rattle.swp08_messages.specs.declared.go_status.GoStatus.TheVariants.{Made, Cleared, Empty, Protected, NoTie}
 use Rattle.swp08_messages.specs.declared.validity.Validity.{Validity}
@@ -20,7 +21,8 @@ use Rattle.swp08_messages.specs.declared.message.Message.TheVariants.{ProtectCon
 use Rattle.swp08_messages.specs.declared.message.Message.TheVariants.{ProtectDisconnected, SourceNamesAsk, SourceNameAsk}
 use Rattle.swp08_messages.specs.declared.message.Message.TheVariants.{DestNamesAsk, DestNameAsk}
 use Rattle.swp08_messages.specs.declared.message.Message.TheVariants.{Store, Go, Stored, GoDone, EntryAsk, Entry}
-use Rattle.swp08_messages.specs.Field.{part, parked, sizes, whole_part, salvos}
+use Rattle.swp08_messages.specs.declared.message.Message.TheVariants.{ExtInterrogate, ExtConnect, ExtTally, ExtConnected}
+use Rattle.swp08_messages.specs.Field.{levels, part, parked, ext_parked, sizes, whole_part, salvos}
 
 -- the least number that is no byte of a field
 abbrev pub limit_of : Field → ℕ
@@ -42,6 +44,10 @@ limit_of (Operation clear) = 2
 limit_of (Status status) = 5
 limit_of (Index index) = 256
 limit_of (EntryValidity validity) = 3
+limit_of (ExtMatrix matrix) = levels
+limit_of (ExtLevel level) = levels
+limit_of (ExtSourceHigh source) = 256
+limit_of (ExtSourceLow source) = 256
 
 -- the destination that these bytes give
 abbrev pub point_of : ℕ → ℕ → ℕ → Point
@@ -55,6 +61,13 @@ second_of high low = high % 8 * part + low
 -- the source that these bytes give
 abbrev pub source_of : ℕ → ℕ → Option ℕ
 source_of high low = if second_of high low == parked then None else Some (second_of high low)
+
+-- the number that two whole bytes give, and the source in the extended commands
+abbrev pub wide_of : ℕ → ℕ → ℕ
+wide_of high low = high * whole_part + low
+
+abbrev pub ext_source_of : ℕ → ℕ → Option ℕ
+ext_source_of high low = if wide_of high low == ext_parked then None else Some (wide_of high low)
 
 -- what became of a salvo, and whether it has an entry at a place, by the byte that says it
 abbrev pub status_of : ℕ → GoStatus
@@ -100,7 +113,15 @@ abbrev pub size_in : List ℕ → ℕ
 size_in bytes = slice_index bytes 1
 
 abbrev pub wide_in : List ℕ → ℕ
-wide_in bytes = slice_index bytes 2 * whole_part + slice_index bytes 3
+wide_in bytes = wide_of (slice_index bytes 2) (slice_index bytes 3)
+
+-- the destination and the source that they give in the extended commands
+abbrev pub ext_point_in : List ℕ → Point
+ext_point_in bytes =
+    record { matrix = slice_index bytes 0; level = slice_index bytes 1; dest = wide_in bytes }
+
+abbrev pub ext_source_in : List ℕ → Option ℕ
+ext_source_in bytes = ext_source_of (slice_index bytes 4) (slice_index bytes 5)
 
 -- Bytes behind a command are those of a destination: three, the last of them a low part.
 abbrev pub AreDestination : List ℕ → Type 0
@@ -175,6 +196,15 @@ salvo_message command bytes =
     else if command == 125 then Some (entry_in bytes)
     else None
 
+-- the same of an extended command
+abbrev pub extended_message : ℕ → List ℕ → Option Message
+extended_message command bytes =
+    if command == 129 then Some (ExtInterrogate (ext_point_in bytes))
+    else if command == 130 then Some (ExtConnect (ext_point_in bytes) (ext_source_in bytes))
+    else if command == 131 then Some (ExtTally (ext_point_in bytes) (ext_source_in bytes))
+    else if command == 132 then Some (ExtConnected (ext_point_in bytes) (ext_source_in bytes))
+    else None
+
 -- the first of two messages that is there
 abbrev pub first_of : Option Message → Option Message → Option Message
 first_of None other = other
@@ -186,7 +216,8 @@ message_of command bytes =
     first_of (crosspoint_message command bytes)
     (first_of (protect_message command bytes)
     (first_of (dump_message command bytes)
-    (first_of (names_message command bytes) (salvo_message command bytes))))
+    (first_of (names_message command bytes)
+    (first_of (salvo_message command bytes) (extended_message command bytes)))))
 
 -- the first byte that isn't below its field's limit, the first of these bytes standing at `place`
 abbrev pub first_bad : ℕ → List Field → List ℕ → Option ReadFault

@@ -5,6 +5,7 @@ use Rattle.swp08_messages.specs.declared.field.Field.TheVariants.{MatrixLevel, M
 use Rattle.swp08_messages.specs.declared.field.Field.TheVariants.{DestLow, SourceLow, NameSize, NumberHigh, NumberLow}
 use Rattle.swp08_messages.specs.declared.field.Field.TheVariants.{ProtectHigh, DeviceLow, SpareLow, Details}
 use Rattle.swp08_messages.specs.declared.field.Field.TheVariants.{Salvo, Operation, Status, Index, EntryValidity}
+use Rattle.swp08_messages.specs.declared.field.Field.TheVariants.{ExtMatrix, ExtLevel, ExtSourceHigh, ExtSourceLow}
 use Rattle.swp08_messages.specs.declared.go_status.GoStatus.{GoStatus}
 use Rattle.swp08_messages.specs.declared.validity.Validity.{Validity}
 use Rattle.swp08_messages.specs.declared.point.Point.{Point}
@@ -15,6 +16,7 @@ use Rattle.swp08_messages.specs.declared.message.Message.TheVariants.{ProtectCon
 use Rattle.swp08_messages.specs.declared.message.Message.TheVariants.{ProtectDisconnected, SourceNamesAsk, SourceNameAsk}
 use Rattle.swp08_messages.specs.declared.message.Message.TheVariants.{DestNamesAsk, DestNameAsk}
 use Rattle.swp08_messages.specs.declared.message.Message.TheVariants.{Store, Go, Stored, GoDone, EntryAsk, Entry}
+use Rattle.swp08_messages.specs.declared.message.Message.TheVariants.{ExtInterrogate, ExtConnect, ExtTally, ExtConnected}
 use Rattle.swp08_messages.specs.declared.message.MessageKind.{MessageKind}
 use Rattle.swp08_messages.specs.declared.message.MessageKind.TheVariants.{Plant, Report, Names}
 
@@ -88,6 +90,14 @@ dest_names_ask matrix size = Matrix matrix ∷ NameSize size ∷ []
 abbrev pub dest_name_ask : ℕ → ℕ → ℕ → List Field
 dest_name_ask matrix size number = Matrix matrix ∷ NameSize size ∷ wide number
 
+-- a destination, and a crosspoint, in the extended commands: matrix and level with a byte each, the destination and
+-- the source in two whole bytes each
+abbrev pub ext_destination : Point → List Field
+ext_destination at = ExtMatrix at.matrix ∷ ExtLevel at.level ∷ wide at.dest
+
+abbrev pub ext_crosspoint : Point → Option ℕ → List Field
+ext_crosspoint at source = ext_destination at ++ ExtSourceHigh source ∷ ExtSourceLow source ∷ []
+
 -- a row with nothing to spare
 abbrev pub plain : ℕ → MessageKind → List Field → MessageRow
 plain command kind fields =
@@ -119,3 +129,7 @@ row (GoDone status salvo) = plain 123 Report (go_done status salvo)
 row (EntryAsk salvo index) = plain 124 Plant (entry_ask salvo index)
 row (Entry at source salvo index validity) =
     plain 125 Report (entry at source salvo index validity)
+row (ExtInterrogate at) = plain 129 Plant (ext_destination at)
+row (ExtConnect at source) = plain 130 Plant (ext_crosspoint at source)
+row (ExtTally at source) = plain 131 Report (ext_crosspoint at source)
+row (ExtConnected at source) = plain 132 Report (ext_crosspoint at source)

@@ -8,13 +8,19 @@ use Rattle.swp08_messages.specs.declared.field.Field.TheVariants.{MatrixLevel, M
 use Rattle.swp08_messages.specs.declared.field.Field.TheVariants.{DestLow, SourceLow, NameSize, NumberHigh, NumberLow}
 use Rattle.swp08_messages.specs.declared.field.Field.TheVariants.{ProtectHigh, DeviceLow, SpareLow, Details}
 use Rattle.swp08_messages.specs.declared.field.Field.TheVariants.{Salvo, Operation, Status, Index, EntryValidity}
-use Rattle.swp08_messages.specs.Field.{levels, dests, parked, sizes, wide_numbers, devices, salvos, indexes}
-use Rattle.swp08_messages.specs.Field.{whole_part, byte_of}
+use Rattle.swp08_messages.specs.declared.field.Field.TheVariants.{ExtMatrix, ExtLevel, ExtSourceHigh, ExtSourceLow}
+use Rattle.swp08_messages.specs.Field.{levels, dests, parked, ext_parked, sizes, wide_numbers, devices, salvos}
+use Rattle.swp08_messages.specs.Field.{indexes, whole_part, byte_of}
 
 -- whether a source is parked, or below the number that says so
 abbrev pub is_source : Option ℕ → Bool
 is_source None = true
 is_source (Some source) = nat_lt source parked
+
+-- the same in the extended commands
+abbrev pub is_ext_source : Option ℕ → Bool
+is_ext_source None = true
+is_ext_source (Some source) = nat_lt source ext_parked
 
 -- whether the values of a field are in their ranges
 abbrev pub has_room : Field → Bool
@@ -36,6 +42,10 @@ has_room (Operation clear) = true
 has_room (Status status) = true
 has_room (Index index) = nat_lt index indexes
 has_room (EntryValidity validity) = true
+has_room (ExtMatrix matrix) = nat_lt matrix levels
+has_room (ExtLevel level) = nat_lt level levels
+has_room (ExtSourceHigh source) = is_ext_source source
+has_room (ExtSourceLow source) = is_ext_source source
 
 -- the eight low bits of a field's byte
 abbrev pub written : Field → ℕ

@@ -1,10 +1,10 @@
 //! What the bytes behind a command give as they come, a missing one taken as 0.
 
-ghost use Rattle.std.specs.Prelude.{◌≡◌, slice_index};
+ghost use Rattle.std.specs.Prelude.{◌≡◌, ◌+◌, ◌<◌, slice_index};
 ghost use Rattle.swp08_messages.specs.ReadingInside.{matrix_in, level_in, point_of};
-ghost use Rattle.swp08_messages.specs.ReadingInside.{second_of, source_in};
+ghost use Rattle.swp08_messages.specs.ReadingInside.{second_of, source_in, wide_of, wide_in};
 
-use crate::field::PART;
+use crate::field::{PART, WHOLE_PART};
 use crate::point::{PARKED, Point};
 
 /// The byte at a place, counted from 0 behind the command.
@@ -49,6 +49,22 @@ pub(crate) fn second_at(behind: &[u8], high: usize, low: usize) -> u16
 {
     let part = byte_at(behind, high) % 8;
     u16::from(part) * PART + u16::from(byte_at(behind, low))
+}
+
+/// The number in two whole bytes, the high one at `high` and the low one behind it.
+#[inline]
+pub(crate) fn wide_at(behind: &[u8], high: usize) -> u16
+    requires { high < 8 }
+    ensures { let at = slice_index behind.now in result ≡ wide_of (at high) (at (high + 1)) }
+{
+    u16::from(byte_at(behind, high)) * WHOLE_PART + u16::from(byte_at(behind, high + 1))
+}
+
+/// The number of a name, or the destination of an extended command.
+pub(crate) fn wide_in(behind: &[u8]) -> u16
+    ensures { result ≡ wide_in behind.now }
+{
+    wide_at(behind, 2)
 }
 
 /// The source at a destination.

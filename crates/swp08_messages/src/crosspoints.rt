@@ -4,7 +4,7 @@
 ghost use Rattle.std.specs.Prelude.{◌≡◌, ◌∷◌, ◌↔◌, IsTrue, map, MatchOption};
 ghost use Rattle.swp08_messages.specs.declared.message.Message.{Message};
 ghost use Rattle.swp08_messages.specs.Row.{destination, crosspoint};
-ghost use Rattle.swp08_messages.specs.Text.{text, InRange, TellsNoCrosspoint};
+ghost use Rattle.swp08_messages.specs.Text.{text, InRange, TellsInFiveBytes};
 ghost use Rattle.swp08_messages.specs.Spelled.{Spells};
 ghost use Rattle.swp08_messages.specs.ReadingInside.{crosspoint_message, AsksOfCrosspoint};
 ghost use Rattle.swp08_messages.specs.ReadingInside.{AreDestination, AreCrosspoint};
@@ -105,14 +105,15 @@ fn are_crosspoint(behind: &[u8]) -> bool
 }
 
 impl Message {
-    /// The canonical DATA of a message that tells a crosspoint, a tally or a connected. `None` of any other.
+    /// The canonical DATA of a tally or a connected, five bytes each. `None` of any other message, also of those of the
+    /// extended commands, which are longer.
     // Short way: five bytes in a value, which nearly every answer is, in place of `write`.
     #[inline(always)]
-    pub fn told_crosspoint(&self) -> Option<[u8; 5]>
+    pub fn five_byte_text(&self) -> Option<[u8; 5]>
         requires in_range { InRange self.now }
         ensures { MatchOption result
-            (TellsNoCrosspoint self.now)
-            (λ bytes. bytes ≡ text self.now) }
+            (TellsInFiveBytes self.now → ⊥)
+            (λ bytes. TellsInFiveBytes self.now × (bytes ≡ text self.now)) }
     {
         match *self {
             Message::Tally { at, source } => Some(crosspoint_text(TALLY, at, source)),

@@ -15,8 +15,9 @@ pub enum ReadFault {
     WrongLength(usize, usize),
     /// The byte at this place, counted from the command at 0, is no value of its field: the low part of a destination,
     /// a source or a device is above 127, or a salvo is; the size of a name is above 2, or the validity of an entry is; the
-    /// details of a protect are above 1, or the operation of a go is; the status of a go is above 4. A matrix with its
-    /// level, a multiplier, the number of a name and the index of an entry have no bad value.
+    /// details of a protect are above 1, or the operation of a go is; the status of a go is above 4; the matrix or the level
+    /// of an extended command is above 15. A matrix with its level, a multiplier, the number of a name, the index of an
+    /// entry, and the destination and the source of an extended command have no bad value.
     #[error("byte {1} at place {0} is no value of its field")]
     BadField(usize, u8),
 }

@@ -2,18 +2,18 @@
 
 ghost use Rattle.std.specs.Prelude.{◌≡◌, ◌↔◌, ◌<◌, ◌≤◌, ◌+◌, ◌*◌, ◌/◌, ◌%◌, IsTrue};
 ghost use Rattle.swp08_messages.specs.declared.field.Field.TheVariants.{MatrixLevel};
-ghost use Rattle.swp08_messages.specs.Field.{byte_of, HasRoom, number_of, levels};
+ghost use Rattle.swp08_messages.specs.Field.{byte_of, HasRoom, number_of, ext_number_of, levels};
 ghost use Rattle.swp08_messages.specs.ReadingInside.{limit_of};
 ghost use Rattle.swp08_messages.specs.ViewsInside.{has_room, written};
 
 use crate::go_status::GoStatus;
-use crate::point::{PARKED, is_source};
+use crate::point::{EXT_PARKED, PARKED, is_ext_source, is_source};
 use crate::validity::Validity;
 
 // Matrices, and the levels of each, are numbered below this.
 const LEVELS: u8 = 16;
 
-// Destinations are numbered below this.
+// Destinations are numbered below this, but for those of the extended commands.
 const DESTS: u16 = 1024;
 
 // The sizes of a name are numbered below this.
@@ -38,8 +38,8 @@ pub(crate) const PART: u16 = 128;
 pub(crate) const WHOLE_PART: u16 = 256;
 
 /// What one byte behind a command says, and of what. A number is sent in two parts: the high parts, DIV 128, of one or
-/// two numbers share a byte, the multiplier, and each low part, MOD 128, has a byte. Of a name's number each part, DIV 256
-/// and MOD 256, has a byte of its own.
+/// two numbers share a byte, the multiplier, and each low part, MOD 128, has a byte. Of a name's number, and of each number
+/// of the extended commands, each part, DIV 256 and MOD 256, has a byte of its own.
 #[derive(Clone, Copy, Debug, PartialEq, Eq)]
 pub(crate) enum Field {
     /// A matrix in bits 4 to 7, a level in bits 0 to 3.
@@ -78,6 +78,14 @@ pub(crate) enum Field {
     Index(u8),
     /// Whether a salvo has an entry at a place, and more behind it: 0 to 2.
     EntryValidity(Validity),
+    /// A matrix in a byte of its own: 0 to 15.
+    ExtMatrix(u8),
+    /// A level in a byte of its own: 0 to 15.
+    ExtLevel(u8),
+    /// A source of an extended command DIV 256.
+    ExtSourceHigh(Option<u16>),
+    /// A source of an extended command MOD 256.
+    ExtSourceLow(Option<u16>),
 }
 
 impl Field {
@@ -100,6 +108,9 @@ impl Field {
             Field::Salvo(salvo) => salvo < SALVOS,
             Field::Details(_) | Field::Operation(_) | Field::Index(_) => true,
             Field::Status(_) | Field::EntryValidity(_) => true,
+            Field::ExtMatrix(matrix) => matrix < LEVELS,
+            Field::ExtLevel(level) => level < LEVELS,
+            Field::ExtSourceHigh(source) | Field::ExtSourceLow(source) => is_ext_source(source),
         }
     }
 
@@ -135,6 +146,10 @@ impl Field {
             Field::Status(status) => u16::from(status.number()),
             Field::Index(index) => u16::from(index),
             Field::EntryValidity(validity) => u16::from(validity.number()),
+            Field::ExtMatrix(matrix) => u16::from(matrix),
+            Field::ExtLevel(level) => u16::from(level),
+            Field::ExtSourceHigh(source) => ext_number(source) / WHOLE_PART,
+            Field::ExtSourceLow(source) => ext_number(source) % WHOLE_PART,
         }
     }
 
@@ -156,6 +171,8 @@ impl Field {
             Field::Details(_) | Field::Operation(_) => 2,
             Field::Status(_) => STATUSES,
             Field::EntryValidity(_) => VALIDITIES,
+            Field::ExtMatrix(_) | Field::ExtLevel(_) => u16::from(LEVELS),
+            Field::ExtSourceHigh(_) | Field::ExtSourceLow(_) => 256,
         }
     }
 }
@@ -182,6 +199,14 @@ pub(crate) fn number(source: Option<u16>) -> u16
     ensures { result ≡ number_of source }
 {
     source.unwrap_or(PARKED)
+}
+
+/// The same in the extended commands.
+#[inline(always)]
+fn ext_number(source: Option<u16>) -> u16
+    ensures { result ≡ ext_number_of source }
+{
+    source.unwrap_or(EXT_PARKED)
 }
 
 #[inline(always)]

@@ -6,6 +6,7 @@
 mod behind;
 mod crosspoints;
 mod dump;
+mod extended;
 mod fault;
 mod field;
 mod go_status;
@@ -25,5 +26,5 @@ pub use fault::ReadFault;
 pub use go_status::GoStatus;
 pub use laws::{one_message, one_page, one_reading, text_bytes};
 pub use message::{Message, MessageKind};
-pub use point::{PARKED, Point};
+pub use point::{EXT_PARKED, PARKED, Point};
 pub use validity::Validity;

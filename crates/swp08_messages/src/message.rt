@@ -16,11 +16,11 @@ use crate::go_status::GoStatus;
 use crate::point::Point;
 use crate::row::{all_hold, are_same, push_all};
 use crate::validity::Validity;
-use crate::{crosspoints, dump, names, protects, salvos};
+use crate::{crosspoints, dump, extended, names, protects, salvos};
 
 /// A message of fixed length. Interrogate, connect, tally and connected have the number and the layout that the SW-P-08
 /// General Remote Control Protocol gives them, all others those of this project's profile. A matrix and a level are 0 to
-/// 15. A source is 0 to 1022, and `None` is a parked one, by this project's profile.
+/// 15. A source is 0 to 1022, in the extended commands 0 to 65534, and `None` is a parked one, by this project's profile.
 #[derive(Clone, Copy, Debug, PartialEq, Eq)]
 pub enum Message {
     /// Asks for the source at a destination.
@@ -140,6 +140,26 @@ pub enum Message {
         index: u8,
         validity: Validity,
     },
+    /// Asks for the source at a destination, 0 to 65535: the first of the extended commands, for levels of more than 1,024
+    /// destinations or 1,023 sources. They state nothing of the protocol's own extended messages.
+    ExtInterrogate {
+        at: Point,
+    },
+    /// Asks that a destination carry a source, or be parked.
+    ExtConnect {
+        at: Point,
+        source: Option<u16>,
+    },
+    /// Tells the source at a destination.
+    ExtTally {
+        at: Point,
+        source: Option<u16>,
+    },
+    /// Tells that a destination was given a source, or was parked.
+    ExtConnected {
+        at: Point,
+        source: Option<u16>,
+    },
 }
 
 /// What a message is for.
@@ -246,4 +266,5 @@ fn read_behind(command: u8, behind: &[u8]) -> Option<Message>
         .or_else(|| dump::read(command, behind))
         .or_else(|| names::read(command, behind))
         .or_else(|| salvos::read(command, behind))
+        .or_else(|| extended::read(command, behind))
 }

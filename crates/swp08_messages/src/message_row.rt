@@ -8,6 +8,9 @@ ghost use Rattle.swp08_messages.specs.Text.{kind_of};
 
 use crate::crosspoints::{CONNECT, CONNECTED, INTERROGATE, TALLY, crosspoint, destination};
 use crate::dump::{DUMP_ASK, one_level};
+use crate::extended::{
+    EXT_CONNECT, EXT_CONNECTED, EXT_INTERROGATE, EXT_TALLY, ext_crosspoint, ext_destination,
+};
 use crate::field::Field;
 use crate::message::{Message, MessageKind};
 use crate::names::{
@@ -51,6 +54,10 @@ impl Message {
             Message::GoDone { .. } => GO_DONE,
             Message::EntryAsk { .. } => ENTRY_ASK,
             Message::Entry { .. } => ENTRY,
+            Message::ExtInterrogate { .. } => EXT_INTERROGATE,
+            Message::ExtConnect { .. } => EXT_CONNECT,
+            Message::ExtTally { .. } => EXT_TALLY,
+            Message::ExtConnected { .. } => EXT_CONNECTED,
         }
     }
 
@@ -74,6 +81,8 @@ impl Message {
             Message::EntryAsk { .. } => MessageKind::Plant,
             Message::Stored { .. } | Message::GoDone { .. } => MessageKind::Report,
             Message::Entry { .. } => MessageKind::Report,
+            Message::ExtInterrogate { .. } | Message::ExtConnect { .. } => MessageKind::Plant,
+            Message::ExtTally { .. } | Message::ExtConnected { .. } => MessageKind::Report,
         }
     }
 
@@ -105,6 +114,10 @@ impl Message {
                 index,
                 validity,
             } => entry(at, source, salvo, index, validity),
+            Message::ExtInterrogate { at } => ext_destination(at),
+            Message::ExtConnect { at, source } => ext_crosspoint(at, source),
+            Message::ExtTally { at, source } => ext_crosspoint(at, source),
+            Message::ExtConnected { at, source } => ext_crosspoint(at, source),
             Message::SourceNamesAsk { .. } | Message::SourceNameAsk { .. } => self.name_fields(),
             Message::DestNamesAsk { .. } | Message::DestNameAsk { .. } => self.name_fields(),
         }

@@ -4,10 +4,10 @@
 ghost use Rattle.std.specs.Prelude.{◌≡◌, map};
 ghost use Rattle.swp08_messages.specs.Row.{source_names_ask, source_name_ask};
 ghost use Rattle.swp08_messages.specs.Row.{dest_names_ask, dest_name_ask};
-ghost use Rattle.swp08_messages.specs.ReadingInside.{names_message, wide_in};
+ghost use Rattle.swp08_messages.specs.ReadingInside.{names_message};
 
-use crate::behind::{byte_at, level_in, matrix_in};
-use crate::field::{Field, WHOLE_PART};
+use crate::behind::{byte_at, level_in, matrix_in, wide_in};
+use crate::field::Field;
 use crate::message::Message;
 use crate::view::{View, Views};
 
@@ -95,11 +95,4 @@ pub(crate) fn read(command: u8, behind: &[u8]) -> Option<Message>
         }),
         _ => None,
     }
-}
-
-// The number in two whole bytes.
-fn wide_in(behind: &[u8]) -> u16
-    ensures { result ≡ wide_in behind.now }
-{
-    u16::from(byte_at(behind, 2)) * WHOLE_PART + u16::from(byte_at(behind, 3))
 }
