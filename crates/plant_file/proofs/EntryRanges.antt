@@ -70,11 +70,12 @@ module _ (number : ℕ) (entry : Members) where
 
   pub pool_right : entry_faults pool_keys number entry ≡ [] → IsPoolEntry (pool_entry entry)
   pool_right none =
-      let keys : AllByRecursion (IsRight entry) pool_keys.keys = entry_right pool_keys number entry refl none in
+      let keys : AllByRecursion (IsRight entry) pool_keys.keys = entry_right pool_keys number entry (simp leb-zero) none in
       record {
         from = (below keys.0.1, below keys.1.1.0.1);
         to = (below keys.1.0.1, below keys.1.1.0.1);
         ties = keys.1.1.1.0;
+        reserve = of_found _ (found_at fields.Ties entry) keys.1.1.1.1.0.1;
       }
 
   pub device_right : entry_faults device_keys number entry ≡ [] → IsDeviceEntry (device_entry entry)

@@ -7,9 +7,9 @@ use Rattle.toml.specs.Data.{Data, string, integer, boolean, array, table, Member
 use Rattle.plant_file.specs.declared.fault.Place.{Place}
 use Rattle.plant_file.specs.declared.fault.PlantFault.{PlantFault}
 use Rattle.plant_file.specs.declared.fault.PlantFault.TheVariants.{Missing, WrongType, OutOfRange}
-use Rattle.plant_file.specs.Rows.{Kind, Number, Words, Flag, Names, Default, Required, RequiredWith, Given, Optional, Key, Form, Document, OneTable, Entries, first_text_byte, last_text_byte, shortest_name, longest_name}
+use Rattle.plant_file.specs.Rows.{Kind, Number, UpTo, Words, Flag, Names, Default, Required, RequiredWith, Given, Optional, Key, Form, Document, OneTable, Entries, first_text_byte, last_text_byte, shortest_name, longest_name}
 use Rattle.plant_file.specs.Document.{values, as_number, found_at}
-use Rattle.plant_file.specs.KeyFaults.{range_faults, words_faults, value_faults, absent_faults, found_faults, form_faults}
+use Rattle.plant_file.specs.KeyFaults.{range_faults, up_to_faults, words_faults, value_faults, absent_faults, found_faults, form_faults}
 use Rattle.plant_file.specs.Places.{place_of}
 
 -- Each fault is at a right place.
@@ -51,6 +51,10 @@ module _ {IsRight : Place → Type 0} where
     pub range_at : (value : ℤ) (low high : ℕ) → AreAt IsRight (range_faults at value low high)
     range_at value low high = cond_at _ none_at (one_at (OutOfRange at value (pos low) (pos high)) right)
 
+    up_to_at : (high bound : ℕ) (value : Data) → AreAt IsRight (up_to_faults at high bound value)
+    up_to_at high bound (integer value) = append_at (range_at value 0 high) (range_at value 0 bound)
+    up_to_at high bound value = wrong_at
+
     words_at : (low high : ℕ) (value : Data) → AreAt IsRight (words_faults at low high value)
     words_at low high (string text) =
         append_at (range_at (pos (length text)) low high) (flat_map_at (λ byte. range_faults at (pos byte) first_text_byte last_text_byte) text (λ k d within. range_at (pos (get_or text k d)) first_text_byte last_text_byte))
@@ -58,6 +62,7 @@ module _ {IsRight : Place → Type 0} where
 
     value_at : (entry : Members) (kind : Kind) (value : Data) → AreAt IsRight (value_faults at entry kind value)
     value_at entry (Number low high) (integer value) = range_at value low high
+    value_at entry (UpTo high limit) value = up_to_at high (as_number (found_at limit entry)) value
     value_at entry (Words low high) value = words_at low high value
     value_at entry Flag (boolean flag) = none_at
     value_at entry (Names limit) (array names) =

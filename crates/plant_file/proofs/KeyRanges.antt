@@ -9,9 +9,9 @@ use Rattle.plant_file.specs.declared.fault.Section.{Section}
 use Rattle.plant_file.specs.declared.fault.Field.{Field}
 use Rattle.plant_file.specs.declared.fault.Place.{Place}
 use Rattle.plant_file.specs.declared.fault.PlantFault.{PlantFault}
-use Rattle.plant_file.specs.Rows.{Kind, Number, Words, Flag, Names, Default, Required, RequiredWith, Given, Optional, Key, key, SectionKeys, first_text_byte, last_text_byte, shortest_name, longest_name}
+use Rattle.plant_file.specs.Rows.{Kind, Number, UpTo, Words, Flag, Names, Default, Required, RequiredWith, Given, Optional, Key, key, SectionKeys, first_text_byte, last_text_byte, shortest_name, longest_name}
 use Rattle.plant_file.specs.Document.{values, found_at, as_number, as_text, as_texts}
-use Rattle.plant_file.specs.KeyFaults.{place, range_faults, text_faults, words_faults, value_faults, is_looked_at, found_faults, key_faults, entry_faults}
+use Rattle.plant_file.specs.KeyFaults.{place, range_faults, up_to_faults, text_faults, words_faults, value_faults, is_looked_at, found_faults, key_faults, entry_faults}
 use Rattle.plant_file.specs.Ranges.{IsFrom, IsWords, IsName}
 use Rattle.plant_file.proofs.NoFault.{append_none, flat_map_none}
 
@@ -28,6 +28,12 @@ range_right at number low high none =
 integer_right : (at : Place) (value : ℤ) (low high : ℕ) → range_faults at value low high ≡ [] → IsFrom low high (as_number (Some (integer value)))
 integer_right at (pos number) low high none = range_right at number low high none
 integer_right at (negsuc number) low high none = cc
+
+up_to_right : (at : Place) (high bound : ℕ) (value : Data) → up_to_faults at high bound value ≡ [] → IsFrom 0 high (as_number (Some value)) × (as_number (Some value) ≤ bound)
+up_to_right at high bound (integer value) none =
+    let parts = append_none _ _ none in
+    (integer_right at value 0 high parts.0, (integer_right at value 0 bound parts.1).1)
+up_to_right at high bound value none = cc
 
 bytes_right : (at : Place) (low high : ℕ) (text : List ℕ) → AllByRecursion (λ byte. range_faults at (pos byte) low high ≡ []) text → AllByRecursion (IsFrom low high) text
 bytes_right at low high [] none = tt
@@ -54,12 +60,14 @@ names_right at (value ∷ more) none = cc (none.0)
 -- A value is one of its kind.
 abbrev pub IsOfKind : Members → Kind → Option Data → Type 0
 IsOfKind entry (Number low high) value = IsFrom low high (as_number value)
+IsOfKind entry (UpTo high limit) value = IsFrom 0 high (as_number value) × (as_number value ≤ as_number (found_at limit entry))
 IsOfKind entry (Words low high) value = IsWords low high (as_text value)
 IsOfKind entry Flag value = Unit
 IsOfKind entry (Names limit) value = (length (as_texts value) ≤ as_number (found_at limit entry)) × All IsName (as_texts value)
 
 value_right : (at : Place) (entry : Members) (kind : Kind) (value : Data) → value_faults at entry kind value ≡ [] → IsOfKind entry kind (Some value)
 value_right at entry (Number low high) (integer value) none = integer_right at value low high none
+value_right at entry (UpTo high limit) value none = up_to_right at high (as_number (found_at limit entry)) value none
 value_right at entry (Words low high) value none = words_right at low high value none
 value_right at entry Flag (boolean flag) none = tt
 value_right at entry (Names limit) (array items) none =

@@ -9,6 +9,7 @@ pub mod DocumentPlaces
 mod TextRanges
 pub mod FormAnswer
 pub mod ReadingInside
+pub mod UpToAnswer
 pub mod NamesAnswer
 pub mod OnlyAnswer
 pub mod TextAnswer

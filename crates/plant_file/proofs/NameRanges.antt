@@ -18,17 +18,17 @@ digits_right = decimal_by_steps (λ n digits. All IsPrintable digits)
     (λ n digits above all. All-push IsPrintable digits (48 + n % 10) all (omega arith, omega arith))
 
 module _ (letter : ℕ) (right : IsPrintable letter) where
-  default_right : (number : ℕ) → number < 10000 → IsName (default_name (letter ∷ []) number)
+  default_right : (number : ℕ) → number < 100000 → IsName (default_name (letter ∷ []) number)
   default_right number below =
-      let short = length-decimal-le 4 number (omega arith) (omega arith) (omega arith) in
+      let short = length-decimal-le 5 number (omega arith) (omega arith) (omega arith) in
       ((omega arith, omega arith), All-cons IsPrintable letter (decimal number) right (digits_right number (omega arith)))
 
-  defaults_right : (first count : ℕ) → first + count ≤ 10000 → AllByRecursion IsName (map (default_name (letter ∷ [])) (range_with_len first count))
+  defaults_right : (first count : ℕ) → first + count ≤ 100000 → AllByRecursion IsName (map (default_name (letter ∷ [])) (range_with_len first count))
   defaults_right first zero within = tt
   defaults_right first (suc count) within = (default_right first (omega arith), defaults_right (first + 1) count (omega arith))
 
   -- the names of a level's sources, or of its destinations
-  pub names_are : (count : ℕ) (names : List (List ℕ)) → count ≤ 1024 → length names ≤ count → All IsName names → AreNames count (names_of (letter ∷ []) count names)
+  pub names_are : (count : ℕ) (names : List (List ℕ)) → count ≤ 65536 → length names ≤ count → All IsName names → AreNames count (names_of (letter ∷ []) count names)
   names_are count names few within all =
       let behind = length-map-range_with_len (default_name (letter ∷ [])) (length names) (count - length names) in (
         omega (arith, length-append names (map (default_name (letter ∷ [])) (range_with_len (length names) (count - length names))), behind),

@@ -26,13 +26,17 @@ unfolding is_utf8 chars toml_on_literals document_answer
 no_document = refl
 
 -- The printed lines.
-range_text : fault_text (OutOfRange (place sections.Level 0 fields.Sources) (pos 2000) (pos 1) (pos 1023)) ≡ codes "OutOfRange at level 0 sources: 2000 not in 1 to 1023"
+range_text : fault_text (OutOfRange (place sections.Level 0 fields.Sources) (pos 70000) (pos 1) (pos 65535)) ≡ codes "OutOfRange at level 0 sources: 70000 not in 1 to 65535"
 unfolding digits fault_text
 range_text = refl
 
 below_text : fault_text (OutOfRange (place sections.Panel 12 fields.Port) (negsuc 0) (pos 1) (pos 65535)) ≡ codes "OutOfRange at panel 12 port: -1 not in 1 to 65535"
 unfolding digits fault_text
 below_text = refl
+
+reserve_text : fault_text (OutOfRange (place sections.Pool 0 fields.Reserve) (pos 2) (pos 0) (pos 1)) ≡ codes "OutOfRange at pool 0 reserve: 2 not in 0 to 1"
+unfolding digits fault_text
+reserve_text = refl
 
 whole_text : fault_text (WrongType (place sections.Bus 0 fields.Whole)) ≡ codes "WrongType at bus 0 entries"
 unfolding digits fault_text

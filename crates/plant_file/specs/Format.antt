@@ -5,7 +5,7 @@ use Rattle.plant_file.specs.declared.fault.Section.{Section}
 use Rattle.plant_file.specs.declared.fault.Section.TheVariants as sections
 use Rattle.plant_file.specs.declared.fault.Field.TheVariants as fields
 use Rattle.plant_file.specs.Limits.{level_limit, level_source_limit, level_destination_limit, all_levels_limit, remote_limit, pool_limit, tie_limit, device_limit, bus_limit, root_limit, display_limit, last_screen, last_index, panel_limit, last_device, first_port, last_port, longest_title, longest_idle, most_idles, most_turns, most_sessions, most_rounds, greatest_brightness}
-use Rattle.plant_file.specs.Rows.{Number, Words, Flag, Names, Required, RequiredWith, Given, Optional, Document, OneTable, Entries, SectionKeys, key, a_matrix, a_level, a_source, a_destination, a_name, an_address, number, words, no_names}
+use Rattle.plant_file.specs.Rows.{Number, UpTo, Words, Flag, Names, Required, RequiredWith, Given, Optional, Document, OneTable, Entries, SectionKeys, key, a_matrix, a_level, a_source, a_destination, a_name, an_address, number, words, no_names}
 
 -- the keys in front of all sections
 abbrev pub top_keys : SectionKeys
@@ -61,7 +61,7 @@ remote_keys = record {
       ∷ [];
 }
 
--- tie-lines from one matrix to another, at a level
+-- tie-lines from one matrix to another, at a level, and how many of them are kept for masters
 abbrev pub pool_keys : SectionKeys
 pool_keys = record {
   section = sections.Pool;
@@ -71,6 +71,7 @@ pool_keys = record {
       ∷ key fields.To a_matrix Required
       ∷ key fields.Level a_level Required
       ∷ key fields.Ties (Number 1 tie_limit) Required
+      ∷ key fields.Reserve (UpTo tie_limit fields.Ties) (number 0)
       ∷ [];
 }
 

@@ -10,7 +10,7 @@ use Rattle.plant_file.specs.declared.fault.Place.{Place}
 use Rattle.plant_file.specs.declared.fault.PlantFault.{PlantFault}
 use Rattle.plant_file.specs.declared.fault.PlantFault.TheVariants.{Missing, WrongType, OutOfRange}
 use Rattle.plant_file.specs.Spelling.{section_name}
-use Rattle.plant_file.specs.Rows.{Kind, Number, Words, Flag, Names, Default, Required, RequiredWith, Given, Optional, Key, Form, Document, OneTable, Entries, SectionKeys, first_text_byte, last_text_byte, shortest_name, longest_name}
+use Rattle.plant_file.specs.Rows.{Kind, Number, UpTo, Words, Flag, Names, Default, Required, RequiredWith, Given, Optional, Key, Form, Document, OneTable, Entries, SectionKeys, first_text_byte, last_text_byte, shortest_name, longest_name}
 use Rattle.plant_file.specs.Format.{file_format}
 use Rattle.plant_file.specs.Document.{values, found_at, as_number, section_entries}
 
@@ -23,6 +23,12 @@ abbrev pub range_faults : Place → ℤ → ℕ → ℕ → List PlantFault
 range_faults at value low high =
     if int_le (pos low) value && int_le value (pos high) then []
     else OutOfRange at value (pos low) (pos high) ∷ []
+
+-- a value that must be a number from 0: first to `high`, then to `bound`
+abbrev pub up_to_faults : Place → ℕ → ℕ → Data → List PlantFault
+up_to_faults at high bound (integer value) =
+    range_faults at value 0 high ++ range_faults at value 0 bound
+up_to_faults at high bound value = WrongType at ∷ []
 
 -- a text: first its length, then each of its bytes
 abbrev pub text_faults : Place → ℕ → ℕ → List ℕ → List PlantFault
@@ -44,6 +50,8 @@ names_faults at most names =
 -- the value of a key of this kind, in an entry
 abbrev pub value_faults : Place → Members → Kind → Data → List PlantFault
 value_faults at entry (Number low high) (integer value) = range_faults at value low high
+value_faults at entry (UpTo high limit) value =
+    up_to_faults at high (as_number (found_at limit entry)) value
 value_faults at entry (Words low high) value = words_faults at low high value
 value_faults at entry Flag (boolean flag) = []
 value_faults at entry (Names limit) (array names) =

@@ -8,13 +8,13 @@ matrix_limit = 16
 abbrev pub level_limit : ℕ
 level_limit = 16
 
--- the most sources of one level: they are 0 to 1022
+-- the most sources of one level: they are 0 to 65534
 abbrev pub level_source_limit : ℕ
-level_source_limit = 1023
+level_source_limit = 65535
 
--- the most destinations of one level: they are 0 to 1023
+-- the most destinations of one level: they are 0 to 65535
 abbrev pub level_destination_limit : ℕ
-level_destination_limit = 1024
+level_destination_limit = 65536
 
 -- the most levels, sources and destinations of a plant
 abbrev pub all_levels_limit : ℕ
@@ -26,7 +26,8 @@ all_sources_limit = 65536
 abbrev pub all_destinations_limit : ℕ
 all_destinations_limit = 65536
 
--- the most remote sources of a plant, and the most pools of tie-lines; the most tie-lines of a pool
+-- the most remote sources of a plant, and the most pools of tie-lines; the most tie-lines of a pool, all of which may be
+-- kept for masters
 abbrev pub remote_limit : ℕ
 remote_limit = 16384
 

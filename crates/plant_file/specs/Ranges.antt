@@ -51,6 +51,7 @@ pub record IsPoolEntry (pool : PoolEntry) : Type 0 where
   pub from : IsAtLevel pool.from pool.level
   pub to : IsAtLevel pool.to pool.level
   pub ties : IsFrom 1 tie_limit pool.ties
+  pub reserve : pool.reserve ≤ pool.ties
 
 pub record IsDeviceEntry (device : DeviceEntry) : Type 0 where
   pub name : IsName device.name

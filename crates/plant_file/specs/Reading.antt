@@ -72,6 +72,7 @@ pool_entry entry = record {
   to = number_for pool_keys fields.To entry;
   level = number_for pool_keys fields.Level entry;
   ties = number_for pool_keys fields.Ties entry;
+  reserve = number_for pool_keys fields.Reserve entry;
 }
 
 abbrev pub device_entry : Members → DeviceEntry

@@ -13,12 +13,12 @@ use Rattle.plant_file.specs.declared.fault.PlantFault.TheVariants.{WrongType}
 use Rattle.plant_file.specs.Spelling.{section_name}
 use Rattle.plant_file.specs.Limits.{level_limit}
 use Rattle.plant_file.specs.Rows.{Kind, Number, Required, Entries, Key, key, a_matrix, a_destination, SectionKeys, first_text_byte, last_text_byte, shortest_name, longest_name}
-use Rattle.plant_file.specs.Document.{values, as_texts, found_at, default_value, entries_found, section_entries}
+use Rattle.plant_file.specs.Document.{values, as_number, as_texts, found_at, default_value, entries_found, section_entries}
 use Rattle.plant_file.specs.Format.{bus_keys}
 use Rattle.plant_file.specs.FileData.{SwitchEntry}
 use Rattle.plant_file.specs.Reading.{switch_entry, names_of, only_entry}
 use Rattle.plant_file.specs.FirstFault.{first_fault, unless_fault}
-use Rattle.plant_file.specs.KeyFaults.{place, words_faults, names_faults, value_faults, key_faults, entry_faults, form_faults, section_faults}
+use Rattle.plant_file.specs.KeyFaults.{place, up_to_faults, words_faults, names_faults, value_faults, key_faults, entry_faults, form_faults, section_faults}
 
 -- what was read, as something of it
 abbrev pub read_as : {X Y : Type 0} → (X → Y) → Result X PlantFault → Result Y PlantFault
@@ -34,6 +34,11 @@ abbrev pub value_answer : {X : Type 0} → (Option Data → X) → Place → Kin
     → Result X PlantFault
 value_answer read at kind value =
     unless_fault (read (Some value)) (first_fault (value_faults at no_members kind value))
+
+-- a value that must be a number from 0, to `high` and then to `bound`: the number, or its first fault
+abbrev pub up_to_answer : Place → ℕ → ℕ → Data → Result ℕ PlantFault
+up_to_answer at high bound value =
+    unless_fault (as_number (Some value)) (first_fault (up_to_faults at high bound value))
 
 -- the faults of a value that must be an array of names
 abbrev pub array_faults : Place → ℕ → Data → List PlantFault

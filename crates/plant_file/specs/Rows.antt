@@ -5,10 +5,12 @@ use Rattle.plant_file.specs.Limits.{matrix_limit, level_limit, level_source_limi
 use Rattle.plant_file.specs.declared.fault.Section.{Section}
 use Rattle.plant_file.specs.declared.fault.Field.{Field}
 
--- What the value of a key may be: a number from `low` to `high`; a text of `low` to `high` bytes, each of them printable;
--- true or false; an array of names, at most as many as the number at the key `limit` of the same entry.
+-- What the value of a key may be: a number from `low` to `high`; a number from 0 to `high`, and then to the number at the
+-- key `limit` of the same entry; a text of `low` to `high` bytes, each of them printable; true or false; an array of names,
+-- at most as many as the number at the key `limit` of the same entry.
 pub data Kind : Type 0 where
   Number : (low high : ℕ) → Kind
+  UpTo : (high : ℕ) (limit : Field) → Kind
   Words : (low high : ℕ) → Kind
   Flag : Kind
   Names : (limit : Field) → Kind

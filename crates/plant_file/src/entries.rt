@@ -70,11 +70,11 @@ pub struct RemoteEntry {
     pub matrix: u8,
     /// Its level, 0 to 15.
     pub level: u8,
-    /// Its number in the level, 0 to 1022.
+    /// Its number in the level, 0 to 65534.
     pub source: u16,
     /// The other matrix, 0 to 15.
     pub from: u8,
-    /// The number of the source that it stands for, 0 to 1022.
+    /// The number of the source that it stands for, 0 to 65534.
     pub from_source: u16,
 }
 
@@ -89,6 +89,8 @@ pub struct PoolEntry {
     pub level: u8,
     /// How many tie-lines it has, 1 to 1024.
     pub ties: u32,
+    /// How many of them are kept for masters, at most all.
+    pub reserve: u32,
 }
 
 /// A device, a mixer say, whose output is a source of level 0.
@@ -98,7 +100,7 @@ pub struct DeviceEntry {
     pub name: Name,
     /// The matrix of its output, 0 to 15.
     pub matrix: u8,
-    /// The source that is its output, 0 to 1022.
+    /// The source that is its output, 0 to 65534.
     pub source: u16,
 }
 
@@ -109,7 +111,7 @@ pub struct SwitchEntry {
     pub matrix: u8,
     /// 1 to 15.
     pub level: u8,
-    /// 0 to 1023.
+    /// 0 to 65535.
     pub destination: u16,
 }
 
@@ -120,7 +122,7 @@ pub struct BusEntry {
     pub device: Name,
     /// 0 to 15.
     pub matrix: u8,
-    /// 0 to 1023.
+    /// 0 to 65535.
     pub destination: u16,
     /// Its switch, `None` where it is always on.
     pub switch: Option<SwitchEntry>,
@@ -131,7 +133,7 @@ pub struct BusEntry {
 pub struct RootEntry {
     /// 0 to 15.
     pub matrix: u8,
-    /// 0 to 1023.
+    /// 0 to 65535.
     pub destination: u16,
 }
 
@@ -144,7 +146,7 @@ pub struct DisplayEntry {
     pub index: u16,
     /// 0 to 15.
     pub matrix: u8,
-    /// 0 to 1023.
+    /// 0 to 65535.
     pub destination: u16,
 }
 

@@ -78,6 +78,8 @@ pub enum Field {
     To,
     /// How many tie-lines a pool has.
     Ties,
+    /// How many tie-lines of a pool are kept for masters.
+    Reserve,
     /// A device's name.
     Name,
     /// A bus's device by its name, or a panel's by its number.
@@ -96,7 +98,7 @@ pub enum Field {
     Index,
     /// A panel's TCP port.
     Port,
-    /// Whether a panel may lift any protect.
+    /// Whether a panel may lift any protect, and use the ties that are kept for masters.
     Master,
 }
 
@@ -199,6 +201,7 @@ impl Field {
             Field::FromSource => "from_source",
             Field::To => "to",
             Field::Ties => "ties",
+            Field::Reserve => "reserve",
             Field::Name => "name",
             Field::Device => "device",
             Field::Destination => "destination",

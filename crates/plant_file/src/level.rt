@@ -46,14 +46,14 @@ impl LevelEntry {
         self.level
     }
 
-    /// How many sources it has, 1 to 1023.
+    /// How many sources it has, 1 to 65535.
     pub fn sources(&self) -> u32
         ensures { result ≡ self.now.sources }
     {
         self.sources
     }
 
-    /// How many destinations it has, 1 to 1024.
+    /// How many destinations it has, 1 to 65536.
     pub fn destinations(&self) -> u32
         ensures { result ≡ self.now.destinations }
     {

@@ -24,9 +24,9 @@ pub(crate) fn read_remote(entry: &Entry) -> Result<RemoteEntry, PlantFault>
     Ok(RemoteEntry {
         matrix: entry.number(Field::Matrix, 0, 15)? as u8,
         level: entry.number(Field::Level, 0, 15)? as u8,
-        source: entry.number(Field::Source, 0, 1022)? as u16,
+        source: entry.number(Field::Source, 0, 65534)? as u16,
         from: entry.number(Field::From, 0, 15)? as u8,
-        from_source: entry.number(Field::FromSource, 0, 1022)? as u16,
+        from_source: entry.number(Field::FromSource, 0, 65534)? as u16,
     })
 }
 
@@ -36,11 +36,17 @@ pub(crate) fn read_pool(entry: &Entry) -> Result<PoolEntry, PlantFault>
     ensures { result ≡ entry_answer pool_entry (keys_at pool_keys entry.now.section)
         entry.now.number (table_view entry.now.table.now) }
 {
+    let from = entry.number(Field::From, 0, 15)? as u8;
+    let to = entry.number(Field::To, 0, 15)? as u8;
+    let level = entry.number(Field::Level, 0, 15)? as u8;
+    let ties = entry.number(Field::Ties, 1, 1024)?;
+    let reserve = entry.number_up_to_or(Field::Reserve, 1024, Field::Ties, ties, 0)?;
     Ok(PoolEntry {
-        from: entry.number(Field::From, 0, 15)? as u8,
-        to: entry.number(Field::To, 0, 15)? as u8,
-        level: entry.number(Field::Level, 0, 15)? as u8,
-        ties: entry.number(Field::Ties, 1, 1024)? as u32,
+        from,
+        to,
+        level,
+        ties: ties as u32,
+        reserve: reserve as u32,
     })
 }
 
@@ -53,7 +59,7 @@ pub(crate) fn read_device(entry: &Entry) -> Result<DeviceEntry, PlantFault>
     Ok(DeviceEntry {
         name: entry.name(Field::Name)?,
         matrix: entry.number(Field::Matrix, 0, 15)? as u8,
-        source: entry.number(Field::Source, 0, 1022)? as u16,
+        source: entry.number(Field::Source, 0, 65534)? as u16,
     })
 }
 
@@ -66,7 +72,7 @@ fn read_present_switch(entry: &Entry) -> Result<SwitchEntry, PlantFault>
     Ok(SwitchEntry {
         matrix: entry.number(Field::SwitchMatrix, 0, 15)? as u8,
         level: entry.number(Field::SwitchLevel, 1, 15)? as u8,
-        destination: entry.number(Field::SwitchDestination, 0, 1023)? as u16,
+        destination: entry.number(Field::SwitchDestination, 0, 65535)? as u16,
     })
 }
 
@@ -93,7 +99,7 @@ pub(crate) fn read_bus(entry: &Entry) -> Result<BusEntry, PlantFault>
     Ok(BusEntry {
         device: entry.name(Field::Device)?,
         matrix: entry.number(Field::Matrix, 0, 15)? as u8,
-        destination: entry.number(Field::Destination, 0, 1023)? as u16,
+        destination: entry.number(Field::Destination, 0, 65535)? as u16,
         switch: read_switch(entry)?,
     })
 }
@@ -106,7 +112,7 @@ pub(crate) fn read_root(entry: &Entry) -> Result<RootEntry, PlantFault>
 {
     Ok(RootEntry {
         matrix: entry.number(Field::Matrix, 0, 15)? as u8,
-        destination: entry.number(Field::Destination, 0, 1023)? as u16,
+        destination: entry.number(Field::Destination, 0, 65535)? as u16,
     })
 }
 
@@ -120,7 +126,7 @@ pub(crate) fn read_display(entry: &Entry) -> Result<DisplayEntry, PlantFault>
         screen: entry.number(Field::Screen, 0, 65534)? as u16,
         index: entry.number(Field::Index, 0, 65534)? as u16,
         matrix: entry.number(Field::Matrix, 0, 15)? as u8,
-        destination: entry.number(Field::Destination, 0, 1023)? as u16,
+        destination: entry.number(Field::Destination, 0, 65535)? as u16,
     })
 }
 

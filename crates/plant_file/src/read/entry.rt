@@ -3,7 +3,7 @@
 ghost use Rattle.std.specs.Prelude.{◌≡◌, ◌<◌, ◌≤◌, ◌^◌, length, IfOk, option_map};
 ghost use Rattle.toml.specs.Data.{boolean};
 ghost use Rattle.toml.specs.View.{view, table_view};
-ghost use Rattle.plant_file.specs.Rows.{key, Number, Words, Flag, Required, Given, a_name};
+ghost use Rattle.plant_file.specs.Rows.{key, Number, UpTo, Words, Flag, Required, Given, a_name};
 ghost use Rattle.plant_file.specs.Rows.{number as given_number, words as given_words};
 ghost use Rattle.plant_file.specs.Document.{found_at, as_number, as_text, as_flag};
 ghost use Rattle.plant_file.specs.KeyFaults.{place};
@@ -77,6 +77,29 @@ impl<'a> Entry<'a> {
         match self.found(field) {
             None => Ok(given),
             Some(value) => values::number(self.place(field), value, low, high),
+        }
+    }
+
+    // A number that the one at the key `limit` of the entry bounds too, or the given one where it is absent.
+    pub(crate) fn number_up_to_or(
+        &self,
+        field: Field,
+        high: u64,
+        limit: Field,
+        bound: u64,
+        given: u64,
+    ) -> Result<u64, PlantFault>
+        requires high { high < 2 ^ 63 }
+        requires bound { bound < 2 ^ 63 }
+        requires limit { as_number (found_at limit (table_view self.now.table.now)) ≡ bound }
+        requires given { given ≤ high }
+        ensures answer { result ≡ key_answer as_number self.now.section self.now.number
+            (table_view self.now.table.now) (key field (UpTo high limit) (given_number given)) }
+        ensures within { IfOk result (λ number. number ≤ high) }
+    {
+        match self.found(field) {
+            None => Ok(given),
+            Some(value) => values::number_up_to(self.place(field), value, high, bound),
         }
     }
 

@@ -21,8 +21,8 @@ pub(crate) fn read_level(alloc: Global, entry: &Entry) -> Result<LevelEntry, Pla
 {
     let matrix = entry.number(Field::Matrix, 0, 15)? as u8;
     let level = entry.number(Field::Level, 0, 15)? as u8;
-    let sources = entry.number(Field::Sources, 1, 1023)? as u32;
-    let destinations = entry.number(Field::Destinations, 1, 1024)? as u32;
+    let sources = entry.number(Field::Sources, 1, 65535)? as u32;
+    let destinations = entry.number(Field::Destinations, 1, 65536)? as u32;
     let source_names = names(
         alloc,
         entry,

@@ -1,6 +1,6 @@
 //! Names in an array, and the default names behind them.
 
-ghost use Rattle.std.specs.Prelude.{◌≡◌, ◌<◌, [], ◌∷◌, IfOk, Some};
+ghost use Rattle.std.specs.Prelude.{◌≡◌, ◌≤◌, [], ◌∷◌, IfOk, Some};
 ghost use Rattle.toml.specs.Data.{array};
 ghost use Rattle.toml.specs.View.{view, table_view};
 ghost use Rattle.plant_file.specs.Rows.{key, Names, no_names};
@@ -19,7 +19,7 @@ use toml::Value;
 
 // Names of the first of so many things, with default names for the others.
 fn with_defaults(mut names: Vec<Name>, letter: u8, count: u32) -> Result<Vec<Name>, AllocError>
-    requires { count < 10000 }
+    requires { count ≤ 65536 }
     ensures { IfOk result (λ all. all.items ≡ names_of (letter ∷ []) count names.items) }
 {
     let first = names.len();
@@ -65,7 +65,7 @@ pub(crate) fn names(
     count: u32,
     letter: u8,
 ) -> Result<Vec<Name>, PlantFault>
-    requires count { count < 10000 }
+    requires count { count ≤ 65536 }
     requires limit { as_number (found_at limit (table_view entry.now.table.now)) ≡ count }
     ensures { Answers (read_as (λ names. names.items) result)
         (key_answer (names_in (letter ∷ []) count) entry.now.section entry.now.number

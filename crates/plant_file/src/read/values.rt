@@ -6,7 +6,7 @@ ghost use Rattle.plant_file.specs.Rows.{Number, Words, Flag};
 ghost use Rattle.plant_file.specs.Document.{as_number, as_text, as_flag};
 ghost use Rattle.plant_file.specs.FirstFault.{first_fault};
 ghost use Rattle.plant_file.specs.KeyFaults.{range_faults, text_faults};
-ghost use Rattle.plant_file.specs.ReadingInside.{is_printable, read_as, value_answer};
+ghost use Rattle.plant_file.specs.ReadingInside.{is_printable, read_as, value_answer, up_to_answer};
 
 use crate::fault::{Place, PlantFault};
 use toml::Value;
@@ -76,6 +76,28 @@ pub(crate) fn number(at: Place, value: &Value, low: u64, high: u64) -> Result<u6
         Some(value) => match range_fault(at, value, low, high) {
             Some(fault) => Err(fault),
             None => Ok(value as u64),
+        },
+    }
+}
+
+// A number from 0, to `high` and then to `bound`.
+#[tactic(auto, using(crate::proofs::UpToAnswer::up_to))]
+pub(crate) fn number_up_to(
+    at: Place,
+    value: &Value,
+    high: u64,
+    bound: u64,
+) -> Result<u64, PlantFault>
+    requires high { high < 2 ^ 63 }
+    requires bound { bound < 2 ^ 63 }
+    ensures answer { result ≡ up_to_answer at high bound (view value.now) }
+    ensures within { IfOk result (λ number. number ≤ high) }
+{
+    match number(at, value, 0, high) {
+        Err(fault) => Err(fault),
+        Ok(number) => match range_fault(at, number as i64, 0, bound) {
+            Some(fault) => Err(fault),
+            None => Ok(number),
         },
     }
 }
