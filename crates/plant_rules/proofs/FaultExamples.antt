@@ -8,7 +8,7 @@ use Rattle.plant_file.specs.KeyFaults.{place}
 use Rattle.plant_file.specs.FileData.{LevelData, FileData}
 use Rattle.plant_rules.specs.Rules.{sum_faults}
 use Rattle.plant_rules.specs.PlantFile.{file_of}
-use Rattle.plant_rules.proofs.FileSamples.{file_on_literals, keys, tables, n, level, remote, pool, device, root, title, panels, house, bus_with, level_with_names}
+use Rattle.plant_rules.proofs.FileSamples.{file_on_literals, keys, tables, n, level, remote, pool, keeping, device, root, title, panels, house, bus_with, level_with_names}
 
 -- with it they must be there
 switch_level_missing : file_of (bus_with ((codes "switch_matrix", n 0) ∷ [])) ≡ Err (Missing (place sections.Bus 0 fields.SwitchLevel))
@@ -55,6 +55,15 @@ name_of_no_bytes = refl
 name_is_a_number : file_of (level_with_names (string (codes "A") ∷ n 1 ∷ [])) ≡ Err (WrongType (place sections.Level 0 fields.SourceNames))
 unfolding file_on_literals
 name_is_a_number = refl
+
+-- A reserve is held to its own range, and then to the entry's ties.
+reserve_1025 : file_of (house ((codes "pool", tables (keeping 1025 ∷ [])) ∷ [])) ≡ Err (OutOfRange (place sections.Pool 0 fields.Reserve) (pos 1025) (pos 0) (pos 1024))
+unfolding file_on_literals
+reserve_1025 = refl
+
+reserve_above_the_ties : file_of (house ((codes "pool", tables (keeping 2 ∷ [])) ∷ [])) ≡ Err (OutOfRange (place sections.Pool 0 fields.Reserve) (pos 2) (pos 0) (pos 1))
+unfolding file_on_literals
+reserve_above_the_ties = refl
 
 -- Too many sources in all: 65 levels of 1023 are more than 65536.
 abbrev large : LevelData

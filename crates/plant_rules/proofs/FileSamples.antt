@@ -40,6 +40,10 @@ remote matrix source from from_source =
 abbrev pub pool : ℕ → ℕ → List (List ℕ × Data)
 pool from to = (codes "from", n from) ∷ (codes "to", n to) ∷ (codes "level", n 0) ∷ (codes "ties", n 1) ∷ []
 
+-- the same with so many ties kept
+abbrev pub keeping : ℕ → List (List ℕ × Data)
+keeping reserve = (codes "reserve", n reserve) ∷ pool 0 1
+
 abbrev pub device : List ℕ → ℕ → List (List ℕ × Data)
 device name source = (codes "name", string name) ∷ (codes "matrix", n 0) ∷ (codes "source", n source) ∷ []
 

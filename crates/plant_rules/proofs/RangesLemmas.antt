@@ -7,12 +7,12 @@ use Rattle.plant_file.specs.FileData.{LevelData}
 use Rattle.plant_file.specs.Limits.{all_levels_limit}
 use Rattle.plant_file.specs.Ranges.{IsLevelData, AreEntries}
 
--- the sum of a number of each level that is at most 1024
+-- the sum of a number of each level that is at most 65536
 abbrev IsSmall : (LevelData → ℕ) → LevelData → Type 0
-IsSmall number level = number level ≤ 1024
+IsSmall number level = number level ≤ 65536
 
 sum_by-small : (number : LevelData → ℕ) (levels : List LevelData) → All (IsSmall number) levels → length levels ≤ all_levels_limit → sum_by number levels < 2 ^ 32
-sum_by-small number levels small few = omega (arith, sum_by-le number 1024 levels small, few)
+sum_by-small number levels small few = omega (arith, sum_by-le number 65536 levels small, few)
 
 pub sum_by-sources : (levels : List LevelData) → AreEntries IsLevelData 1 all_levels_limit levels → sum_by (λ level. level.sources) levels < 2 ^ 32
 sum_by-sources levels ranges =
