@@ -145,7 +145,7 @@ module _ (panels : ℕ) where
   linked : AreLinked (drill_plant panels)
   unfolding drill_plant
   linked = record {
-    pools = ((omega arith, omega arith), All-cons IsPool _ [] (record { from = (omega arith, omega arith); to = (omega arith, omega arith); other = λ same. absurd (omega (arith, same)); ties = (omega arith, omega arith) }) (All-nil IsPool));
+    pools = ((omega arith, omega arith), All-cons IsPool _ [] (record { from = (omega arith, omega arith); to = (omega arith, omega arith); other = λ same. absurd (omega (arith, same)); ties = (omega arith, omega arith); reserve = omega arith }) (All-nil IsPool));
     pools_differ = IsDistinct-from_AllPairs bytes_eq-Decides ((0 ∷ 1 ∷ 0 ∷ []) ∷ []) (λ i j given before within. absurd (omega arith));
     each_device = each_device;
     devices = omega arith;

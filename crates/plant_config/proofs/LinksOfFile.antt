@@ -63,7 +63,7 @@ module _ (file : FileData) (is : IsFile file) where
   pools : AreEntries IsPool 0 256 (map pool_in file.pools)
   pools = entries IsPool pool_in 0 256 file.pools is.ranges.pools.0 (λ k d inside.
       let pool = is.ranges.pools.1 k d inside in
-      record { from = pool.from; to = pool.to; other = (is.pools k d inside).other; ties = pool.ties })
+      record { from = pool.from; to = pool.to; other = (is.pools k d inside).other; ties = pool.ties; reserve = pool.reserve })
 
   pools_differ : IsDistinct bytes_eq (map (λ (pool : Pool). pool.from ∷ pool.to ∷ pool.level ∷ []) (map pool_in file.pools))
   pools_differ = subst (IsDistinct bytes_eq) (sym (map-map _ pool_in file.pools)) is.pools_differ

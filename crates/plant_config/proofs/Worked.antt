@@ -65,7 +65,7 @@ tied = record bench {
       ∷ record { name = codes "A1"; origin = 0; pool = Some 0 }
       ∷ [];
   dest_names = codes "X" ∷ codes "Y" ∷ [];
-  pools = record { from = 0; to = 1; level = 0; ties = 2 } ∷ [];
+  pools = record { from = 0; to = 1; level = 0; ties = 2; reserve = 1 } ∷ [];
 }
 
 remote_stands_for_0 : origin_of tied 3 ≡ Some 0
@@ -137,7 +137,7 @@ drill_masters = refl
 
 -- A level at each of its limits, and one past each of them.
 abbrev greatest : Level
-greatest = record { matrix = 15; level = 15; first_source = 0; sources = 1023; first_dest = 0; destinations = 1024 }
+greatest = record { matrix = 15; level = 15; first_source = 0; sources = 65535; first_dest = 0; destinations = 65536 }
 
 abbrev least : Level
 least = record { matrix = 0; level = 0; first_source = 0; sources = 1; first_dest = 0; destinations = 1 }
@@ -154,11 +154,11 @@ matrix_16 is = let h = is.matrix in omega arith
 level_16 : ¬ IsLevel (record greatest { level = 16 })
 level_16 is = let h = is.level in omega arith
 
-sources_1024 : ¬ IsLevel (record greatest { sources = 1024 })
-sources_1024 is = let h = is.sources.most in omega arith
+sources_65536 : ¬ IsLevel (record greatest { sources = 65536 })
+sources_65536 is = let h = is.sources.most in omega arith
 
-destinations_1025 : ¬ IsLevel (record greatest { destinations = 1025 })
-destinations_1025 is = let h = is.destinations.most in omega arith
+destinations_65537_of_a_level : ¬ IsLevel (record greatest { destinations = 65537 })
+destinations_65537_of_a_level is = let h = is.destinations.most in omega arith
 
 no_sources : ¬ IsLevel (record least { sources = 0 })
 no_sources is = let h = is.sources.some in omega arith

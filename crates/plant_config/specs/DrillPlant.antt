@@ -63,7 +63,7 @@ drill_plant panels = record {
   levels = drill_level 0 ∷ drill_level 1 ∷ [];
   sources = local_sources 0 256 ++ (local_sources 256 192 ++ remote_sources);
   dest_names = matrix_dest_names ++ matrix_dest_names;
-  pools = record { from = 0; to = 1; level = 0; ties = 8 } ∷ [];
+  pools = record { from = 0; to = 1; level = 0; ties = 8; reserve = 0 } ∷ [];
   devices = record { output = 250; first_bus = 0; buses = 1 }
       ∷ record { output = 251; first_bus = 1; buses = 1 } ∷ [];
   buses = record { device = 0; dest = 250; switch = None }

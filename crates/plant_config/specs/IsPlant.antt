@@ -82,6 +82,7 @@ pub record IsPool (pool : Pool) : Type 0 where
   pub to : IsAtLevel pool.to pool.level
   pub other : pool.from ≢ pool.to
   pub ties : IsFrom 1 tie_limit pool.ties
+  pub reserve : pool.reserve ≤ pool.ties
 
 -- the buses of a device
 abbrev pub buses_of : PlantData → Device → List Bus

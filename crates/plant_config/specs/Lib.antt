@@ -2,6 +2,7 @@ pub mod Limits
 pub mod Plant
 pub mod Sites
 pub mod Sources
+pub mod Reserves
 pub mod NamesOfLevel
 pub mod IsPlant
 pub mod Origins

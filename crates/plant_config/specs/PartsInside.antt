@@ -10,7 +10,7 @@ pub record HasRouting (plant : PlantData) (routing : Routing) : Type 0 where
   pub levels : routing.levels ≡ plant.levels
   pub sources : routing.sources.items ≡ plant.sources
   pub dest_names : routing.dest_names.items ≡ plant.dest_names
-  pub pools : routing.pools.items ≡ plant.pools
+  pub pools : routing.pools ≡ plant.pools
 
 -- This is what a plant's mixers have.
 pub record HasMixing (plant : PlantData) (mixing : Mixing) : Type 0 where

@@ -97,7 +97,13 @@ sources_at levels file level =
     (remote_at file.remotes level.matrix level.level named.0)) (enumerate_from 0 level.source_names)
 
 abbrev pub pool_in : PoolEntry → Pool
-pool_in pool = record { from = pool.from; to = pool.to; level = pool.level; ties = pool.ties }
+pool_in pool = record {
+  from = pool.from;
+  to = pool.to;
+  level = pool.level;
+  ties = pool.ties;
+  reserve = pool.reserve;
+}
 
 -- the buses that name a device, in the order of the file
 abbrev pub named_buses : List BusEntry → DeviceEntry → List BusEntry

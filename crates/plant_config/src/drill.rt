@@ -11,6 +11,7 @@ use crate::levels::Levels;
 use crate::numbers::{DestId, DeviceId, PoolId, SourceId};
 use crate::parts::{Mixing, Parts, Routing, Service};
 use crate::plant::Plant;
+use crate::pools::Pools;
 use crate::records::{Bus, Device, Level, Panel, Pool, Source};
 use plant_file::{Name, Server, Text};
 use std::alloc::{AllocError, Global};
@@ -45,12 +46,13 @@ impl Routing {
             to: 1,
             level: 0,
             ties: 8,
+            reserve: 0,
         };
         Ok(Routing {
             levels: Levels::of(alloc, [level(0), level(1)].to_vec(alloc)?)?,
             sources: sources(alloc)?,
             dest_names: dest_names(alloc)?,
-            pools: [pool].to_vec(alloc)?,
+            pools: Pools::of([pool].to_vec(alloc)?),
         })
     }
 }

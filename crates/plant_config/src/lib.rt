@@ -11,6 +11,7 @@ mod numbers;
 mod of_file;
 mod parts;
 mod plant;
+mod pools;
 mod readers;
 mod records;
 

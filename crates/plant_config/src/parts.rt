@@ -8,7 +8,8 @@ ghost use Rattle.plant_config.specs.PartsInside.{HasRouting, HasMixing, HasServi
 use crate::displays::Displays;
 use crate::levels::Levels;
 use crate::numbers::{DestId, SourceId};
-use crate::records::{Bus, Device, Level, Panel, Pool, Source};
+use crate::pools::Pools;
+use crate::records::{Bus, Device, Level, Panel, Source};
 use plant_file::{Name, Server, Text};
 use std::alloc::{AllocError, Global};
 
@@ -26,7 +27,7 @@ pub(crate) struct Routing {
     pub(crate) levels: Levels,
     pub(crate) sources: Vec<Source>,
     pub(crate) dest_names: Vec<Name>,
-    pub(crate) pools: Vec<Pool>,
+    pub(crate) pools: Pools,
 }
 
 /// What the mixers have: devices and their buses, and where the plant's picture goes to air and to preview.
@@ -65,7 +66,7 @@ impl Routing {
             levels: Levels::of(alloc, [level].to_vec(alloc)?)?,
             sources: bench_sources(alloc)?,
             dest_names: bench_dest_names(alloc)?,
-            pools: Vec::new(alloc),
+            pools: Pools::of(Vec::new(alloc)),
         })
     }
 
@@ -78,7 +79,7 @@ impl Routing {
             levels: self.levels.copy(alloc)?,
             sources: self.sources.as_slice().to_vec(alloc)?,
             dest_names: self.dest_names.as_slice().to_vec(alloc)?,
-            pools: self.pools.as_slice().to_vec(alloc)?,
+            pools: self.pools.copy(alloc)?,
         })
     }
 }

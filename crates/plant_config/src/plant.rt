@@ -152,7 +152,8 @@ impl Plant {
         }
     }
 
-    /// The number of a source in its level. It is below the number that says 'parked'.
+    /// The number of a source in its level. It is below the most that a level has, which is the number that says 'parked' in
+    /// messages of wide numbers.
     pub fn source_number(&self, source: SourceId) -> u16
         requires { source < sources_of self.now }
         ensures number { source_number_of self.now source ≡ Some result }

@@ -4,6 +4,7 @@ ghost use Rattle.std.specs.Prelude.{◌≡◌, ◌<◌, true, length, slice_get,
 ghost use Rattle.plant_file.specs.Ranges.{IsName};
 ghost use Rattle.plant_config.specs.Plant.{destinations_of, sources_of};
 ghost use Rattle.plant_config.specs.IsPlant.{IsPlant, is_local};
+ghost use Rattle.plant_config.specs.Reserves.{has_reserve};
 ghost use Rattle.plant_config.specs.Screens.{screens_of, has_screen, screen_of};
 ghost use Rattle.plant_config.specs.Sources.{origin_of, pool_of, source_name_of, dest_name_of};
 
@@ -51,6 +52,15 @@ impl Plant {
         ensures plant { IsPlant self.now }
     {
         self.parts.routing.pools.as_slice()
+    }
+
+    /// Whether some pool keeps ties for masters. The pools aren't looked through.
+    #[inline]
+    pub fn has_reserve(&self) -> bool
+        ensures has { result ≡ has_reserve self.now }
+        ensures plant { IsPlant self.now }
+    {
+        self.parts.routing.pools.keep_some()
     }
 
     /// The devices, in the order of their numbers.
@@ -157,7 +167,7 @@ impl Plant {
         ensures pool { slice_get self.now.pools pool ≡ Some result }
         ensures plant { IsPlant self.now }
     {
-        self.parts.routing.pools[pool.get() as usize]
+        self.parts.routing.pools.as_slice()[pool.get() as usize]
     }
 
     /// The name of a source, 1 to 12 printable bytes.

@@ -12,11 +12,11 @@ pub struct Level {
     pub level: u8,
     /// The number of its first source in the whole plant.
     pub first_source: u32,
-    /// 1 to 1023.
+    /// 1 to 65535.
     pub sources: u32,
     /// The number of its first destination in the whole plant.
     pub first_dest: u32,
-    /// 1 to 1024.
+    /// 1 to 65536.
     pub destinations: u32,
 }
 
@@ -42,6 +42,8 @@ pub struct Pool {
     pub level: u8,
     /// How many tie-lines it has, 1 to 1024.
     pub ties: u32,
+    /// How many of them are kept for masters, at most all.
+    pub reserve: u32,
 }
 
 /// A device, a mixer say, whose output carries what its buses carry.
@@ -84,7 +86,7 @@ pub struct Panel {
     pub device: u16,
     /// The TCP port on which it is served, 1 to 65535.
     pub port: u16,
-    /// Whether it may lift any protect.
+    /// Whether it may lift any protect, and use the ties that are kept for masters.
     pub master: bool,
 }
 
@@ -95,7 +97,7 @@ pub struct Point {
     pub matrix: u8,
     /// 0 to 15.
     pub level: u8,
-    /// Its number in the level, 0 to 1023.
+    /// Its number in the level, 0 to 65535.
     pub dest: u16,
 }
 

@@ -10,6 +10,7 @@ use super::{devices, levels, parts, sources};
 use crate::displays::Displays;
 use crate::levels::Levels;
 use crate::parts::{Mixing, Routing, Service};
+use crate::pools::Pools;
 use crate::records::Level;
 use plant_file::{LevelEntry, PlantFile};
 use std::alloc::{AllocError, Global};
@@ -41,7 +42,7 @@ fn routing_of(
     Ok(Routing {
         sources: sources::sources(alloc, file, levels.as_slice(), ordered)?,
         dest_names: levels::dest_names(alloc, ordered)?,
-        pools: parts::pools(alloc, file.pools())?,
+        pools: Pools::of(parts::pools(alloc, file.pools())?),
         levels: Levels::of(alloc, levels)?,
     })
 }

@@ -21,6 +21,7 @@ pub fn pools(alloc: Global, pools: &[PoolEntry]) -> Result<Vec<Pool>, AllocError
             to: pool.to,
             level: pool.level,
             ties: pool.ties,
+            reserve: pool.reserve,
         })
         .collect(alloc)
 }

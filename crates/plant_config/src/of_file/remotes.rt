@@ -13,7 +13,7 @@ use std::collections::BTreeMap;
 pub type Remotes = BTreeMap<(u8, u8, u16), RemoteEntry>;
 
 /// The pools by the matrix that they come from, the one that they lead to, and level.
-pub type Pools = BTreeMap<(u8, u8, u8), PoolId>;
+pub type PoolsByWay = BTreeMap<(u8, u8, u8), PoolId>;
 
 // Adds a remote, unless there is one at its place.
 fn add_remote(remote: &RemoteEntry, made: &mut Remotes) -> Result<(), AllocError>
@@ -38,7 +38,7 @@ pub fn remotes_of(alloc: Global, remotes: &[RemoteEntry]) -> Result<Remotes, All
 }
 
 // Adds the number of a pool, unless there is one on its way.
-fn add_pool(pool: &PoolEntry, number: PoolId, made: &mut Pools) -> Result<(), AllocError>
+fn add_pool(pool: &PoolEntry, number: PoolId, made: &mut PoolsByWay) -> Result<(), AllocError>
     ensures { OnOk result (AddsTo made.old made.new (way_of pool.now) number) }
 {
     let way = (pool.from, pool.to, pool.level);
@@ -49,7 +49,7 @@ fn add_pool(pool: &PoolEntry, number: PoolId, made: &mut Pools) -> Result<(), Al
 }
 
 /// The numbers of the pools of a file.
-pub fn pools_of(alloc: Global, pools: &[PoolEntry]) -> Result<Pools, AllocError>
+pub fn pools_of(alloc: Global, pools: &[PoolEntry]) -> Result<PoolsByWay, AllocError>
     requires { length pools.now ≤ 256 }
     ensures { IfOk result (λ made. Maps made (pool_among pools.now)) }
 {

@@ -6,7 +6,7 @@ ghost use Rattle.plant_config.specs.OfFileInside.{AreLow, Knows, HasFewSources, 
 ghost use Rattle.plant_config.specs.OfFileInside.{behind, origin_in};
 
 use super::lookups::source_number;
-use super::remotes::{Pools, Remotes, pools_of, remotes_of};
+use super::remotes::{PoolsByWay, Remotes, pools_of, remotes_of};
 use crate::numbers::{PoolId, SourceId};
 use crate::records::{Level, Source};
 use plant_file::{LevelEntry, PlantFile, RemoteEntry};
@@ -18,7 +18,7 @@ struct Origins<'a> {
     file: &'a PlantFile,
     levels: &'a [Level],
     remotes: Remotes,
-    pools: Pools,
+    pools: PoolsByWay,
     ghost known: { Knows file.now levels.now remotes pools },
 }
 

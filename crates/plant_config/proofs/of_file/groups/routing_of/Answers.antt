@@ -9,17 +9,23 @@ use Rattle.plant_config.proofs.LevelsOfFile.{each_level, length-levels_of, dests
 use Rattle.plant_config.proofs.OneMore.{same_2}
 use Rattle.plant_config.proofs.of_file.groups.routing_of.Goals as goal
 
-pub of-requires : goal.of-requires
-of-requires c =
+pub of-requires-2-clause-in_grid : goal.of-requires-2-clause-in_grid
+of-requires-2-clause-in_grid c =
+    let in_grid : All IsInGrid (levels_of c.args.file.now) = λ k d inside. let level = each_level c.args.file.now c.requires.file k d inside in (level.matrix, level.level) in
+    subst (All IsInGrid) (sym c.requires.numbered) in_grid
+
+pub of-requires-2-clause-few : goal.of-requires-2-clause-few
+of-requires-2-clause-few c = rw (c.requires.numbered, length-levels_of c.args.file.now c.requires.file) c.requires.file.ranges.levels.0.1
+
+pub of-requires-2-clause-dests : goal.of-requires-2-clause-dests
+of-requires-2-clause-dests c =
     let file = c.args.file.now in
-    let numbered = c.requires.numbered in
-    let in_grid : All IsInGrid (levels_of file) = λ k d inside. let level = each_level file c.requires.file k d inside in (level.matrix, level.level) in
-    record {
-      in_grid = subst (All IsInGrid) (sym numbered) in_grid;
-      few = rw (numbered, length-levels_of file c.requires.file) c.requires.file.ranges.levels.0.1;
-      dests = subst (AreNumbered dest_numbers all_destinations_limit) (sym numbered) (record { follow = dests_follow file c.requires.file; few = rw (all_dests file c.requires.file) c.requires.file.destinations });
-      sources = subst (AreNumbered source_numbers all_sources_limit) (sym numbered) (record { follow = sources_follow file c.requires.file; few = rw (all_sources file c.requires.file) c.requires.file.sources });
-    }
+    subst (AreNumbered dest_numbers all_destinations_limit) (sym c.requires.numbered) (record { follow = dests_follow file c.requires.file; few = rw (all_dests file c.requires.file) c.requires.file.destinations })
+
+pub of-requires-2-clause-sources : goal.of-requires-2-clause-sources
+of-requires-2-clause-sources c =
+    let file = c.args.file.now in
+    subst (AreNumbered source_numbers all_sources_limit) (sym c.requires.numbered) (record { follow = sources_follow file c.requires.file; few = rw (all_sources file c.requires.file) c.requires.file.sources })
 
 pub returns : goal.returns
 unfolding plant_of_file
@@ -27,5 +33,5 @@ returns c = record {
   levels = c.in_ok-of.ensures ∙ c.requires.numbered;
   sources = c.in_ok-sources.ensures ∙ same_2 (λ (among : List Level) (ordered : List LevelData). flat_map (sources_at among c.args.file.now) ordered) (c.as_slice.ensures.value ∙ c.requires.numbered) c.requires.ordered;
   dest_names = c.in_ok-dest_names.ensures ∙ ap (flat_map (λ (level : LevelData). level.destination_names)) c.requires.ordered;
-  pools = c.in_ok-pools.ensures ∙ ap (map pool_in) c.pools.ensures;
+  pools = c.of.ensures ∙ c.in_ok-pools.ensures ∙ ap (map pool_in) c.pools.ensures;
 }

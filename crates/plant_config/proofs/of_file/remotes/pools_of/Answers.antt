@@ -6,7 +6,7 @@ use Rattle.plant_config.proofs.of_file.remotes.pools_of.Goals as goal
 
 pub loop-number-preserved : goal.loop-number-preserved
 loop-number-preserved c = λ at.
-    let none : PoolEntry = record { from = 0; to = 0; level = 0; ties = 0 } in
+    let none : PoolEntry = record { from = 0; to = 0; level = 0; ties = 0; reserve = 0 } in
     let pool = get_or c.args.pools.now c.loop-number.number none in
     let before = pool_among (take c.loop-number.number c.args.pools.now) at in
     c.in_ok-add_pool.ensures at ∙ ap (λ first. added first (way_of pool) c.of.result at) (c.loop-number.invariant at)
