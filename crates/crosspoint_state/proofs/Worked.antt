@@ -24,7 +24,7 @@ one_tie = record bench {
       ∷ record { name = codes "B1"; origin = 1; pool = Some 0 }
       ∷ [];
   dest_names = codes "X" ∷ codes "Y" ∷ codes "Z" ∷ [];
-  pools = record { from = 0; to = 1; level = 0; ties = 1 } ∷ [];
+  pools = record { from = 0; to = 1; level = 0; ties = 1; reserve = 0 } ∷ [];
 }
 
 -- the first destination has taken the one tie
