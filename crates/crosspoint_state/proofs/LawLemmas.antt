@@ -62,7 +62,7 @@ is_pool (first ∷ pools) (suc pool) IsSo is =
     omega (arith, behind)
 
 -- the pool of a source is one of the plant's
-its_pool : (plant : PlantData) (source pool : ℕ) → IsPlant plant → pool_of plant source ≡ Some pool → pool < length plant.pools
+pub its_pool : (plant : PlantData) (source pool : ℕ) → IsPlant plant → pool_of plant source ≡ Some pool → pool < length plant.pools
 its_pool plant source pool is pooled = by (slice_get plant.sources source) (is.named.each_source source) pooled
   where
     remote : (found : Source) (its : Option ℕ) → its ≡ Some pool → MatchOption its (found.origin ≡ source) (IsRemote plant found.origin source) → pool < length plant.pools
