@@ -33,15 +33,15 @@ more_if : (counts : Entries ℕ) (number : ℕ) (b : Bool) → count_at (cond b 
 more_if counts number true = count_same counts number (count_at counts number + 1)
 more_if counts number false = omega arith
 
-more_if_other : (counts : Entries ℕ) (number n : ℕ) (b : Bool) → n ≢ number → count_at (cond b (more_at counts number) counts) n ≡ count_at counts n
+pub more_if_other : (counts : Entries ℕ) (number n : ℕ) (b : Bool) → n ≢ number → count_at (cond b (more_at counts number) counts) n ≡ count_at counts n
 more_if_other counts number n true other = count_other counts number (count_at counts number + 1) n other
 more_if_other counts number n false other = refl
 
-fewer_if : (counts : Entries ℕ) (number : ℕ) (b : Bool) → count_at (cond b (fewer_at counts number) counts) number ≡ count_at counts number - cond b 1 0
+pub fewer_if : (counts : Entries ℕ) (number : ℕ) (b : Bool) → count_at (cond b (fewer_at counts number) counts) number ≡ count_at counts number - cond b 1 0
 fewer_if counts number true = count_same counts number (count_at counts number - 1)
 fewer_if counts number false = omega arith
 
-fewer_if_other : (counts : Entries ℕ) (number n : ℕ) (b : Bool) → n ≢ number → count_at (cond b (fewer_at counts number) counts) n ≡ count_at counts n
+pub fewer_if_other : (counts : Entries ℕ) (number n : ℕ) (b : Bool) → n ≢ number → count_at (cond b (fewer_at counts number) counts) n ≡ count_at counts n
 fewer_if_other counts number n true other = count_other counts number (count_at counts number - 1) n other
 fewer_if_other counts number n false other = refl
 
@@ -49,7 +49,7 @@ one_more : (n : ℕ) → nat_eq (n + 1) 1 ≡ nat_eq n 0
 one_more zero = refl
 one_more (suc n) = ne_eqb (suc n + 1) 1 (λ e. omega (arith, e)) ∙ sym (ne_eqb (suc n) 0 (λ e. omega (arith, e)))
 
-some_number : (a b : ℕ) → Some a ≡ Some b → a ≡ b
+pub some_number : (a b : ℕ) → Some a ≡ Some b → a ≡ b
 some_number a b e = cc
 
 -- a destination with a source that comes by this way, and without one

@@ -6,6 +6,11 @@ pub mod DemandLemmas
 pub mod RouteLemmas
 pub mod OverLemmas
 pub mod PlanLemmas
+pub mod LowestLemmas
+pub mod RiseLemmas
+pub mod OverLimitLemmas
+pub mod ExceededLemmas
+pub mod AllTiesLemmas
 pub mod KeptOver
 pub mod Searches
 pub mod FreeLemmas

@@ -13,7 +13,7 @@ use Rattle.crosspoint_state.proofs.LawLemmas.{ExhaustedWhereNotEnough-all}
 use Rattle.tie_pools.specs.Counts.{count_at, sizes_of}
 use Rattle.tie_pools.specs.CountsInside.{Demand}
 use Rattle.tie_pools.specs.DemandInside.{AreDemandOf, is_over, measured, over, in_use_of}
-use Rattle.tie_pools.specs.Plans.{IsExhausted}
+use Rattle.tie_pools.specs.ReserveInside.{IsOut}
 use Rattle.tie_pools.proofs.Searches.{find_alike}
 use Rattle.tie_pools.specs.declared.planned.Exhausted.{Exhausted}
 
@@ -26,7 +26,7 @@ size_at (pool ∷ pools) (suc n) = size_at pools n
 pub size_kept : (plant : PlantData) (pool : ℕ) → get_or (sizes_of plant) pool 0 ≡ size_of plant pool
 size_kept plant pool = size_at plant.pools pool
 
-more_than : (wanted size : ℕ) → not (nat_le wanted size) ≡ nat_lt size wanted
+pub more_than : (wanted size : ℕ) → not (nat_le wanted size) ≡ nat_lt size wanted
 more_than wanted size =
     elim (cases_lt size wanted) [
       | inl less ↦
@@ -38,7 +38,7 @@ more_than wanted size =
     ]
 
 module _ (plant : PlantData) (points : Crosspoints) (changes : List Change) (demand : Demand) (counted : AreDemandOf plant (put_all points changes) demand) where
-  size_kept_of : (pool : ℕ) → get_or demand.sizes pool 0 ≡ size_of plant pool
+  pub size_kept_of : (pool : ℕ) → get_or demand.sizes pool 0 ≡ size_of plant pool
   size_kept_of pool = ap (λ sizes. get_or sizes pool 0) counted.room.sizes ∙ size_kept plant pool
 
   exhausted_over : exhausted plant points changes ≡ find (is_over (in_use_of demand)) (range_with_len 0 demand.used.room)
@@ -50,10 +50,10 @@ module _ (plant : PlantData) (points : Crosspoints) (changes : List Change) (dem
       ∙ ap (λ size. nat_lt size (count_at demand.used.entries pool)) (sym (size_kept_of pool)))
       ∙ ap (λ count. find (is_over (in_use_of demand)) (range_with_len 0 count)) (sym counted.room.used)
 
-  pub exhausted_where_over : (fault : Exhausted) → over (in_use_of demand) ≡ Some fault → IsExhausted plant points changes fault
+  pub exhausted_where_over : (fault : Exhausted) → over (in_use_of demand) ≡ Some fault → IsOut plant points changes fault
   exhausted_where_over fault e = by (find (is_over (in_use_of demand)) (range_with_len 0 demand.used.room)) refl e
     where
-      by : (found : Option ℕ) → find (is_over (in_use_of demand)) (range_with_len 0 demand.used.room) ≡ found → option_map (measured (in_use_of demand)) found ≡ Some fault → IsExhausted plant points changes fault
+      by : (found : Option ℕ) → find (is_over (in_use_of demand)) (range_with_len 0 demand.used.room) ≡ found → option_map (measured (in_use_of demand)) found ≡ Some fault → IsOut plant points changes fault
       by None found e = cc
       by (Some pool) found e =
           let is : measured (in_use_of demand) pool ≡ fault = cc in
@@ -61,7 +61,7 @@ module _ (plant : PlantData) (points : Crosspoints) (changes : List Change) (dem
           record {
             lowest = exhausted_over ∙ found ∙ ap Some same;
             wanted = sym (ap (λ (fault : Exhausted). fault.wanted) is) ∙ counted.used pool ∙ ap (wanted plant (put_all points changes)) same;
-            size = sym (ap (λ (fault : Exhausted). fault.size) is) ∙ size_kept_of pool ∙ ap (size_of plant) same;
+            limit = sym (ap (λ (fault : Exhausted). fault.limit) is) ∙ size_kept_of pool ∙ ap (size_of plant) same;
           }
 
   pub enough_where_none_over : over (in_use_of demand) ≡ None → are_enough plant points changes ≡ true

@@ -21,7 +21,7 @@ use Rattle.tie_pools.specs.DemandInside.{AreDemandOf, route_of, left, taken, Has
 use Rattle.tie_pools.proofs.DemandLemmas.{same_demand}
 use Rattle.tie_pools.proofs.RouteLemmas.{demand_released, demand_moved, has_room}
 
-untied_source : (source : Option ℕ) → source_at (untied source) ≡ source
+pub untied_source : (source : Option ℕ) → source_at (untied source) ≡ source
 untied_source None = refl
 untied_source (Some source) = refl
 

@@ -79,7 +79,7 @@ abbrev pub measured : InUse → ℕ → Exhausted
 measured in_use pool = record {
   pool = pool;
   wanted = count_at in_use.used.entries pool;
-  size = slice_index in_use.sizes pool;
+  limit = slice_index in_use.sizes pool;
 }
 
 -- the lowest pool that has more ways in use than it has ties

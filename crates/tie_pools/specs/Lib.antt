@@ -8,4 +8,7 @@ pub mod CountsInside
 pub mod DemandInside
 pub mod HoldingsInside
 pub mod CommitInside
+pub mod Reserve
+pub mod ReserveInside
 pub mod Plans
+pub mod Laws

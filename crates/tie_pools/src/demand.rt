@@ -80,6 +80,13 @@ impl Demand {
         0 < count_of(&self.fed, way.get())
     }
 
+    /// How many ways of a pool are in use.
+    pub(crate) fn ways_in_use(&self, pool: PoolId) -> u32
+        ensures { result ≡ count_at self.now.used.entries pool }
+    {
+        self.in_use.count(pool)
+    }
+
     /// The lowest pool that has more ways in use than it has ties.
     pub(crate) fn over(&self) -> Option<Exhausted>
         ensures { result ≡ over (in_use_of self.now) }

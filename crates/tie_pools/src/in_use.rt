@@ -73,6 +73,13 @@ impl InUse {
         }
     }
 
+    /// How many ways of a pool are in use.
+    pub(crate) fn count(&self, pool: PoolId) -> u32
+        ensures { result ≡ count_at self.now.used.entries pool }
+    {
+        count_of(&self.used, pool.get())
+    }
+
     /// The lowest pool that has more ways in use than it has ties.
     pub(crate) fn over(&self) -> Option<Exhausted>
         ensures { result ≡ over self.now }
@@ -81,7 +88,7 @@ impl InUse {
         Some(Exhausted {
             pool: PoolId::of(number),
             wanted: count_of(&self.used, number),
-            size: size_at(&self.sizes, number),
+            limit: size_at(&self.sizes, number),
         })
     }
 }

@@ -9,11 +9,17 @@ mod counts;
 mod demand;
 mod holdings;
 mod in_use;
+mod laws;
 mod plan;
 mod planned;
+mod reserve;
 mod route;
 mod ties;
 mod ways;
 
+pub use laws::{
+    a_master_may_use_all_ties, a_master_may_what_a_panel_may, who_needs_no_more_is_not_refused,
+    without_a_reserve_all_panels_may_the_same,
+};
 pub use planned::{Exhausted, Planned};
 pub use ties::Ties;

@@ -1,4 +1,4 @@
-//! A list of changes is planned: whether the ties are enough for it.
+//! A list of changes is planned: whether the ties are enough for it, by what a panel may use of them.
 
 ghost use Rattle.std.specs.Prelude.{◌≡◌, true, IfOk, IfErr};
 ghost use Rattle.plant_config.specs.IsPlant.{IsPlant};
@@ -8,6 +8,8 @@ ghost use Rattle.crosspoint_state.specs.Laws.{AreInside};
 ghost use Rattle.tie_pools.specs.Counts.{AreCountsOf, AreWays};
 ghost use Rattle.tie_pools.specs.DemandInside.{IsDemandFor, AreDemandOf, HasRoomFor};
 ghost use Rattle.tie_pools.specs.DemandInside.{route_of, left, taken, moved};
+ghost use Rattle.tie_pools.specs.Reserve.{are_enough_for};
+ghost use Rattle.tie_pools.specs.ReserveInside.{IsOut, uses_all};
 ghost use Rattle.tie_pools.specs.Plans.{IsExhausted};
 
 use crate::demand::Demand;
@@ -19,27 +21,55 @@ use crosspoint_state::Crosspoints;
 use plant_config::{Change, Plant, SourceId};
 
 impl Ties {
-    /// Whether the ties are enough for a list of changes, with all new sources put in at once; else the lowest pool that
-    /// isn't. Nothing is changed.
+    /// Whether the ties are enough for a panel's list of changes, with all new sources put in at once; else the lowest pool
+    /// that it exceeds. For a master all ties count. Another panel may bring a pool's destinations to as many different
+    /// origins as the pool has ties that it doesn't keep for masters, or as they carry already. Nothing is changed.
     #[inline]
     pub fn plan(
         &mut self,
         plant: &Plant,
         points: &Crosspoints,
+        master: bool,
         changes: &[Change],
     ) -> Result<Planned, Exhausted>
         requires dests { AreInside plant.now changes.now }
         requires once { NamesOnce changes.now }
         requires counts { AreCountsOf plant.now points.now.entries self.old }
+        ensures permitted { IfOk result (λ _.
+            are_enough_for plant.now points.now.entries master changes.now ≡ true) }
         ensures enough { IfOk result (λ _.
             are_enough plant.now points.now.entries changes.now ≡ true) }
-        ensures exhausted { IfErr result (IsExhausted plant.now points.now.entries changes.now) }
+        ensures exhausted { IfErr result
+            (IsExhausted plant.now points.now.entries master changes.now) }
         ensures counts { AreCountsOf plant.now points.now.entries self.new }
     {
         // A plant without pools needs no ties.
         if plant.pools().is_empty() {
             return Ok(Planned::new());
         }
+        if uses_all(plant, master) {
+            return self.plan_by_ties(plant, points, changes);
+        }
+        self.plan_by_limits(plant, points, changes)
+    }
+
+    // The same for a master, or where no pool keeps ties.
+    #[inline(always)]
+    fn plan_by_ties(
+        &mut self,
+        plant: &Plant,
+        points: &Crosspoints,
+        changes: &[Change],
+    ) -> Result<Planned, Exhausted>
+        requires plant { IsPlant plant.now }
+        requires dests { AreInside plant.now changes.now }
+        requires once { NamesOnce changes.now }
+        requires counts { AreCountsOf plant.now points.now.entries self.old }
+        ensures enough { IfOk result (λ _.
+            are_enough plant.now points.now.entries changes.now ≡ true) }
+        ensures out { IfErr result (IsOut plant.now points.now.entries changes.now) }
+        ensures counts { AreCountsOf plant.now points.now.entries self.new }
+    {
         put_in(&mut self.demand, &self.ways, plant, points, changes);
         let over = self.demand.over();
         take_out(&mut self.demand, &self.ways, plant, points, changes);
@@ -50,9 +80,23 @@ impl Ties {
     }
 }
 
+// Whether a panel may use all ties of each pool: it is a master, or no pool keeps any.
+#[inline(always)]
+fn uses_all(plant: &Plant, master: bool) -> bool
+    ensures { result ≡ uses_all plant.now master }
+{
+    master || !plant.has_reserve()
+}
+
 // Puts the new sources of all changes that aren't idle into the demand.
 #[inline(never)]
-fn put_in(demand: &mut Demand, ways: &Ways, plant: &Plant, points: &Crosspoints, changes: &[Change])
+pub(crate) fn put_in(
+    demand: &mut Demand,
+    ways: &Ways,
+    plant: &Plant,
+    points: &Crosspoints,
+    changes: &[Change],
+)
     requires plant { IsPlant plant.now }
     requires ways { AreWays plant.now ways.now }
     requires dests { AreInside plant.now changes.now }
@@ -70,7 +114,7 @@ fn put_in(demand: &mut Demand, ways: &Ways, plant: &Plant, points: &Crosspoints,
 
 // Takes the new sources of all changes that aren't idle out of the demand again.
 #[inline(never)]
-fn take_out(
+pub(crate) fn take_out(
     demand: &mut Demand,
     ways: &Ways,
     plant: &Plant,

@@ -15,13 +15,13 @@ impl Planned {
     }
 }
 
-/// The ties aren't enough for a list of changes.
+/// The ties aren't enough for a panel's list of changes.
 #[derive(Clone, Copy, Debug, PartialEq, Eq)]
 pub struct Exhausted {
-    /// The lowest pool whose ties aren't enough.
+    /// The lowest pool that the list exceeds.
     pub pool: PoolId,
     /// How many different origins its destinations would carry.
     pub wanted: u32,
-    /// How many ties it has, 1 to 1024.
-    pub size: u32,
+    /// How many may for this panel, at most the pool's ties.
+    pub limit: u32,
 }
