@@ -1,11 +1,13 @@
 -- Names are written byte by byte, and pages name by name.
-use Rattle.std.proofs.Common.{◌≡◌, ℕ, ◌+◌, ◌-◌, ◌*◌, List, [], ◌∷◌, ◌++◌, length, take, drop, ap, get_or, inl, inr, zero, suc, refl, sym, ◌∙◌, arith}
+use Rattle.std.proofs.Common.{◌≡◌, ℕ, ◌+◌, ◌-◌, ◌*◌, ◌≤◌, nat_eq, Bool, true, false, cond, Option, Some, None, List, [], ◌∷◌, ◌++◌, length, take, drop, ap, get_or, inl, inr, zero, suc, refl, sym, ◌∙◌, arith}
 use Rattle.std.proofs.lemmas.Bool.{cases_lt}
 use Rattle.std.proofs.lemmas.Grind.{common_steps}
 use Rattle.std.specs.List.{flat_map, range_with_len}
-use Rattle.std.proofs.lemmas.List.{take_all, drop-drop}
+use Rattle.std.specs.Option.{IfSome}
+use Rattle.std.proofs.lemmas.List.{take_all, drop-drop, length-take}
+use Rattle.std.proofs.Math.Nat.{min-le_left}
 use Rattle.std.proofs.Math.Seq.{take-add}
-use Rattle.plant_names.specs.Pages.{fitted, most_names, names_from}
+use Rattle.plant_names.specs.Pages.{fitted, most_names, names_from, HasFew}
 use Rattle.plant_names.specs.Laws.{PagesHaveAll}
 
 pub fitted-more : (count : ℕ) (name : List ℕ) → fitted count name ++ get_or name count 32 ∷ [] ≡ fitted (count + 1) name
@@ -34,3 +36,21 @@ pub pages_have_all : (size : ℕ) → PagesHaveAll size
 pages_have_all size pages names suffice =
     let none : 0 * most_names size ≡ 0 = omega arith in
     pages_from size 0 pages names ∙ ap (λ first. take (pages * most_names size) (drop first names)) none ∙ take_all (pages * most_names size) names suffice
+
+-- A page has few names, however many its level has.
+
+most_names-within : (size : ℕ) → most_names size ≤ 32
+most_names-within size = by (nat_eq size 0) (nat_eq size 1)
+  where
+    by : (none one : Bool) → cond none 32 (cond one 16 10) ≤ 32
+    by true one = omega arith
+    by false true = omega arith
+    by false false = omega arith
+
+has_few : (one : Bool) (size first : ℕ) (names : List (List ℕ)) → HasFew one size first names
+has_few true size first names = omega (arith, length-take 1 (drop first names), min-le_left 1 (length (drop first names)))
+has_few false size first names = omega (arith, length-take (most_names size) (drop first names), min-le_left (most_names size) (length (drop first names)), most_names-within size)
+
+pub few_of : (one : Bool) (size first : ℕ) (names : Option (List (List ℕ))) → IfSome names (HasFew one size first)
+few_of one size first None = tt
+few_of one size first (Some names) = has_few one size first names

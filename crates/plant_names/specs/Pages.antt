@@ -80,9 +80,17 @@ names_of_sources plant matrix level = option_map (source_names plant) (level_at 
 abbrev pub names_of_dests : PlantData → ℕ → Option (List (List ℕ))
 names_of_dests plant matrix = option_map (dest_names plant) (lowest_level plant matrix)
 
--- A level has no more names than a level may have destinations or sources.
-abbrev pub AreFew : List (List ℕ) → Type 0
-AreFew names = length names ≤ level_destination_limit
+-- the most names of a page of any size
+abbrev pub most_of_all : ℕ
+most_of_all = 32
+
+-- A page that begins at this number has few names, however many its level has.
+abbrev pub HasFew : Bool → ℕ → ℕ → List (List ℕ) → Type 0
+HasFew one size first names = length (page_names one size first names) ≤ most_of_all
+
+-- The names of a level have numbers of two bytes.
+abbrev pub HaveNumbers : List (List ℕ) → Type 0
+HaveNumbers names = length names ≤ level_destination_limit
 
 -- the DATA of a page of a level's source names, and of a matrix's destination names: there the level is 0
 abbrev pub source_page_data : PlantData → ℕ → ℕ → ℕ → ℕ → Bool → List ℕ

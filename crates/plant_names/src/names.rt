@@ -6,7 +6,8 @@ ghost use Rattle.std.specs.Option.{option_copied, option_map};
 ghost use Rattle.plant_config.specs.Limits.{matrix_limit, level_limit};
 ghost use Rattle.plant_config.specs.Sites.{level_at};
 ghost use Rattle.plant_names.specs.Lookup.{source_named, dest_named};
-ghost use Rattle.plant_names.specs.Pages.{AreFew, lowest_level, max_page_len, page_end};
+ghost use Rattle.plant_names.specs.Pages.{HasFew, HaveNumbers, lowest_level};
+ghost use Rattle.plant_names.specs.Pages.{max_page_len, page_end};
 ghost use Rattle.plant_names.specs.Pages.{names_of_sources, names_of_dests, source_page_data};
 ghost use Rattle.plant_names.specs.Pages.{dest_page_data};
 ghost use Rattle.plant_names.specs.NamesInside.{named, IsNamed};
@@ -112,6 +113,7 @@ impl Names {
 
     /// Appends the DATA of the page of a level's source names that begins at a number, command 106 of this project's profile,
     /// and says how the page ends. `size` is 0, 1 or 2, for 4, 8 or 12 bytes a name, and `one` asks for one name alone.
+    #[tactic(auto, using(crate::proofs::PageLemmas::few_of))]
     pub fn source_page(
         &self,
         matrix: u8,
@@ -125,7 +127,8 @@ impl Names {
         requires room { vec_len out.old + max_page_len ≤ vec_capacity out.old }
         ensures end { result
             ≡ page_end one size first (names_of_sources self.now matrix level) }
-        ensures few { IfSome (names_of_sources self.now matrix level) AreFew }
+        ensures few { IfSome (names_of_sources self.now matrix level) (HasFew one size first) }
+        ensures numbers { IfSome (names_of_sources self.now matrix level) HaveNumbers }
         ensures text { out.new.items ≡ out.old.items
             ++ source_page_data self.now matrix level size first one }
         ensures room { vec_capacity out.new ≡ vec_capacity out.old }
@@ -144,11 +147,13 @@ impl Names {
 
     /// Appends the DATA of the page of a matrix's destination names that begins at a number, command 107 of this project's
     /// profile, as `source_page` does. The names are those of the matrix's lowest level, and the level of the page is 0.
+    #[tactic(auto, using(crate::proofs::PageLemmas::few_of))]
     pub fn dest_page(&self, matrix: u8, size: u8, first: u16, one: bool, out: &mut Vec<u8>) -> Paged
         requires size { size ≤ 2 }
         requires room { vec_len out.old + max_page_len ≤ vec_capacity out.old }
         ensures end { result ≡ page_end one size first (names_of_dests self.now matrix) }
-        ensures few { IfSome (names_of_dests self.now matrix) AreFew }
+        ensures few { IfSome (names_of_dests self.now matrix) (HasFew one size first) }
+        ensures numbers { IfSome (names_of_dests self.now matrix) HaveNumbers }
         ensures text { out.new.items ≡ out.old.items
             ++ dest_page_data self.now matrix size first one }
         ensures room { vec_capacity out.new ≡ vec_capacity out.old }

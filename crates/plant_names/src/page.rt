@@ -3,6 +3,7 @@
 ghost use Rattle.std.specs.Prelude.{◌≡◌, ◌+◌, ◌*◌, ◌<◌, ◌≤◌, ◌++◌, length, slice_index_or};
 ghost use Rattle.std.specs.Prelude.{Some, vec_len, vec_capacity};
 ghost use Rattle.std.specs.List.{flat_map};
+ghost use Rattle.plant_config.specs.Limits.{level_destination_limit};
 ghost use Rattle.plant_names.specs.Pages as pages;
 
 use crate::paged::Paged;
@@ -57,7 +58,7 @@ impl PageAsk {
         requires size { self.size ≤ 2 }
         requires matrix { head.matrix < 16 }
         requires level { head.level < 16 }
-        requires names { length names.now ≤ 1024 }
+        requires names { length names.now ≤ level_destination_limit }
         requires room { vec_len out.old + pages.max_page_len ≤ vec_capacity out.old }
         ensures end { result ≡ pages.page_end self.one self.size self.first (Some names.now) }
         ensures text { out.new.items ≡ out.old.items ++ pages.page_data head.command head.matrix
