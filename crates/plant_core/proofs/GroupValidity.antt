@@ -11,7 +11,7 @@ use Rattle.plant_core.specs.State.{State, IsChangeOf, IsValid}
 use Rattle.plant_core.proofs.Validity.{IsValid-groups}
 
 -- a group is replaced: what holds of each group, and of the new one, holds of each
-each_group : (P : Group → Type 0) (groups : List Group) (number : ℕ) (group : Group) → P [] → ((n : ℕ) → P (group_of groups n)) → P group → (n : ℕ) → P (group_of (set groups number group) n)
+pub each_group : (P : Group → Type 0) (groups : List Group) (number : ℕ) (group : Group) → P [] → ((n : ℕ) → P (group_of groups n)) → P group → (n : ℕ) → P (group_of (set groups number group) n)
 each_group P groups number group none all new n = elim (cases_eq n number) [
   | inl here ↦ elim (cases_lt number (length groups)) [
     | inl within ↦ subst P (sym (ap (group_of (set groups number group)) here ∙ get_or-set_same groups number group [] within)) new
@@ -21,7 +21,7 @@ each_group P groups number group none all new n = elim (cases_eq n number) [
 ]
 
 -- a stored change is of the plant as the others are
-All-stored : (P : Change → Type 0) (group : Group) (change : Change) → All P group → P change → All P (stored group change)
+pub All-stored : (P : Change → Type 0) (group : Group) (change : Change) → All P group → P change → All P (stored group change)
 All-stored P group change all new =
     elim (has_entry group change.dest) as (λ b. All P (cond b (with_changed group change) (group ++ change ∷ []))) [
       | true ↦ All-map P (λ (entry : Change). cond (entry.dest == change.dest) change entry) group (λ k d below. one (get_or group k d) (all k d below))

@@ -9,6 +9,7 @@ use Rattle.plant_core.specs.declared.request.Request.{Request}
 use Rattle.plant_core.specs.declared.answer.Answer.{Answer}
 use Rattle.plant_core.specs.Answer.{IsSayable}
 use Rattle.plant_core.specs.State.{State, IsValid, Fits, FitsPlant, start}
+use Rattle.plant_core.specs.Short.{StaysShort}
 use Rattle.plant_core.specs.Step.{step}
 use Rattle.plant_core.specs.HistoryLaws.{PlantEntry, KeepsTiesValid, CanBeSent}
 use Rattle.plant_core.proofs.AnswerLemmas.{All-sayable}
@@ -16,6 +17,7 @@ use Rattle.plant_core.proofs.CountLemmas.{answer_count, answers_within}
 use Rattle.plant_core.proofs.StepLeaves.{plant-step}
 use Rattle.plant_core.proofs.StepValidity.{IsValid-step}
 use Rattle.plant_core.proofs.Validity.{IsValid-start}
+use Rattle.plant_core.proofs.ShortLemmas.{StaysShort-step}
 
 -- No history changes the plant.
 pub run-plant : (state : State) (history : List PlantEntry) → (run step state history).plant ≡ state.plant
@@ -26,6 +28,12 @@ run-plant state (entry ∷ later) = run-plant (step state entry.request).state l
 pub run-valid : (state : State) (history : List PlantEntry) → IsValid state → IsValid (run step state history)
 run-valid state [] valid = valid
 run-valid state (entry ∷ later) valid = run-valid (step state entry.request).state later (IsValid-step state entry.request valid)
+
+-- Each legal one leaves it so that what the commands that aren't extended alone can reach can be told by them.
+pub run-short : (state : State) (history : List PlantEntry) → IsValid state → StaysShort state → IsLegal step Fits state history → StaysShort (run step state history)
+run-short state [] valid short legal = short
+run-short state (entry ∷ later) valid short legal =
+    run-short (step state entry.request).state later (IsValid-step state entry.request valid) (StaysShort-step state entry.request valid short legal.0) legal.2
 
 -- What fits the plant fits behind any history.
 pub fits-run : (plant : PlantData) (state : State) (history : List PlantEntry) (request : Request) → state.plant ≡ plant → FitsPlant plant request → Fits (run step state history) request
@@ -40,25 +48,26 @@ keeps_ties_valid plant history is = λ front later same.
     subst (λ (plant' : PlantData). HaveValidTies plant' (run step (start plant) front).crosspoints) (run-plant (start plant) front) valid.ties
 
 -- The answers to a request that fits a valid state can be sent,
-entry_sent : (state : State) (entry : PlantEntry) → IsValid state → Fits state entry.request → entry.answers ≡ (step state entry.request).answers → CanBeSent state.plant entry
-entry_sent state entry valid fits is =
+entry_sent : (state : State) (entry : PlantEntry) → IsValid state → StaysShort state → Fits state entry.request → entry.answers ≡ (step state entry.request).answers → CanBeSent state.plant entry
+entry_sent state entry valid short fits is =
     let Sayable : List Answer → Type 0 = λ answers. All IsSayable answers in
     record {
-      sayable = subst Sayable (sym is) (All-sayable state entry.request valid fits);
+      sayable = subst Sayable (sym is) (All-sayable state entry.request valid short fits);
       within = omega (arith, ap (length {A = Answer}) is, answers_within state.plant entry.request _ (answer_count state entry.request fits));
     }
 
 -- and so can those of each entry of a legal history,
-pub all_sent : (state : State) (history : List PlantEntry) → IsValid state → IsLegal step Fits state history → All (CanBeSent state.plant) history
-all_sent state [] valid legal = All-nil (CanBeSent state.plant)
-all_sent state (entry ∷ later) valid legal =
+pub all_sent : (state : State) (history : List PlantEntry) → IsValid state → StaysShort state → IsLegal step Fits state history → All (CanBeSent state.plant) history
+all_sent state [] valid short legal = All-nil (CanBeSent state.plant)
+all_sent state (entry ∷ later) valid short legal =
     let Sent : PlantData → Type 0 = λ plant. All (CanBeSent plant) later in
     let next : State = (step state entry.request).state in
-    All-cons (CanBeSent state.plant) entry later (entry_sent state entry valid legal.0 legal.1) (subst Sent (plant-step state entry.request) (all_sent next later (IsValid-step state entry.request valid) legal.2))
+    All-cons (CanBeSent state.plant) entry later (entry_sent state entry valid short legal.0 legal.1)
+    (subst Sent (plant-step state entry.request) (all_sent next later (IsValid-step state entry.request valid) (StaysShort-step state entry.request valid short legal.0) legal.2))
 
 -- the last one's too.
-pub last_sent : (state : State) (front : List PlantEntry) (entry : PlantEntry) → IsValid state → IsLegal step Fits state (front ++ entry ∷ []) → CanBeSent state.plant entry
-last_sent state [] entry valid legal = entry_sent state entry valid legal.0 legal.1
-last_sent state (first ∷ front) entry valid legal =
+pub last_sent : (state : State) (front : List PlantEntry) (entry : PlantEntry) → IsValid state → StaysShort state → IsLegal step Fits state (front ++ entry ∷ []) → CanBeSent state.plant entry
+last_sent state [] entry valid short legal = entry_sent state entry valid short legal.0 legal.1
+last_sent state (first ∷ front) entry valid short legal =
     let Sent : PlantData → Type 0 = λ plant. CanBeSent plant entry in
-    subst Sent (plant-step state first.request) (last_sent (step state first.request).state front entry (IsValid-step state first.request valid) legal.2)
+    subst Sent (plant-step state first.request) (last_sent (step state first.request).state front entry (IsValid-step state first.request valid) (StaysShort-step state first.request valid short legal.0) legal.2)

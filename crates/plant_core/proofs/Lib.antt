@@ -10,7 +10,9 @@ pub mod Outcomes
 pub mod StepValidity
 pub mod Steps
 pub mod StepLeaves
+pub mod ShortLemmas
 pub mod CountLemmas
+pub mod DumpedLemmas
 pub mod AnswerLemmas
 pub mod HistoryLemmas
 pub mod DumpLemmas

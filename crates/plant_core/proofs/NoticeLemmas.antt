@@ -5,7 +5,7 @@ use Rattle.std.specs.Option.{option_map}
 use Rattle.std.specs.FinMap as finite
 use Rattle.swp08_messages.specs.declared.point.Point.{Point}
 use Rattle.swp08_messages.specs.declared.message.Message.{Message}
-use Rattle.swp08_messages.specs.declared.message.Message.TheVariants.{Connect, ProtectConnect, ProtectDisconnect, ProtectTally, ProtectConnected, ProtectDisconnected, Go}
+use Rattle.swp08_messages.specs.declared.message.Message.TheVariants.{Connect, Connected, ExtConnect, ExtTally, ExtConnected, ProtectConnect, ProtectDisconnect, ProtectTally, ProtectConnected, ProtectDisconnected, Go}
 use Rattle.plant_config.specs.declared.records.Change.{Change}
 use Rattle.crosspoint_state.specs.Crosspoints.{Crosspoints, source_of, is_idle}
 use Rattle.crosspoint_state.specs.Applied.{applied}
@@ -18,7 +18,8 @@ use Rattle.change_boards.specs.declared.sort.Sort.TheVariants.{Source, Protect}
 use Rattle.history_lock.specs.Step.{Stepped}
 use Rattle.plant_core.specs.declared.request.Request.TheVariants.{Told}
 use Rattle.plant_core.specs.declared.answer.Answer.{Answer}
-use Rattle.plant_core.specs.State.{State, IsValid, device_of, is_master}
+use Rattle.plant_core.specs.State.{State, IsValid, device_of, is_master, standing}
+use Rattle.plant_core.specs.Wide.{tally_of}
 use Rattle.plant_core.specs.Noticed.{marked_for_others}
 use Rattle.plant_core.specs.Connects.{says, change_of, changed, connected}
 use Rattle.plant_core.specs.Protecting.{owner_told, has_same_owner, with_owners, protected, unprotected}
@@ -40,11 +41,11 @@ no_owner : (old new : State) (dest : ℕ) → new.owners ≡ old.owners → ¬ O
 no_owner old new dest same changed = changed (ap (λ (o : Owners). finite.get o dest) same)
 
 -- a connect that changes a source is heard of
-connect-heard : (state : State) (panel dest : ℕ) (at : Point) (source : Option ℕ) (change : Option Change) → SourceChanged state (connected state panel at source change).state dest →
-    IsHeard state.boards (connected state panel at source change).state.boards panel dest Source
-connect-heard state panel dest at source None moves = absurd (moves refl)
-connect-heard state panel dest at source (Some change) moves =
-    by_made (λ (stepped : Stepped State Answer). SourceChanged state stepped.state dest → IsHeard state.boards stepped.state.boards panel dest Source) state panel at source change
+connect-heard : (state : State) (panel dest : ℕ) (made refused : Message) (change : Option Change) → SourceChanged state (connected state panel made refused change).state dest →
+    IsHeard state.boards (connected state panel made refused change).state.boards panel dest Source
+connect-heard state panel dest made refused None moves = absurd (moves refl)
+connect-heard state panel dest made refused (Some change) moves =
+    by_made (λ (stepped : Stepped State Answer). SourceChanged state stepped.state dest → IsHeard state.boards stepped.state.boards panel dest Source) state panel made refused change
     (λ may. by_idle (is_idle state.crosspoints change) refl) (λ moves. absurd (moves refl)) moves
   where
     by_idle : (b : Bool) → is_idle state.crosspoints change ≡ b → source_of (applied state.plant state.crosspoints (change ∷ [])) dest ≢ source_of state.crosspoints dest →
@@ -57,7 +58,8 @@ connect-heard state panel dest at source (Some change) moves =
 
 pub source-heard : (state : State) (panel item dest : ℕ) (message : Message) → IsValid state → IsOfOne message → SourceChanged state (step state (Told panel item message)).state dest →
     IsHeard state.boards (step state (Told panel item message)).state.boards panel dest Source
-source-heard state panel item dest (Connect at source) valid one moves = connect-heard state panel dest at source (change_of state.plant at source) moves
+source-heard state panel item dest (Connect at source) valid one moves = connect-heard state panel dest (Connected at source) (tally_of at (standing state at)) (change_of state.plant at source) moves
+source-heard state panel item dest (ExtConnect at source) valid one moves = connect-heard state panel dest (ExtConnected at source) (ExtTally at (standing state at)) (change_of state.plant at source) moves
 source-heard state panel item dest (ProtectConnect at device) valid one moves = absurd (no_source state (protected state panel at (dest_of state at)).state dest (protected-leaves state panel at (dest_of state at)).crosspoints moves)
 source-heard state panel item dest (ProtectDisconnect at device) valid one moves = absurd (no_source state (unprotected state panel at (dest_of state at)).state dest (unprotected-leaves state panel at (dest_of state at)).crosspoints moves)
 source-heard state panel item dest message valid one moves = absurd one
@@ -98,7 +100,8 @@ lift-heard state panel dest at (Some d) moves = go (may_lift state.owners (devic
 
 pub owner-heard : (state : State) (panel item dest : ℕ) (message : Message) → IsValid state → IsOfOne message → OwnerChanged state (step state (Told panel item message)).state dest →
     IsHeard state.boards (step state (Told panel item message)).state.boards panel dest Protect
-owner-heard state panel item dest (Connect at source) valid one moves = absurd (no_owner state (connected state panel at source (change_of state.plant at source)).state dest (connected-owners state panel at source (change_of state.plant at source)) moves)
+owner-heard state panel item dest (Connect at source) valid one moves = absurd (no_owner state (connected state panel (Connected at source) (tally_of at (standing state at)) (change_of state.plant at source)).state dest (connected-owners state panel (Connected at source) (tally_of at (standing state at)) (change_of state.plant at source)) moves)
+owner-heard state panel item dest (ExtConnect at source) valid one moves = absurd (no_owner state (connected state panel (ExtConnected at source) (ExtTally at (standing state at)) (change_of state.plant at source)).state dest (connected-owners state panel (ExtConnected at source) (ExtTally at (standing state at)) (change_of state.plant at source)) moves)
 owner-heard state panel item dest (ProtectConnect at device) valid one moves = protect-heard state panel dest at (dest_of state at) moves
 owner-heard state panel item dest (ProtectDisconnect at device) valid one moves = lift-heard state panel dest at (dest_of state at) moves
 owner-heard state panel item dest message valid one moves = absurd one

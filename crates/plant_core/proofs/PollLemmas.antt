@@ -4,7 +4,7 @@ use Rattle.std.proofs.lemmas.Bool.{cases_eq, cases_lt, both_ways}
 use Rattle.std.proofs.lemmas.List.{get_or_past}
 use Rattle.swp08_messages.specs.declared.point.Point.{Point}
 use Rattle.swp08_messages.specs.declared.message.Message.{Message}
-use Rattle.swp08_messages.specs.declared.message.Message.TheVariants.{Interrogate, Connect, ProtectConnect, ProtectDisconnect, ProtectTally, ProtectConnected, ProtectDisconnected, Store, Go}
+use Rattle.swp08_messages.specs.declared.message.Message.TheVariants.{Interrogate, Connect, Connected, ExtConnect, ExtTally, ExtConnected, ProtectConnect, ProtectDisconnect, ProtectTally, ProtectConnected, ProtectDisconnected, Store, Go}
 use Rattle.plant_config.specs.declared.records.Change.{Change}
 use Rattle.plant_config.specs.Plant.{destinations_of}
 use Rattle.crosspoint_state.specs.Crosspoints.{is_idle}
@@ -22,7 +22,8 @@ use Rattle.history_lock.specs.Step.{Stepped}
 use Rattle.plant_core.specs.declared.request.Request.{Request}
 use Rattle.plant_core.specs.declared.request.Request.TheVariants.{Told, Poll, Leave, DisplayPoll}
 use Rattle.plant_core.specs.declared.answer.Answer.{Answer}
-use Rattle.plant_core.specs.State.{State, IsValid, device_of, is_master}
+use Rattle.plant_core.specs.State.{State, IsValid, device_of, is_master, standing}
+use Rattle.plant_core.specs.Wide.{tally_of}
 use Rattle.plant_core.specs.Noticed.{marked_for_others}
 use Rattle.plant_core.specs.Connects.{says, change_of, connected}
 use Rattle.plant_core.specs.Protecting.{owner_told, has_same_owner, with_owners, protected, unprotected}
@@ -106,10 +107,10 @@ taken_left board = go (next board)
     go (Some (dest, sort)) = same_left board sort _
 
 module _ (state : State) (panel : ℕ) (left : has_left state.boards panel ≡ true) where
-  connect_left : (p : ℕ) (at : Point) (source : Option ℕ) (change : Option Change) → has_left (connected state p at source change).state.boards panel ≡ true
-  connect_left p at source None = left
-  connect_left p at source (Some change) =
-      by_made (λ (stepped : Stepped State Answer). has_left stepped.state.boards panel ≡ true) state p at source change
+  connect_left : (p : ℕ) (made refused : Message) (change : Option Change) → has_left (connected state p made refused change).state.boards panel ≡ true
+  connect_left p made refused None = left
+  connect_left p made refused (Some change) =
+      by_made (λ (stepped : Stepped State Answer). has_left stepped.state.boards panel ≡ true) state p made refused change
       (λ may.
       elim (is_idle state.crosspoints change) as (λ b. has_left (cond b state.boards (marked_for_others state.boards p change.dest Source)) panel ≡ true) [
         | true ↦ left
@@ -146,7 +147,8 @@ module _ (state : State) (panel : ℕ) (left : has_left state.boards panel ≡ t
 
   told_left : (p item : ℕ) (message : Message) → has_left (step state (Told p item message)).state.boards panel ≡ true
   told_left p item (Interrogate at) = left
-  told_left p item (Connect at source) = connect_left p at source (change_of state.plant at source)
+  told_left p item (Connect at source) = connect_left p (Connected at source) (tally_of at (standing state at)) (change_of state.plant at source)
+  told_left p item (ExtConnect at source) = connect_left p (ExtConnected at source) (ExtTally at (standing state at)) (change_of state.plant at source)
   told_left p item (ProtectConnect at device) = protect_left p at (dest_of state at)
   told_left p item (ProtectDisconnect at device) = lift_left p at (dest_of state at)
   told_left p item (Store at source salvo) = ap (λ (b : List Board). has_left b panel) (store-quiet state at source salvo (change_of state.plant at source)) ∙ left

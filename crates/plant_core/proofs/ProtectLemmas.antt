@@ -6,7 +6,7 @@ use Rattle.std.specs.FinMap as finite
 use Rattle.std.proofs.lemmas.Bool.{cases_eq, both_ways}
 use Rattle.swp08_messages.specs.declared.point.Point.{Point}
 use Rattle.swp08_messages.specs.declared.message.Message.{Message}
-use Rattle.swp08_messages.specs.declared.message.Message.TheVariants.{Interrogate, Connect, ProtectConnect, ProtectDisconnect, ProtectTally, ProtectConnected, ProtectDisconnected, Store, Stored, Go}
+use Rattle.swp08_messages.specs.declared.message.Message.TheVariants.{Interrogate, Connect, Connected, ExtConnect, ExtTally, ExtConnected, ProtectConnect, ProtectDisconnect, ProtectTally, ProtectConnected, ProtectDisconnected, Store, Stored, Go}
 use Rattle.plant_config.specs.Plant.{PlantData}
 use Rattle.plant_config.specs.Sites.{dest_at}
 use Rattle.plant_config.specs.declared.records.Change.{Change}
@@ -16,7 +16,8 @@ use Rattle.history_lock.specs.Step.{Stepped}
 use Rattle.plant_core.specs.declared.request.Request.{Request}
 use Rattle.plant_core.specs.declared.request.Request.TheVariants.{Told, Poll, Leave, DisplayPoll}
 use Rattle.plant_core.specs.declared.answer.Answer.{Answer}
-use Rattle.plant_core.specs.State.{State, device_of, is_master, start}
+use Rattle.plant_core.specs.State.{State, device_of, is_master, start, standing}
+use Rattle.plant_core.specs.Wide.{tally_of}
 use Rattle.plant_core.specs.Connects.{says, says_nothing, change_of, connected}
 use Rattle.plant_core.specs.Protecting.{owner_told, with_owners, protected, unprotected}
 use Rattle.plant_core.specs.Salvos.{stored_in, gone}
@@ -30,10 +31,10 @@ use Rattle.plant_core.proofs.StepLeaves.{protected-leaves, unprotected-leaves, s
 
 -- the source of a destination that another device protects stays
 module _ (state : State) (panel dest device : ℕ) (owned : finite.get state.owners dest ≡ Some device) (other : device ≢ device_of state.plant panel) where
-  source-connect : (at : Point) (source : Option ℕ) (change : Option Change) → finite.get (connected state panel at source change).state.crosspoints dest ≡ finite.get state.crosspoints dest
-  source-connect at source None = refl
-  source-connect at source (Some change) =
-      by_made (λ (stepped : Stepped State Answer). finite.get stepped.state.crosspoints dest ≡ finite.get state.crosspoints dest) state panel at source change
+  source-connect : (made refused : Message) (change : Option Change) → finite.get (connected state panel made refused change).state.crosspoints dest ≡ finite.get state.crosspoints dest
+  source-connect made refused None = refl
+  source-connect made refused (Some change) =
+      by_made (λ (stepped : Stepped State Answer). finite.get stepped.state.crosspoints dest ≡ finite.get state.crosspoints dest) state panel made refused change
       (λ may.
       get-one_other state.plant state.crosspoints change dest (λ same. permitted-apart (change ∷ []) state.owners (device_of state.plant panel) dest device owned other (made-permitted state panel change may) 0 change (omega arith) (sym same))) refl
 
@@ -45,7 +46,8 @@ module _ (state : State) (panel dest device : ℕ) (owned : finite.get state.own
 
   source-told : (item : ℕ) (message : Message) → finite.get (step state (Told panel item message)).state.crosspoints dest ≡ finite.get state.crosspoints dest
   source-told item (Interrogate at) = refl
-  source-told item (Connect at source) = source-connect at source (change_of state.plant at source)
+  source-told item (Connect at source) = source-connect (Connected at source) (tally_of at (standing state at)) (change_of state.plant at source)
+  source-told item (ExtConnect at source) = source-connect (ExtConnected at source) (ExtTally at (standing state at)) (change_of state.plant at source)
   source-told item (ProtectConnect at named) = ap (λ x. finite.get x dest) (protected-leaves state panel at (dest_of state at)).crosspoints
   source-told item (ProtectDisconnect at named) = ap (λ x. finite.get x dest) (unprotected-leaves state panel at (dest_of state at)).crosspoints
   source-told item (Store at source salvo) = ap (λ x. finite.get x dest) (stored-leaves state at source salvo (change_of state.plant at source)).crosspoints
@@ -84,10 +86,10 @@ module _ (state : State) (panel dest device : ℕ) (owned : finite.get state.own
       ]
 
 -- connects, stores and goes leave the owners
-pub connected-owners : (state : State) (panel : ℕ) (at : Point) (source : Option ℕ) (change : Option Change) → (connected state panel at source change).state.owners ≡ state.owners
-connected-owners state panel at source None = refl
-connected-owners state panel at source (Some change) =
-    by_made (λ (stepped : Stepped State Answer). stepped.state.owners ≡ state.owners) state panel at source change (λ may. refl) refl
+pub connected-owners : (state : State) (panel : ℕ) (made refused : Message) (change : Option Change) → (connected state panel made refused change).state.owners ≡ state.owners
+connected-owners state panel made refused None = refl
+connected-owners state panel made refused (Some change) =
+    by_made (λ (stepped : Stepped State Answer). stepped.state.owners ≡ state.owners) state panel made refused change (λ may. refl) refl
 
 stored-owners : (state : State) (at : Point) (source : Option ℕ) (salvo : ℕ) (change : Option Change) → (stored_in state at source salvo change).state.owners ≡ state.owners
 stored-owners state at source salvo None = refl
@@ -111,7 +113,8 @@ sources-stay state (DisplayPoll screen refresh) dest device owned other = ap (λ
 pub owners-stay : (state : State) (request : Request) (dest device : ℕ) → finite.get state.owners dest ≡ Some device → IsOfOtherDevice state request device → IsOfNoMaster state request →
     finite.get (step state request).state.owners dest ≡ Some device
 owners-stay state (Told panel item (Interrogate at)) dest device owned other mere = owned
-owners-stay state (Told panel item (Connect at source)) dest device owned other mere = ap (λ o. finite.get o dest) (connected-owners state panel at source (change_of state.plant at source)) ∙ owned
+owners-stay state (Told panel item (Connect at source)) dest device owned other mere = ap (λ o. finite.get o dest) (connected-owners state panel (Connected at source) (tally_of at (standing state at)) (change_of state.plant at source)) ∙ owned
+owners-stay state (Told panel item (ExtConnect at source)) dest device owned other mere = ap (λ o. finite.get o dest) (connected-owners state panel (ExtConnected at source) (ExtTally at (standing state at)) (change_of state.plant at source)) ∙ owned
 owners-stay state (Told panel item (ProtectConnect at named)) dest device owned other mere = owner-protect state panel dest device owned other at (dest_of state at)
 owners-stay state (Told panel item (ProtectDisconnect at named)) dest device owned other mere = owner-lift state panel dest device owned other mere at (dest_of state at)
 owners-stay state (Told panel item (Store at source salvo)) dest device owned other mere = ap (λ o. finite.get o dest) (stored-owners state at source salvo (change_of state.plant at source)) ∙ owned

@@ -5,7 +5,7 @@ use Rattle.std.specs.Option.{option_eq}
 use Rattle.std.specs.FinMap as finite
 use Rattle.swp08_messages.specs.declared.point.Point.{Point}
 use Rattle.swp08_messages.specs.declared.message.Message.{Message}
-use Rattle.swp08_messages.specs.declared.message.Message.TheVariants.{Interrogate, Connect, ProtectConnect, ProtectDisconnect, ProtectTally, ProtectConnected, ProtectDisconnected, Store, Stored, Go}
+use Rattle.swp08_messages.specs.declared.message.Message.TheVariants.{Interrogate, Connect, Connected, ExtConnect, ExtTally, ExtConnected, ProtectConnect, ProtectDisconnect, ProtectTally, ProtectConnected, ProtectDisconnected, Store, Stored, Go}
 use Rattle.plant_config.specs.declared.records.Change.{Change}
 use Rattle.crosspoint_state.specs.Crosspoints.{source_of, is_idle}
 use Rattle.crosspoint_state.specs.Applied.{applied}
@@ -15,7 +15,8 @@ use Rattle.change_boards.specs.declared.sort.Sort.TheVariants.{Source, Protect}
 use Rattle.history_lock.specs.Step.{Stepped}
 use Rattle.plant_core.specs.declared.request.Request.TheVariants.{Told}
 use Rattle.plant_core.specs.declared.answer.Answer.{Answer}
-use Rattle.plant_core.specs.State.{State, IsValid, device_of, is_master}
+use Rattle.plant_core.specs.State.{State, IsValid, device_of, is_master, standing}
+use Rattle.plant_core.specs.Wide.{tally_of}
 use Rattle.plant_core.specs.Noticed.{marked_for_others, all_marked}
 use Rattle.plant_core.specs.Connects.{says, says_nothing, change_of, connected}
 use Rattle.plant_core.specs.Protecting.{owner_told, has_same_owner, with_owners, protected, unprotected}
@@ -27,11 +28,11 @@ use Rattle.plant_core.proofs.Outcomes.{by_made, by_gone}
 use Rattle.plant_core.proofs.Changes.{source_same, source_of-one, source-idle, is_moved}
 use Rattle.plant_core.proofs.Noticed.{is_among}
 
-connect-quiet : (state : State) (panel : ℕ) (at : Point) (source : Option ℕ) (change : Option Change) → CarryAsBefore state (connected state panel at source change).state →
-    (connected state panel at source change).state.boards ≡ state.boards
-connect-quiet state panel at source None same = refl
-connect-quiet state panel at source (Some change) same =
-    by_made (λ (stepped : Stepped State Answer). CarryAsBefore state stepped.state → stepped.state.boards ≡ state.boards) state panel at source change
+connect-quiet : (state : State) (panel : ℕ) (made refused : Message) (change : Option Change) → CarryAsBefore state (connected state panel made refused change).state →
+    (connected state panel made refused change).state.boards ≡ state.boards
+connect-quiet state panel made refused None same = refl
+connect-quiet state panel made refused (Some change) same =
+    by_made (λ (stepped : Stepped State Answer). CarryAsBefore state stepped.state → stepped.state.boards ≡ state.boards) state panel made refused change
     (λ may same. by_idle (is_idle state.crosspoints change) refl (same change.dest)) (λ same. refl) same
   where
     by_idle : (b : Bool) → is_idle state.crosspoints change ≡ b → source_of (applied state.plant state.crosspoints (change ∷ [])) change.dest ≡ source_of state.crosspoints change.dest → cond b state.boards (marked_for_others state.boards panel change.dest Source) ≡ state.boards
@@ -89,7 +90,8 @@ gone-quiet state panel clear salvo valid same =
 pub told-quiet : (state : State) (panel item : ℕ) (message : Message) → IsValid state → CarryAsBefore state (step state (Told panel item message)).state → OwnedAsBefore state (step state (Told panel item message)).state →
     (step state (Told panel item message)).state.boards ≡ state.boards
 told-quiet state panel item (Interrogate at) valid sources owners = refl
-told-quiet state panel item (Connect at source) valid sources owners = connect-quiet state panel at source (change_of state.plant at source) sources
+told-quiet state panel item (Connect at source) valid sources owners = connect-quiet state panel (Connected at source) (tally_of at (standing state at)) (change_of state.plant at source) sources
+told-quiet state panel item (ExtConnect at source) valid sources owners = connect-quiet state panel (ExtConnected at source) (ExtTally at (standing state at)) (change_of state.plant at source) sources
 told-quiet state panel item (ProtectConnect at device) valid sources owners = protect-quiet state panel at (dest_of state at) owners
 told-quiet state panel item (ProtectDisconnect at device) valid sources owners = lift-quiet state panel at (dest_of state at) owners
 told-quiet state panel item (Store at source salvo) valid sources owners = store-quiet state at source salvo (change_of state.plant at source)

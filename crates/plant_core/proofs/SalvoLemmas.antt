@@ -14,14 +14,14 @@ use Rattle.plant_config.specs.Sites.{dest_at}
 use Rattle.plant_config.specs.declared.records.Point as places
 use Rattle.plant_config.specs.declared.records.Change.{Change}
 use Rattle.plant_config.proofs.SiteLemmas.{dest_at-point_of}
-use Rattle.crosspoint_state.specs.Applied.{are_enough}
+use Rattle.tie_pools.specs.Reserve.{are_enough_for}
 use Rattle.salvo_groups.specs.Limits.{salvo_limit}
 use Rattle.salvo_groups.specs.Groups.{Group, group_of, may_store, stored, with_store, with_clear}
 use Rattle.history_lock.specs.Step.{Stepped}
 use Rattle.plant_core.specs.declared.request.Request.TheVariants.{Told}
 use Rattle.plant_core.specs.declared.answer.Answer.{Answer}
 use Rattle.plant_core.specs.declared.answer.Answer.TheVariants.{Say}
-use Rattle.plant_core.specs.State.{State, IsValid, device_of}
+use Rattle.plant_core.specs.State.{State, IsValid, device_of, is_master}
 use Rattle.plant_core.specs.Connects.{says, says_nothing, change_of, are_permitted}
 use Rattle.plant_core.specs.Salvos.{stored_in, emptied, all_changed, gone, message_place, no_place, told_place, validity_at, entry_told}
 use Rattle.plant_core.specs.Step.{step}
@@ -64,7 +64,7 @@ go-whole state panel item salvo clear valid =
     state panel clear salvo (λ may. inl (changed-whole state salvo valid)) (λ cleared. inr refl) (λ status. inr refl)
 
 pub go-IsGone : (state : State) (panel item salvo : ℕ) → IsValid state → salvo < salvo_limit → group_of state.groups salvo ≢ [] → ¬ HasForeign state (device_of state.plant panel) (group_of state.groups salvo) →
-    HasTies state (group_of state.groups salvo) → IsGone state salvo (step state (Told panel item (Go false salvo)))
+    HasTies state panel (group_of state.groups salvo) → IsGone state salvo (step state (Told panel item (Go false salvo)))
 go-IsGone state panel item salvo valid within some free enough =
     let group : Group = group_of state.groups salvo in
     let permitted = not_foreign state panel group free in
@@ -79,11 +79,11 @@ go-IsGone state panel item salvo valid within some free enough =
     })
 
 pub go-tieless : (state : State) (panel item salvo : ℕ) → group_of state.groups salvo ≢ [] → ¬ HasForeign state (device_of state.plant panel) (group_of state.groups salvo) →
-    ¬ HasTies state (group_of state.groups salvo) → step state (Told panel item (Go false salvo)) ≡ record { state = state; answers = Say (GoDone NoTie salvo) ∷ [] }
+    ¬ HasTies state panel (group_of state.groups salvo) → step state (Told panel item (Go false salvo)) ≡ record { state = state; answers = Say (GoDone NoTie salvo) ∷ [] }
 go-tieless state panel item salvo some free missing =
     let group : Group = group_of state.groups salvo in
     let permitted = not_foreign state panel group free in
-    let short = false_from_ne_true (are_enough state.plant state.crosspoints group) missing in
+    let short = false_from_ne_true (are_enough_for state.plant state.crosspoints (is_master state.plant panel) group) missing in
     λ i. gone_by state salvo (filled group some i) false (not (permitted i)) (not (short i))
 
 pub go-kept : (state : State) (panel item salvo : ℕ) → HasForeign state (device_of state.plant panel) (group_of state.groups salvo) →
@@ -91,7 +91,7 @@ pub go-kept : (state : State) (panel item salvo : ℕ) → HasForeign state (dev
 go-kept state panel item salvo foreign =
     let group : Group = group_of state.groups salvo in
     let kept = kept-permitted group state.owners (device_of state.plant panel) foreign in
-    λ i. gone_by state salvo (filled group (some group foreign) i) false (not (kept i)) (not (are_enough state.plant state.crosspoints group))
+    λ i. gone_by state salvo (filled group (some group foreign) i) false (not (kept i)) (not (are_enough_for state.plant state.crosspoints (is_master state.plant panel) group))
   where
     some : (group : Group) → HasForeign state (device_of state.plant panel) group → group ≢ []
     some [] kept e = absurd (omega (arith, kept.2))
@@ -101,7 +101,7 @@ pub go-IsCleared : (state : State) (panel item salvo : ℕ) → IsValid state �
 go-IsCleared state panel item salvo valid within some =
     let group : Group = group_of state.groups salvo in
     let cleared : gone state panel true salvo ≡ says (emptied state salvo) (GoDone Cleared salvo) =
-    λ i. gone_by state salvo (filled group some i) true (not (are_permitted state.owners (device_of state.plant panel) group)) (not (are_enough state.plant state.crosspoints group)) in
+    λ i. gone_by state salvo (filled group some i) true (not (are_permitted state.owners (device_of state.plant panel) group)) (not (are_enough_for state.plant state.crosspoints (is_master state.plant panel) group)) in
     subst (IsCleared state salvo) (sym cleared) (record {
       answer = refl;
       empty = emptied-empty state salvo valid within;
@@ -113,7 +113,7 @@ pub go-empty : (state : State) (panel item salvo : ℕ) (clear : Bool) → group
     step state (Told panel item (Go clear salvo)) ≡ record { state = state; answers = Say (GoDone Empty salvo) ∷ [] }
 go-empty state panel item salvo clear none =
     let group : Group = group_of state.groups salvo in
-    λ i. gone_by state salvo (length (none i) == 0) clear (not (are_permitted state.owners (device_of state.plant panel) group)) (not (are_enough state.plant state.crosspoints group))
+    λ i. gone_by state salvo (length (none i) == 0) clear (not (are_permitted state.owners (device_of state.plant panel) group)) (not (are_enough_for state.plant state.crosspoints (is_master state.plant panel) group))
 
 -- stores
 stored-by : (state : State) (at : Point) (source : Option ℕ) (salvo : ℕ) (change : Change) (b : Bool) → change_of state.plant at source ≡ Some change → may_store (group_of state.groups salvo) change ≡ b →

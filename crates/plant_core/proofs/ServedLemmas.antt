@@ -3,9 +3,9 @@ use Rattle.std.proofs.Common.{◌≡◌, ℕ, ◌==◌, Bool, true, false, not, 
 use Rattle.std.specs.FinMap as finite
 use Rattle.swp08_messages.specs.declared.point.Point.{Point}
 use Rattle.swp08_messages.specs.declared.message.Message.{Message}
-use Rattle.swp08_messages.specs.declared.message.Message.TheVariants.{Interrogate, Connect, Tally, Connected, ProtectConnect, ProtectDisconnect, ProtectTally, ProtectConnected, ProtectDisconnected, Store, Stored, Go}
+use Rattle.swp08_messages.specs.declared.message.Message.TheVariants.{Interrogate, Connect, ExtConnect, ExtTally, ExtConnected, ExtInterrogate, Tally, Connected, ProtectConnect, ProtectDisconnect, ProtectTally, ProtectConnected, ProtectDisconnected, Store, Stored, Go}
 use Rattle.plant_config.specs.declared.records.Change.{Change}
-use Rattle.crosspoint_state.specs.Applied.{are_enough}
+use Rattle.tie_pools.specs.Reserve.{are_enough_for}
 use Rattle.protects.specs.Owners.{allows, may_lift, taken, lifted}
 use Rattle.salvo_groups.specs.Groups.{Group, group_of, may_store, with_store}
 use Rattle.change_boards.specs.Board.{Board}
@@ -13,6 +13,7 @@ use Rattle.history_lock.specs.Step.{Stepped}
 use Rattle.plant_core.specs.declared.request.Request.TheVariants.{Told}
 use Rattle.plant_core.specs.declared.answer.Answer.{Answer}
 use Rattle.plant_core.specs.State.{State, standing, device_of, is_master}
+use Rattle.plant_core.specs.Wide.{tally_of}
 use Rattle.plant_core.specs.Connects.{says, says_nothing, change_of, are_permitted, changed, may_make, connected}
 use Rattle.plant_core.specs.Protecting.{owner_told, with_owners, protected, unprotected}
 use Rattle.plant_core.specs.Salvos.{stored_in}
@@ -30,10 +31,10 @@ module _ (state : State) (boards : List Board) where
   abbrev there : State
   there = record state { boards = boards }
 
-  connect_alike : (panel : ℕ) (at : Point) (source : Option ℕ) (change : Option Change) → AreAlike (connected there panel at source change) (connected state panel at source change)
-  connect_alike panel at source None = record { answers = refl; crosspoints = refl; owners = refl; groups = refl }
-  connect_alike panel at source (Some change) =
-      elim (may_make state panel change) as (λ b. AreAlike (cond b (says (changed there panel change) (Connected at source)) (says there (Tally at (standing there at)))) (cond b (says (changed state panel change) (Connected at source)) (says state (Tally at (standing state at))))) [
+  connect_alike : (panel : ℕ) (made refused : Message) (change : Option Change) → AreAlike (connected there panel made refused change) (connected state panel made refused change)
+  connect_alike panel made refused None = record { answers = refl; crosspoints = refl; owners = refl; groups = refl }
+  connect_alike panel made refused (Some change) =
+      elim (may_make state panel change) as (λ b. AreAlike (cond b (says (changed there panel change) made) (says there refused)) (cond b (says (changed state panel change) made) (says state refused))) [
         | true ↦ record { answers = refl; crosspoints = refl; owners = refl; groups = refl }
         | false ↦ record { answers = refl; crosspoints = refl; owners = refl; groups = refl }
       ]
@@ -74,11 +75,13 @@ module _ (state : State) (boards : List Board) where
 
   pub told_alike : (panel item : ℕ) (message : Message) → AreAlike (step there (Told panel item message)) (step state (Told panel item message))
   told_alike panel item (Interrogate at) = record { answers = refl; crosspoints = refl; owners = refl; groups = refl }
-  told_alike panel item (Connect at source) = connect_alike panel at source (change_of state.plant at source)
+  told_alike panel item (ExtInterrogate at) = record { answers = refl; crosspoints = refl; owners = refl; groups = refl }
+  told_alike panel item (Connect at source) = connect_alike panel (Connected at source) (tally_of at (standing state at)) (change_of state.plant at source)
+  told_alike panel item (ExtConnect at source) = connect_alike panel (ExtConnected at source) (ExtTally at (standing state at)) (change_of state.plant at source)
   told_alike panel item (ProtectConnect at device) = protect_alike panel at (dest_of state at)
   told_alike panel item (ProtectDisconnect at device) = lift_alike panel at (dest_of state at)
   told_alike panel item (Store at source salvo) = store_alike at source salvo (change_of state.plant at source)
   told_alike panel item (Go clear salvo) =
       let group : Group = group_of state.groups salvo in
-      go_alike salvo (length group == 0) clear (not (are_permitted state.owners (device_of state.plant panel) group)) (not (are_enough state.plant state.crosspoints group))
+      go_alike salvo (length group == 0) clear (not (are_permitted state.owners (device_of state.plant panel) group)) (not (are_enough_for state.plant state.crosspoints (is_master state.plant panel) group))
   told_alike panel item message = record { answers = refl; crosspoints = refl; owners = refl; groups = refl }

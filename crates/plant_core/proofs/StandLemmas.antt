@@ -4,7 +4,7 @@ use Rattle.std.proofs.lemmas.Bool.{cases_eq}
 use Rattle.std.specs.FinMap as finite
 use Rattle.swp08_messages.specs.declared.point.Point.{Point}
 use Rattle.swp08_messages.specs.declared.message.Message.{Message}
-use Rattle.swp08_messages.specs.declared.message.Message.TheVariants.{Interrogate, Connect, ProtectConnect, ProtectDisconnect, ProtectTally, ProtectConnected, ProtectDisconnected, Store, Go}
+use Rattle.swp08_messages.specs.declared.message.Message.TheVariants.{Interrogate, Connect, Connected, ExtConnect, ExtTally, ExtConnected, ProtectConnect, ProtectDisconnect, ProtectTally, ProtectConnected, ProtectDisconnected, Store, Go}
 use Rattle.plant_config.specs.declared.records.Change.{Change}
 use Rattle.crosspoint_state.specs.Crosspoints.{is_idle}
 use Rattle.protects.specs.Owners.{allows, may_lift, taken, lifted}
@@ -18,7 +18,8 @@ use Rattle.history_lock.specs.Step.{Stepped}
 use Rattle.plant_core.specs.declared.request.Request.{Request}
 use Rattle.plant_core.specs.declared.request.Request.TheVariants.{Told, Poll, Leave, DisplayPoll}
 use Rattle.plant_core.specs.declared.answer.Answer.{Answer}
-use Rattle.plant_core.specs.State.{State, IsValid, device_of, is_master}
+use Rattle.plant_core.specs.State.{State, IsValid, device_of, is_master, standing}
+use Rattle.plant_core.specs.Wide.{tally_of}
 use Rattle.plant_core.specs.Noticed.{marked_for_others}
 use Rattle.plant_core.specs.Connects.{says, change_of, connected}
 use Rattle.plant_core.specs.Protecting.{owner_told, has_same_owner, with_owners, protected, unprotected}
@@ -35,10 +36,10 @@ use Rattle.plant_core.proofs.QuietLemmas.{store-quiet}
 
 -- a notice stands behind each request that isn't a poll or a leave of its panel
 module _ (state : State) (panel dest : ℕ) (sort : Sort) (stands : has state.boards panel dest sort ≡ true) where
-  connect_keeps : (p : ℕ) (at : Point) (source : Option ℕ) (change : Option Change) → has (connected state p at source change).state.boards panel dest sort ≡ true
-  connect_keeps p at source None = stands
-  connect_keeps p at source (Some change) =
-      by_made (λ (stepped : Stepped State Answer). has stepped.state.boards panel dest sort ≡ true) state p at source change
+  connect_keeps : (p : ℕ) (made refused : Message) (change : Option Change) → has (connected state p made refused change).state.boards panel dest sort ≡ true
+  connect_keeps p made refused None = stands
+  connect_keeps p made refused (Some change) =
+      by_made (λ (stepped : Stepped State Answer). has stepped.state.boards panel dest sort ≡ true) state p made refused change
       (λ may.
       elim (is_idle state.crosspoints change) as (λ b. has (cond b state.boards (marked_for_others state.boards p change.dest Source)) panel dest sort ≡ true) [
         | true ↦ stands
@@ -75,7 +76,8 @@ module _ (state : State) (panel dest : ℕ) (sort : Sort) (stands : has state.bo
 
   told_keeps : (p item : ℕ) (message : Message) → has (step state (Told p item message)).state.boards panel dest sort ≡ true
   told_keeps p item (Interrogate at) = stands
-  told_keeps p item (Connect at source) = connect_keeps p at source (change_of state.plant at source)
+  told_keeps p item (Connect at source) = connect_keeps p (Connected at source) (tally_of at (standing state at)) (change_of state.plant at source)
+  told_keeps p item (ExtConnect at source) = connect_keeps p (ExtConnected at source) (ExtTally at (standing state at)) (change_of state.plant at source)
   told_keeps p item (ProtectConnect at device) = protect_keeps p at (dest_of state at)
   told_keeps p item (ProtectDisconnect at device) = lift_keeps p at (dest_of state at)
   told_keeps p item (Store at source salvo) = ap (λ (b : List Board). has b panel dest sort) (store-quiet state at source salvo (change_of state.plant at source)) ∙ stands

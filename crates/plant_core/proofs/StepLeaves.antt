@@ -1,12 +1,12 @@
 -- What steps leave as it was.
-use Rattle.std.proofs.Common.{◌≡◌, ◌≢◌, ℕ, Bool, true, false, cond, List, [], ◌∷◌, All, Option, Some, None, IsNone, suc, refl, sym, ap, subst, ◌∙◌, arith}
+use Rattle.std.proofs.Common.{◌≡◌, ◌≢◌, ℕ, Bool, true, false, cond, List, [], ◌∷◌, All, Option, Some, None, IsNone, suc, refl, sym, ap, ◌∙◌, arith}
 use Rattle.std.proofs.lemmas.Bool.{true≢false}
 use Rattle.std.specs.Option.{option_map, option_and_then}
 use Rattle.std.specs.FinMap as finite
 use Rattle.std.specs.Ordering.{nat_cmp}
 use Rattle.swp08_messages.specs.declared.point.Point.{Point}
 use Rattle.swp08_messages.specs.declared.message.Message.{Message}
-use Rattle.swp08_messages.specs.declared.message.Message.TheVariants.{Interrogate, Connect, ProtectAsk, ProtectConnect, ProtectDisconnect, ProtectTally, ProtectConnected, ProtectDisconnected, DumpAsk, Store, Stored, Go, EntryAsk}
+use Rattle.swp08_messages.specs.declared.message.Message.TheVariants.{Interrogate, Connect, Connected, ExtConnect, ExtTally, ExtConnected, ExtInterrogate, ProtectAsk, ProtectConnect, ProtectDisconnect, ProtectTally, ProtectConnected, ProtectDisconnected, DumpAsk, Store, Stored, Go, EntryAsk}
 use Rattle.plant_config.specs.declared.records.Change.{Change}
 use Rattle.plant_config.specs.Plant.{PlantData}
 use Rattle.plant_config.specs.Sites.{dest_at, source_number_of}
@@ -19,6 +19,7 @@ use Rattle.plant_core.specs.declared.request.Request.{Request}
 use Rattle.plant_core.specs.declared.request.Request.TheVariants.{Told, Poll, Leave, DisplayPoll}
 use Rattle.plant_core.specs.declared.answer.Answer.{Answer}
 use Rattle.plant_core.specs.State.{State, IsValid, standing, device_of, is_master, start}
+use Rattle.plant_core.specs.Wide.{tally_of, asks_change}
 use Rattle.plant_core.specs.Connects.{says, says_nothing, change_of, connected}
 use Rattle.plant_core.specs.Protecting.{owner_told, with_owners, protected, unprotected}
 use Rattle.plant_core.specs.Salvos.{stored_in, gone}
@@ -30,10 +31,10 @@ use Rattle.plant_core.proofs.Outcomes.{by_made, by_gone}
 use Rattle.plant_core.proofs.Steps.{made, stands-answers, answers-stands}
 
 -- no step changes the plant
-connected-plant : (state : State) (panel : ℕ) (at : Point) (source : Option ℕ) (change : Option Change) → (connected state panel at source change).state.plant ≡ state.plant
-connected-plant state panel at source None = refl
-connected-plant state panel at source (Some change) =
-    by_made (λ (stepped : Stepped State Answer). stepped.state.plant ≡ state.plant) state panel at source change (λ may. refl) refl
+connected-plant : (state : State) (panel : ℕ) (made refused : Message) (change : Option Change) → (connected state panel made refused change).state.plant ≡ state.plant
+connected-plant state panel made refused None = refl
+connected-plant state panel made refused (Some change) =
+    by_made (λ (stepped : Stepped State Answer). stepped.state.plant ≡ state.plant) state panel made refused change (λ may. refl) refl
 
 -- what protects, lifts, stores and clears leave of the plant and its crosspoints
 pub record LeavesSources (old new : State) : Type 0 where
@@ -80,10 +81,11 @@ gone-plant state panel clear salvo =
     by_gone (λ (stepped : Stepped State Answer). stepped.state.plant ≡ state.plant) state panel clear salvo (λ may. refl) (λ cleared. refl) (λ status. refl)
 
 -- whatever is no connect and no go that takes a group leaves the sources
-pub message-leaves : (state : State) (panel item : ℕ) (message : Message) → ((at : Point) (source : Option ℕ) → message ≢ Connect at source) → ((salvo : ℕ) → message ≢ Go false salvo) →
+pub message-leaves : (state : State) (panel item : ℕ) (message : Message) → ((extended : Bool) (at : Point) (source : Option ℕ) → message ≢ asks_change extended at source) → ((salvo : ℕ) → message ≢ Go false salvo) →
     LeavesSources state (step state (Told panel item message)).state
 message-leaves state panel item (Interrogate at) no_connect no_go = leaves_all state
-message-leaves state panel item (Connect at source) no_connect no_go = absurd (no_connect at source refl)
+message-leaves state panel item (Connect at source) no_connect no_go = absurd (no_connect false at source refl)
+message-leaves state panel item (ExtConnect at source) no_connect no_go = absurd (no_connect true at source refl)
 message-leaves state panel item (ProtectConnect at device) no_connect no_go = protected-leaves state panel at (dest_of state at)
 message-leaves state panel item (ProtectDisconnect at device) no_connect no_go = unprotected-leaves state panel at (dest_of state at)
 message-leaves state panel item (Store at source salvo) no_connect no_go = stored-leaves state at source salvo (change_of state.plant at source)
@@ -93,7 +95,8 @@ message-leaves state panel item message no_connect no_go = leaves_all state
 
 pub plant-step : (state : State) (request : Request) → (step state request).state.plant ≡ state.plant
 plant-step state (Told panel item (Interrogate at)) = refl
-plant-step state (Told panel item (Connect at source)) = connected-plant state panel at source (change_of state.plant at source)
+plant-step state (Told panel item (Connect at source)) = connected-plant state panel (Connected at source) (tally_of at (standing state at)) (change_of state.plant at source)
+plant-step state (Told panel item (ExtConnect at source)) = connected-plant state panel (ExtConnected at source) (ExtTally at (standing state at)) (change_of state.plant at source)
 plant-step state (Told panel item (ProtectConnect at device)) = (protected-leaves state panel at (dest_of state at)).plant
 plant-step state (Told panel item (ProtectDisconnect at device)) = (unprotected-leaves state panel at (dest_of state at)).plant
 plant-step state (Told panel item (Store at source salvo)) = (stored-leaves state at source salvo (change_of state.plant at source)).plant
@@ -115,19 +118,22 @@ left_alone : (old new : State) (place : Point) (stands : Option ℕ) → LeavesS
 left_alone old new place stands leaves answers = stands-answers new place stands (standing-left old new place leaves ∙ answers-stands old place stands answers)
 
 -- what doesn't connect a place, and takes no group, leaves the source that stands there
-keeps-connect : (state : State) (panel item : ℕ) (place at : Point) (source stands : Option ℕ) → IsValid state → place ≢ at → AnswersWith state place stands → AnswersWith (step state (Told panel item (Connect at source))).state place stands
-keeps-connect state panel item place at source stands valid other answers =
-    elim (change_of state.plant at source) as (λ o. change_of state.plant at source ≡ o → AnswersWith (connected state panel at source o).state place stands) [
+keeps-connect : (state : State) (panel : ℕ) (place at : Point) (source stands : Option ℕ) (told refused : Message) → IsValid state → place ≢ at → AnswersWith state place stands →
+    AnswersWith (connected state panel told refused (change_of state.plant at source)).state place stands
+keeps-connect state panel place at source stands told refused valid other answers =
+    elim (change_of state.plant at source) as (λ o. change_of state.plant at source ≡ o → AnswersWith (connected state panel told refused o).state place stands) [
       | None ↦ λ h. answers
       | Some change ↦ λ h.
-          by_made (λ (stepped : Stepped State Answer). AnswersWith stepped.state place stands) state panel at source change
-          (λ may. (made state panel item at source change valid h).others place stands other answers) answers
+          by_made (λ (stepped : Stepped State Answer). AnswersWith stepped.state place stands) state panel told refused change
+          (λ may. (made state panel at source told change valid h).others place stands other answers) answers
     ] refl
 
 keeps-told : (state : State) (place : Point) (panel item : ℕ) (message : Message) (stands : Option ℕ) → IsValid state → LeavesAlone place (Told panel item message) → AnswersWith state place stands →
     AnswersWith (step state (Told panel item message)).state place stands
 keeps-told state place panel item (Connect at source) stands valid alone answers =
-    keeps-connect state panel item place at source stands valid (λ same. alone.0 panel item source (ap (λ (at : Point). Told panel item (Connect at source)) (sym same))) answers
+    keeps-connect state panel place at source stands (Connected at source) (tally_of at (standing state at)) valid (λ same. alone.0 panel item false source (ap (λ (at : Point). Told panel item (Connect at source)) (sym same))) answers
+keeps-told state place panel item (ExtConnect at source) stands valid alone answers =
+    keeps-connect state panel place at source stands (ExtConnected at source) (ExtTally at (standing state at)) valid (λ same. alone.0 panel item true source (ap (λ (at : Point). Told panel item (ExtConnect at source)) (sym same))) answers
 keeps-told state place panel item (Interrogate at) stands valid alone answers = answers
 keeps-told state place panel item (ProtectConnect at device) stands valid alone answers = left_alone state _ place stands (protected-leaves state panel at (dest_of state at)) answers
 keeps-told state place panel item (ProtectDisconnect at device) stands valid alone answers = left_alone state _ place stands (unprotected-leaves state panel at (dest_of state at)) answers
@@ -138,10 +144,11 @@ keeps-told state place panel item message stands valid alone answers = answers
 
 keeps : (state : State) (place : Point) (request : Request) (stands : Option ℕ) → IsValid state → LeavesAlone place request → AnswersWith state place stands → AnswersWith (step state request).state place stands
 keeps state place (Told panel item message) stands valid alone answers = keeps-told state place panel item message stands valid alone answers
-keeps state place (Poll panel item turn) stands valid alone answers = answers
-keeps state place (Leave panel) stands valid alone answers = answers
+keeps state place (Poll panel item turn) stands valid alone answers = left_alone state _ place stands (record { plant = refl; crosspoints = refl }) answers
+keeps state place (Leave panel) stands valid alone answers = left_alone state _ place stands (record { plant = refl; crosspoints = refl }) answers
 keeps state place (DisplayPoll screen refresh) stands valid alone answers =
-    subst (λ state. AnswersWith state place stands) (sym (display_polled-is state screen refresh)) answers
+    let polled = display_polled-is state screen refresh in
+    left_alone state _ place stands (record { plant = ap (λ (state : State). state.plant) polled; crosspoints = ap (λ (state : State). state.crosspoints) polled }) answers
 
 pub keep : (state : State) (place : Point) (later : List Request) (stands : Option ℕ) → IsValid state → All (LeavesAlone place) later → AnswersWith state place stands → AnswersWith (after state later) place stands
 keep state place [] stands valid alone answers = answers
@@ -166,6 +173,7 @@ outside-parked state at none = stands-answers state at None (
 -- a message that only asks changes nothing
 pub question-same : (state : State) (panel item : ℕ) (message : Message) → OnlyAsks message → (step state (Told panel item message)).state ≡ state
 question-same state panel item (Interrogate at) asks = refl
+question-same state panel item (ExtInterrogate at) asks = refl
 question-same state panel item (ProtectAsk at) asks = refl
 question-same state panel item (DumpAsk matrix level) asks = refl
 question-same state panel item (EntryAsk salvo index) asks = refl

@@ -6,7 +6,8 @@ use Rattle.std.proofs.lemmas.Bool.{cases_lt}
 use Rattle.std.proofs.lemmas.Option.{slice_get_past, slice_get-get_or}
 use Rattle.std.proofs.lemmas.List.Elements.{All-nil, All-push}
 use Rattle.swp08_messages.specs.declared.point.Point.{Point}
-use Rattle.swp08_messages.specs.declared.message.Message.TheVariants.{Interrogate, Connect, ProtectConnect, ProtectDisconnect, ProtectTally, ProtectConnected, ProtectDisconnected, Store, Stored, Go}
+use Rattle.swp08_messages.specs.declared.message.Message.{Message}
+use Rattle.swp08_messages.specs.declared.message.Message.TheVariants.{Interrogate, Connect, Connected, ExtConnect, ExtTally, ExtConnected, ProtectConnect, ProtectDisconnect, ProtectTally, ProtectConnected, ProtectDisconnected, Store, Stored, Go}
 use Rattle.plant_config.specs.declared.records.Change.{Change}
 use Rattle.plant_config.specs.Plant.{destinations_of}
 use Rattle.crosspoint_state.specs.Crosspoints.{is_idle, NamesOnce}
@@ -19,7 +20,8 @@ use Rattle.history_lock.specs.Step.{Stepped}
 use Rattle.plant_core.specs.declared.request.Request.{Request}
 use Rattle.plant_core.specs.declared.request.Request.TheVariants.{Told, Poll, Leave, DisplayPoll}
 use Rattle.plant_core.specs.declared.answer.Answer.{Answer}
-use Rattle.plant_core.specs.State.{State, IsValid, IsChangeOf, AreOwners, device_of, is_master}
+use Rattle.plant_core.specs.State.{State, IsValid, IsChangeOf, AreOwners, device_of, is_master, standing}
+use Rattle.plant_core.specs.Wide.{tally_of}
 use Rattle.plant_core.specs.Noticed.{marked_for_others}
 use Rattle.plant_core.specs.Connects.{says, says_nothing, change_of, changed, connected}
 use Rattle.plant_core.specs.Protecting.{owner_told, has_same_owner, with_owners, protected, unprotected}
@@ -30,7 +32,7 @@ use Rattle.plant_core.proofs.GroupValidity.{IsValid-store, IsValid-clear}
 use Rattle.plant_core.proofs.Changes.{applied-idle, once-one, moved-within}
 use Rattle.plant_core.proofs.Shows.{shown_behind, display_polled-is}
 use Rattle.plant_core.proofs.ShownValidity.{shown_behind-are}
-use Rattle.plant_core.proofs.Outcomes.{by_made, by_gone, made-enough}
+use Rattle.plant_core.proofs.Outcomes.{by_made, by_gone, made-tied, take-tied}
 
 -- a panel's connect leaves a valid state
 pub IsValid-one : (state : State) (change : Change) → IsValid state → IsChangeOf state.plant change → are_enough state.plant state.crosspoints (change ∷ []) ≡ true →
@@ -47,13 +49,13 @@ IsValid-changed state asker change valid is enough =
       | false ↦ IsValid-others made asker change.dest Source is.dest made_is
     ]
 
-IsValid-connected : (state : State) (panel : ℕ) (at : Point) (source : Option ℕ) → IsValid state → IsValid (connected state panel at source (change_of state.plant at source)).state
-IsValid-connected state panel at source valid =
-    elim (change_of state.plant at source) as (λ o. change_of state.plant at source ≡ o → IsValid (connected state panel at source o).state) [
+IsValid-connected : (state : State) (panel : ℕ) (at : Point) (source : Option ℕ) (made refused : Message) → IsValid state → IsValid (connected state panel made refused (change_of state.plant at source)).state
+IsValid-connected state panel at source made refused valid =
+    elim (change_of state.plant at source) as (λ o. change_of state.plant at source ≡ o → IsValid (connected state panel made refused o).state) [
       | None ↦ λ h. valid
       | Some change ↦ λ h.
-          by_made (λ (stepped : Stepped State Answer). IsValid stepped.state) state panel at source change
-          (λ may. IsValid-changed state panel change valid (change_of-IsChangeOf state.plant at source change valid.is_plant h) (made-enough state panel change may)) valid
+          by_made (λ (stepped : Stepped State Answer). IsValid stepped.state) state panel made refused change
+          (λ may. IsValid-changed state panel change valid (change_of-IsChangeOf state.plant at source change valid.is_plant h) (made-tied state panel change may)) valid
     ] refl
 
 -- so does a protect, and a lift
@@ -123,12 +125,13 @@ IsValid-taken_whole state salvo valid enough =
 IsValid-gone : (state : State) (panel : ℕ) (clear : Bool) (salvo : ℕ) → IsValid state → IsValid (gone state panel clear salvo).state
 IsValid-gone state panel clear salvo valid =
     by_gone (λ (stepped : Stepped State Answer). IsValid stepped.state) state panel clear salvo
-    (λ may. IsValid-taken_whole state salvo valid may.enough) (λ cleared. IsValid-clear state salvo valid) (λ status. valid)
+    (λ may. IsValid-taken_whole state salvo valid (take-tied state panel clear (group_of state.groups salvo) may)) (λ cleared. IsValid-clear state salvo valid) (λ status. valid)
 
 -- every step leaves a valid state
 pub IsValid-step : (state : State) (request : Request) → IsValid state → IsValid (step state request).state
 IsValid-step state (Told panel item (Interrogate at)) valid = valid
-IsValid-step state (Told panel item (Connect at source)) valid = IsValid-connected state panel at source valid
+IsValid-step state (Told panel item (Connect at source)) valid = IsValid-connected state panel at source (Connected at source) (tally_of at (standing state at)) valid
+IsValid-step state (Told panel item (ExtConnect at source)) valid = IsValid-connected state panel at source (ExtConnected at source) (ExtTally at (standing state at)) valid
 IsValid-step state (Told panel item (ProtectConnect at device)) valid =
     IsValid-protected state panel at (dest_of state at) (found-below state.plant at.matrix at.level at.dest (dest_of state at) valid.is_plant refl) valid
 IsValid-step state (Told panel item (ProtectDisconnect at device)) valid =

@@ -1,9 +1,10 @@
 -- Which connects are made, and how they are answered.
-use Rattle.std.proofs.Common.{◌≡◌, ◌≢◌, ℕ, true, cond, [], ◌∷◌, Option, Some, None, IsSome, IfSome, refl, sym, ap, subst, ◌∙◌}
+use Rattle.std.proofs.Common.{◌≡◌, ◌≢◌, ℕ, Bool, true, false, cond, [], ◌∷◌, Option, Some, None, IsSome, IfSome, refl, sym, ap, subst, ◌∙◌}
 use Rattle.std.specs.Option.{option_map, option_and_then}
 use Rattle.std.specs.FinMap as finite
 use Rattle.swp08_messages.specs.declared.point.Point.{Point}
-use Rattle.swp08_messages.specs.declared.message.Message.TheVariants.{Connect, Tally, Connected}
+use Rattle.swp08_messages.specs.declared.message.Message.{Message}
+use Rattle.swp08_messages.specs.declared.message.Message.TheVariants.{ExtTally}
 use Rattle.plant_config.specs.declared.records.Point as places
 use Rattle.plant_config.specs.declared.records.Change.{Change}
 use Rattle.plant_config.specs.Plant.{PlantData}
@@ -11,15 +12,16 @@ use Rattle.plant_config.specs.IsPlant.{IsPlant}
 use Rattle.plant_config.specs.Sites.{dest_at, source_at, source_number_of}
 use Rattle.plant_config.proofs.SiteLemmas.{dest_at-point_of, source_at-source_number_of}
 use Rattle.crosspoint_state.specs.Crosspoints.{source_of}
-use Rattle.crosspoint_state.specs.Applied.{applied, are_enough}
+use Rattle.crosspoint_state.specs.Applied.{applied}
 use Rattle.crosspoint_state.specs.declared.spot.Spot.{Spot}
 use Rattle.protects.specs.Owners.{allows}
 use Rattle.plant_core.specs.declared.request.Request.TheVariants.{Told}
 use Rattle.plant_core.specs.declared.answer.Answer.TheVariants.{Say}
 use Rattle.plant_core.specs.State.{State, IsValid, standing, owner_at, device_of}
+use Rattle.plant_core.specs.Wide.{tally_of, asks_source, asks_change, tells_source, tells_change}
 use Rattle.plant_core.specs.Connects.{says, source_wanted, change_of, changed, may_make, connected}
 use Rattle.plant_core.specs.Step.{step, dest_of}
-use Rattle.plant_core.specs.Laws.{AnswersWith, IsConnectable, IsFree, MayConnect, IsMade, IsNotMade}
+use Rattle.plant_core.specs.Laws.{AnswersWith, HasTie, IsConnectable, IsFree, MayConnect, IsMade, IsNotMade}
 use Rattle.plant_core.proofs.Validity.{change_of-is}
 use Rattle.plant_core.proofs.Changes.{allows-free, free-allows, permitted-one, source_of-one, get-one_other}
 use Rattle.plant_core.proofs.Outcomes.{by_made, may-both, made-permitted, made-enough}
@@ -100,10 +102,11 @@ standing-others state at source change place valid h other =
 
 -- an interrogate is answered with the source that stands, and with nothing else
 pub stands-answers : (state : State) (at : Point) (source : Option ℕ) → standing state at ≡ source → AnswersWith state at source
-stands-answers state at source h panel item = ap (λ s. Say (Tally at s) ∷ []) h
+stands-answers state at source h panel item true = ap (λ s. Say (ExtTally at s) ∷ []) h
+stands-answers state at source h panel item false = ap (λ s. Say (tally_of at s) ∷ []) h
 
 pub answers-stands : (state : State) (at : Point) (source : Option ℕ) → AnswersWith state at source → standing state at ≡ source
-answers-stands state at source answers = let h = answers 0 0 in cc
+answers-stands state at source answers = let h = answers 0 0 true in cc
 
 -- the owner of a place is that of its destination
 pub owner_at-dest : (state : State) (at : Point) (dest : ℕ) → dest_of state at ≡ Some dest → owner_at state at ≡ finite.get state.owners dest
@@ -137,7 +140,7 @@ may-change state panel at source may =
     let some : Some change.dest ≡ Some free.0 = sym (change_of-is state.plant at source change asks.1).0 ∙ free.1 in
     let same : change.dest ≡ free.0 = cc in
     let permitted = permitted-one state.owners (device_of state.plant panel) change ∙ ap (allows state.owners (device_of state.plant panel)) same ∙ free.2 in
-    let enough = subst (λ o. IfSome o (λ change. are_enough state.plant state.crosspoints (change ∷ []) ≡ true)) asks.1 may.tied in
+    let enough = subst (λ o. IfSome o (HasTie state panel)) asks.1 may.tied in
     (change, asks.1, may-both state panel change permitted enough)
 
 pub change-may : (state : State) (panel : ℕ) (at : Point) (source : Option ℕ) (change : Change) → change_of state.plant at source ≡ Some change →
@@ -145,19 +148,25 @@ pub change-may : (state : State) (panel : ℕ) (at : Point) (source : Option ℕ
 change-may state panel at source change h may = record {
   connectable = change_of-connectable state.plant at source change h;
   free = dest-free state panel at change.dest (change_of-is state.plant at source change h).0 (sym (permitted-one state.owners (device_of state.plant panel) change) ∙ made-permitted state panel change may);
-  tied = subst (λ o. IfSome o (λ change. are_enough state.plant state.crosspoints (change ∷ []) ≡ true)) (sym h) (made-enough state panel change may);
+  tied = subst (λ o. IfSome o (HasTie state panel)) (sym h) (made-enough state panel change may);
 }
 
--- a connect that asks for a change which its panel may make is made
-pub connected-made : (state : State) (panel item : ℕ) (at : Point) (source : Option ℕ) (change : Change) → change_of state.plant at source ≡ Some change → may_make state panel change ≡ true →
-    step state (Told panel item (Connect at source)) ≡ says (changed state panel change) (Connected at source)
-connected-made state panel item at source change h may =
-    ap (connected state panel at source) h
-    ∙ ap (λ b. cond b (says (changed state panel change) (Connected at source)) (says state (Tally at (standing state at)))) may
+-- what a connect does and answers, by an extended command or another
+connect_is : (state : State) (panel item : ℕ) (extended : Bool) (at : Point) (source : Option ℕ) →
+    step state (Told panel item (asks_change extended at source)) ≡ connected state panel (tells_change extended at source) (tells_source extended at (standing state at)) (change_of state.plant at source)
+connect_is state panel item true at source = refl
+connect_is state panel item false at source = refl
 
-pub made : (state : State) (panel item : ℕ) (at : Point) (source : Option ℕ) (change : Change) → IsValid state → change_of state.plant at source ≡ Some change →
-    IsMade state at source (says (changed state panel change) (Connected at source))
-made state panel item at source change valid h = record {
+-- a connect that asks for a change which its panel may make is made
+pub connected-made : (state : State) (panel : ℕ) (at : Point) (source : Option ℕ) (told refused : Message) (change : Change) → change_of state.plant at source ≡ Some change → may_make state panel change ≡ true →
+    connected state panel told refused (change_of state.plant at source) ≡ says (changed state panel change) told
+connected-made state panel at source told refused change h may =
+    ap (connected state panel told refused) h
+    ∙ ap (λ b. cond b (says (changed state panel change) told) (says state refused)) may
+
+pub made : (state : State) (panel : ℕ) (at : Point) (source : Option ℕ) (told : Message) (change : Change) → IsValid state → change_of state.plant at source ≡ Some change →
+    IsMade state at source told (says (changed state panel change) told)
+made state panel at source told change valid h = record {
   answer = refl;
   stands = stands-answers (changed state panel change) at source (standing-applied state at source change valid h);
   unmoved = λ dest elsewhere. get-one_other state.plant state.crosspoints change dest (λ same. elsewhere ((change_of-is state.plant at source change h).0 ∙ ap Some (sym same)));
@@ -165,23 +174,29 @@ made state panel item at source change valid h = record {
       stands-answers (changed state panel change) place stands (standing-others state at source change place valid h other ∙ answers-stands state place stands answers);
 }
 
-tallied : (state : State) (at : Point) → IsNotMade state at (says state (Tally at (standing state at)))
-tallied state at = record {
+tallied : (state : State) (extended : Bool) (at : Point) → IsNotMade state extended at (says state (tells_source extended at (standing state at)))
+tallied state extended at = record {
   standing = standing state at;
   stands = stands-answers state at (standing state at) refl;
   answer = refl;
   state = refl;
 }
 
-pub connect-IsMade : (state : State) (panel item : ℕ) (at : Point) (source : Option ℕ) → IsValid state → MayConnect state panel at source → IsMade state at source (step state (Told panel item (Connect at source)))
-connect-IsMade state panel item at source valid may =
+pub connect-IsMade : (state : State) (panel item : ℕ) (extended : Bool) (at : Point) (source : Option ℕ) → IsValid state → MayConnect state panel at source → IsMade state at source (tells_change extended at source) (step state (Told panel item (asks_change extended at source)))
+connect-IsMade state panel item extended at source valid may =
     let asks = may-change state panel at source may in
-    subst (IsMade state at source) (sym (connected-made state panel item at source asks.0 asks.1 asks.2)) (made state panel item at source asks.0 valid asks.1)
+    let told : Message = tells_change extended at source in
+    subst (IsMade state at source told)
+    (sym (connect_is state panel item extended at source ∙ connected-made state panel at source told (tells_source extended at (standing state at)) asks.0 asks.1 asks.2))
+    (made state panel at source told asks.0 valid asks.1)
 
-pub connect-IsNotMade : (state : State) (panel item : ℕ) (at : Point) (source : Option ℕ) → ¬ MayConnect state panel at source → IsNotMade state at (step state (Told panel item (Connect at source)))
-connect-IsNotMade state panel item at source not =
-    elim (change_of state.plant at source) as (λ o. change_of state.plant at source ≡ o → IsNotMade state at (connected state panel at source o)) [
-      | None ↦ λ h. tallied state at
+pub connect-IsNotMade : (state : State) (panel item : ℕ) (extended : Bool) (at : Point) (source : Option ℕ) → ¬ MayConnect state panel at source → IsNotMade state extended at (step state (Told panel item (asks_change extended at source)))
+connect-IsNotMade state panel item extended at source not =
+    let told : Message = tells_change extended at source in
+    let refused : Message = tells_source extended at (standing state at) in
+    subst (IsNotMade state extended at) (sym (connect_is state panel item extended at source)) (
+    elim (change_of state.plant at source) as (λ o. change_of state.plant at source ≡ o → IsNotMade state extended at (connected state panel told refused o)) [
+      | None ↦ λ h. tallied state extended at
       | Some change ↦ λ h.
-          by_made (IsNotMade state at) state panel at source change (λ may. absurd (not (change-may state panel at source change h may))) (tallied state at)
-    ] refl
+          by_made (IsNotMade state extended at) state panel told refused change (λ may. absurd (not (change-may state panel at source change h may))) (tallied state extended at)
+    ] refl)

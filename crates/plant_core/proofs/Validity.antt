@@ -86,7 +86,7 @@ source_of-spot crosspoints dest source h =
     ] h
 
 -- what holds of each value of a map holds of each behind an insert, where it holds of the new one, and behind a remove
-values-insert : {V : Type 0} (P : ℕ → V → Type 0) (values : finite.FinMap nat_cmp V) (dest : ℕ) (value : V) → ((q : ℕ) (v : V) → finite.get values q ≡ Some v → P q v) → P dest value →
+pub values-insert : {V : Type 0} (P : ℕ → V → Type 0) (values : finite.FinMap nat_cmp V) (dest : ℕ) (value : V) → ((q : ℕ) (v : V) → finite.get values q ≡ Some v → P q v) → P dest value →
     (q : ℕ) (v : V) → finite.get (finite.insert values dest value) q ≡ Some v → P q v
 values-insert {V} P values dest value all new q v h =
     elim (eq_by_cmp nat_cmp q dest) as (λ b. eq_by_cmp nat_cmp q dest ≡ b → cond b (Some value) (finite.get values q) ≡ Some v → P q v) [
@@ -97,7 +97,7 @@ values-insert {V} P values dest value all new q v h =
       | false ↦ λ apart e. all q v e
     ] refl (sym (finite.get-insert nat_cmp_total values dest value q) ∙ h)
 
-values-remove : {V : Type 0} (P : ℕ → V → Type 0) (values : finite.FinMap nat_cmp V) (dest : ℕ) → ((q : ℕ) (v : V) → finite.get values q ≡ Some v → P q v) →
+pub values-remove : {V : Type 0} (P : ℕ → V → Type 0) (values : finite.FinMap nat_cmp V) (dest : ℕ) → ((q : ℕ) (v : V) → finite.get values q ≡ Some v → P q v) →
     (q : ℕ) (v : V) → finite.get (finite.remove values dest) q ≡ Some v → P q v
 values-remove {V} P values dest all q v h =
     elim (eq_by_cmp nat_cmp q dest) as (λ b. cond b None (finite.get values q) ≡ Some v → P q v) [

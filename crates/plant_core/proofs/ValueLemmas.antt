@@ -70,7 +70,7 @@ values-behind state request same display =
 pub moves-nothing : (state : State) (request : Request) → MovesNothing request → CarryAsBefore state (step state request).state
 moves-nothing state (Told panel item message) moves dest =
     ap (λ (crosspoints : Crosspoints). source_of crosspoints dest)
-    (message-leaves state panel item message (λ at source is. moves.0 panel item at source (ap (Told panel item) is)) (λ salvo is. moves.1 panel item salvo (ap (Told panel item) is))).crosspoints
+    (message-leaves state panel item message (λ extended at source is. moves.0 panel item extended at source (ap (Told panel item) is)) (λ salvo is. moves.1 panel item salvo (ap (Told panel item) is))).crosspoints
 moves-nothing state (Poll panel item turn) moves dest = refl
 moves-nothing state (Leave panel) moves dest = refl
 moves-nothing state (DisplayPoll screen refresh) moves dest = ap (λ (state : State). source_of state.crosspoints dest) (display_polled-is state screen refresh)

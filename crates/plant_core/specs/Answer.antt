@@ -1,15 +1,17 @@
 -- What may be answered, and how often.
-use Rattle.std.specs.Prelude.{◌≡◌, ℕ, ◌≤◌, max}
+use Rattle.std.specs.Prelude.{◌≡◌, ℕ, ◌≤◌, max, if◌then◌else◌}
 use Rattle.std.specs.List.{fold}
 use Rattle.swp08_messages.specs.declared.message.Message.{Message}
 use Rattle.swp08_messages.specs.declared.message.Message.TheVariants.{DumpAsk, Store}
 use Rattle.swp08_messages.specs.Text.{IsPoint, IsSource, InRange}
+use Rattle.plant_config.specs.declared.records.Level.{Level}
 use Rattle.plant_config.specs.Plant.{PlantData}
 use Rattle.plant_core.specs.declared.request.Request.{Request}
 use Rattle.plant_core.specs.declared.request.Request.TheVariants.{Told, Poll, Leave, DisplayPoll}
 use Rattle.plant_core.specs.declared.answer.Answer.{Answer}
 use Rattle.plant_core.specs.declared.answer.Answer.TheVariants.{Say, Dumped, Lamp, Finished}
 use Rattle.plant_core.specs.Displays.{lamp_limit}
+use Rattle.plant_core.specs.Wide.{is_wide}
 use Rattle.plant_core.specs.Step.{dest_count}
 
 -- An answer's message, or what a dump tells, is in its ranges, so that it can be spelled. What displays are told isn't sent
@@ -35,6 +37,11 @@ IsAnswerCount plant (Poll panel item turn) count = count ≤ 1
 IsAnswerCount plant (Leave panel) count = count ≡ 0
 IsAnswerCount plant (DisplayPoll screen refresh) count = count ≤ lamp_limit
 
--- For how many answers there has to be room: 64, or the destinations of the level that has the most, if these are more.
+-- the greater of a room and the destinations of a level, where this can be dumped
+abbrev pub with_room : ℕ → Level → ℕ
+with_room most level = if is_wide level then most else max most level.destinations
+
+-- For how many answers there has to be room: 64, or the destinations of the level that has the most of those that can be
+-- dumped, if these are more.
 abbrev pub room_of : PlantData → ℕ
-room_of plant = fold (λ most level. max most level.destinations) 64 plant.levels
+room_of plant = fold with_room 64 plant.levels

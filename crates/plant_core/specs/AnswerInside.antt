@@ -22,7 +22,7 @@ SaysJust stepped message = stepped.answers ≡ Say message ∷ []
 abbrev pub SaysAtMost : Stepped State Answer → Option Message → Type 0
 SaysAtMost stepped message = stepped.answers ≡ map Say (option_to_list message)
 
--- A message asks something of the plant: neither what stands nor for a connect or a dump.
+-- A message asks something of the plant: neither what stands nor for a connect or a dump, but by an extended command.
 abbrev pub AsksOther : Message → Type 0
 AsksOther message =
     (kind_of message ≡ Plant)

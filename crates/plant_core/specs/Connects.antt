@@ -4,18 +4,18 @@ use Rattle.std.specs.List.{list_all}
 use Rattle.std.specs.Option.{option_map, option_and_then}
 use Rattle.swp08_messages.specs.declared.point.Point.{Point}
 use Rattle.swp08_messages.specs.declared.message.Message.{Message}
-use Rattle.swp08_messages.specs.declared.message.Message.TheVariants.{Tally, Connected}
 use Rattle.plant_config.specs.Plant.{PlantData}
 use Rattle.plant_config.specs.Sites.{dest_at, source_at}
 use Rattle.plant_config.specs.declared.records.Change.{Change}
 use Rattle.crosspoint_state.specs.Crosspoints.{is_idle}
-use Rattle.crosspoint_state.specs.Applied.{applied, are_enough}
+use Rattle.crosspoint_state.specs.Applied.{applied}
+use Rattle.tie_pools.specs.Reserve.{are_enough_for}
 use Rattle.protects.specs.Owners.{Owners, allows}
 use Rattle.change_boards.specs.declared.sort.Sort.TheVariants.{Source}
 use Rattle.history_lock.specs.Step.{Stepped}
 use Rattle.plant_core.specs.declared.answer.Answer.{Answer}
 use Rattle.plant_core.specs.declared.answer.Answer.TheVariants.{Say}
-use Rattle.plant_core.specs.State.{State, standing, device_of}
+use Rattle.plant_core.specs.State.{State, device_of, is_master}
 use Rattle.plant_core.specs.Noticed.{marked_for_others}
 
 -- this is the state, and this is answered
@@ -52,16 +52,15 @@ changed state asker change = record state {
       else marked_for_others state.boards asker change.dest Source;
 }
 
--- A panel may make a change where no other device protects its destination and the ties are enough for it.
+-- A panel may make a change where no other device protects its destination and the ties that it may use are enough.
 abbrev pub may_make : State → ℕ → Change → Bool
 may_make state panel change =
     are_permitted state.owners (device_of state.plant panel) (change ∷ [])
-    && are_enough state.plant state.crosspoints (change ∷ [])
+    && are_enough_for state.plant state.crosspoints (is_master state.plant panel) (change ∷ [])
 
--- A connect that is in range and that its panel may make is made and answered so; else the answer is the source that stands.
-abbrev pub connected : State → ℕ → Point → Option ℕ → Option Change → Stepped State Answer
-connected state panel at source None = says state (Tally at (standing state at))
-connected state panel at source (Some change) =
-    if may_make state panel change
-    then says (changed state panel change) (Connected at source)
-    else says state (Tally at (standing state at))
+-- A connect in range that its panel may make is made and answered by one message; else another tells the source that stands.
+abbrev pub connected : State → ℕ → Message → Message → Option Change → Stepped State Answer
+connected state panel made refused None = says state refused
+connected state panel made refused (Some change) =
+    if may_make state panel change then says (changed state panel change) made
+    else says state refused

@@ -2,7 +2,7 @@
 use Rattle.std.specs.Prelude.{◌≡◌, ◌≢◌, ◌↔◌, ℕ, ◌<◌, ◌+◌, ◌*◌, ◌/◌, nat_eq, Bool, true, false, List, [], ◌∷◌, length, map, filter, take, drop, replicate, All, Option}
 use Rattle.std.specs.List.{IsDistinct, Contains}
 use Rattle.swp08_messages.specs.declared.point.Point.{Point}
-use Rattle.swp08_messages.specs.declared.message.Message.TheVariants.{Connect, Go}
+use Rattle.swp08_messages.specs.declared.message.Message.TheVariants.{Go}
 use Rattle.change_boards.specs.declared.value.Value.{Value}
 use Rattle.change_boards.specs.Notices.{has_left}
 use Rattle.change_boards.specs.Screens.{displays_of}
@@ -13,6 +13,7 @@ use Rattle.plant_core.specs.declared.request.Request.TheVariants.{Told, DisplayP
 use Rattle.plant_core.specs.declared.answer.Answer.{Answer}
 use Rattle.plant_core.specs.declared.answer.Answer.TheVariants.{Lamp, Finished}
 use Rattle.plant_core.specs.State.{State, IsValid}
+use Rattle.plant_core.specs.Wide.{asks_change}
 use Rattle.plant_core.specs.Displays.{lamp_limit, value_of, differs, differing, refreshed}
 use Rattle.plant_core.specs.Step.{step}
 use Rattle.plant_core.specs.Laws.{CarryAsBefore, after}
@@ -24,8 +25,8 @@ HaveTheirValues old new = (display : ℕ) → value_of new display ≡ value_of 
 -- A request is neither a connect nor a go that takes a group.
 abbrev pub MovesNothing : Request → Type 0
 MovesNothing request =
-    ((panel item : ℕ) (at : Point) (source : Option ℕ)
-    → request ≢ Told panel item (Connect at source))
+    ((panel item : ℕ) (extended : Bool) (at : Point) (source : Option ℕ)
+    → request ≢ Told panel item (asks_change extended at source))
     × ((panel item salvo : ℕ) → request ≢ Told panel item (Go false salvo))
 
 -- An answer is no lamp.

@@ -8,6 +8,7 @@ use Rattle.crosspoint_state.specs.Ties.{HaveValidTies}
 use Rattle.plant_core.specs.declared.request.Request.{Request}
 use Rattle.plant_core.specs.declared.answer.Answer.{Answer}
 use Rattle.plant_core.specs.State.{State, IsValid, Fits, start}
+use Rattle.plant_core.specs.Short.{StaysShort}
 use Rattle.plant_core.specs.Step.{step}
 use Rattle.plant_core.specs.Answer.{IsSayable, room_of}
 
@@ -44,4 +45,5 @@ HistoriesKeepTiesValid =
 -- the answers of each entry of a history that is legal from a valid state can be sent
 abbrev pub LegalAnswersCanBeSent : Type 0
 LegalAnswersCanBeSent = (state : State) (history : List PlantEntry)
-    → IsValid state → IsLegal step Fits state history → All (CanBeSent state.plant) history
+    → IsValid state → StaysShort state → IsLegal step Fits state history
+    → All (CanBeSent state.plant) history

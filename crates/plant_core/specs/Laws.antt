@@ -1,9 +1,9 @@
 -- What is true of every state and every step, said by places and answers, without the step's cases.
-use Rattle.std.specs.Prelude.{◌≡◌, ◌≢◌, ℕ, ◌≤◌, true, false, List, [], ◌∷◌, length, All, slice_get, Option, Some, None, IfSome, IsSome, IsNone}
+use Rattle.std.specs.Prelude.{◌≡◌, ◌≢◌, ℕ, ◌≤◌, Bool, true, false, List, [], ◌∷◌, length, All, slice_get, Option, Some, None, IfSome, IsSome, IsNone}
 use Rattle.std.specs.FinMap.{get}
 use Rattle.swp08_messages.specs.declared.point.Point.{Point}
 use Rattle.swp08_messages.specs.declared.message.Message.{Message}
-use Rattle.swp08_messages.specs.declared.message.Message.TheVariants.{Interrogate, Connect, Tally, Connected, DumpAsk, ProtectAsk, EntryAsk, Go}
+use Rattle.swp08_messages.specs.declared.message.Message.TheVariants.{Interrogate, ExtInterrogate, DumpAsk, ProtectAsk, EntryAsk, Go}
 use Rattle.plant_config.specs.Plant.{PlantData}
 use Rattle.plant_config.specs.IsPlant.{IsPlant}
 use Rattle.plant_config.specs.Sites.{dest_at, source_at}
@@ -15,15 +15,19 @@ use Rattle.plant_core.specs.declared.answer.Answer.{Answer}
 use Rattle.plant_core.specs.declared.answer.Answer.TheVariants.{Say, Dumped}
 use Rattle.crosspoint_state.specs.Crosspoints.{source_of, NamesOnce}
 use Rattle.crosspoint_state.specs.Applied.{applied, are_enough}
-use Rattle.plant_core.specs.State.{State, IsValid, IsChangeOf, Fits, start, device_of, owner_at}
+use Rattle.tie_pools.specs.Reserve.{are_enough_for}
+use Rattle.plant_core.specs.State.{State, IsValid, IsChangeOf, Fits, start, device_of, is_master, owner_at}
+use Rattle.plant_core.specs.Wide.{is_wide_at, asks_source, asks_change, tells_source, tells_change}
+use Rattle.plant_core.specs.Short.{StaysShort}
 use Rattle.plant_core.specs.Connects.{change_of}
 use Rattle.plant_core.specs.Step.{step}
 use Rattle.plant_core.specs.Answer.{IsSayable, IsAnswerCount, room_of}
 
--- Whoever interrogates a place is answered with this source, and with nothing else.
+-- Whoever interrogates a place, by an extended command or another, is answered with this source, and with nothing else.
 abbrev pub AnswersWith : State → Point → Option ℕ → Type 0
-AnswersWith state at source = (panel item : ℕ)
-    → (step state (Told panel item (Interrogate at))).answers ≡ Say (Tally at source) ∷ []
+AnswersWith state at source = (panel item : ℕ) (extended : Bool)
+    → (step state (Told panel item (asks_source extended at))).answers
+    ≡ Say (tells_source extended at source) ∷ []
 
 -- A place may be given a source where it is in the plant, and the source is parked or in that level.
 pub record IsConnectable (plant : PlantData) (at : Point) (source : Option ℕ) : Type 0 where
@@ -35,17 +39,21 @@ pub record IsFree (state : State) (panel : ℕ) (at : Point) : Type 0 where
   pub has_place : IsSome (dest_at state.plant at.matrix at.level at.dest)
   pub owner : IfSome (owner_at state at) (λ device. device ≡ device_of state.plant panel)
 
--- The ties are enough for a place to be given a source.
-abbrev pub HasTieFor : State → Point → Option ℕ → Type 0
-HasTieFor state at source =
-    IfSome (change_of state.plant at source)
-    (λ change. are_enough state.plant state.crosspoints (change ∷ []) ≡ true)
+-- The ties that a panel may use are enough for a change.
+abbrev pub HasTie : State → ℕ → Change → Type 0
+HasTie state panel change =
+    are_enough_for state.plant state.crosspoints (is_master state.plant panel) (change ∷ []) ≡ true
 
--- A panel may give a place a source where that may be given, the panel may change the place, and the ties are enough.
+-- They are enough for a place to be given a source.
+abbrev pub HasTieFor : State → ℕ → Point → Option ℕ → Type 0
+HasTieFor state panel at source = IfSome (change_of state.plant at source) (HasTie state panel)
+
+-- A panel may give a place a source where that may be given, the panel may change the place, and the ties that it may use
+-- are enough.
 pub record MayConnect (state : State) (panel : ℕ) (at : Point) (source : Option ℕ) : Type 0 where
   pub connectable : IsConnectable state.plant at source
   pub free : IsFree state panel at
-  pub tied : HasTieFor state at source
+  pub tied : HasTieFor state panel at source
 
 -- Every destination but that of this place carries what it carried.
 abbrev pub OthersCarryAsBefore : State → Point → State → Type 0
@@ -63,20 +71,21 @@ abbrev pub OthersAnswerAsBefore : State → Point → State → Type 0
 OthersAnswerAsBefore old at new = (place : Point) (stands : Option ℕ)
     → place ≢ at → AnswersWith old place stands → AnswersWith new place stands
 
--- A connect is made: it is answered so, its source stands at its place, no other destination changes, and so every other
--- place answers as before.
-pub record IsMade (old : State) (at : Point) (source : Option ℕ)
+-- A connect is made: it is answered by this message, its source stands at its place, no other destination changes, and so
+-- every other place answers as before.
+pub record IsMade (old : State) (at : Point) (source : Option ℕ) (told : Message)
     (stepped : Stepped State Answer) : Type 0 where
-  pub answer : stepped.answers ≡ Say (Connected at source) ∷ []
+  pub answer : stepped.answers ≡ Say told ∷ []
   pub stands : AnswersWith stepped.state at source
   pub unmoved : OthersCarryAsBefore old at stepped.state
   pub others : OthersAnswerAsBefore old at stepped.state
 
 -- A connect isn't made: nothing changes, and the answer is a tally of the source that stands.
-pub record IsNotMade (old : State) (at : Point) (stepped : Stepped State Answer) : Type 0 where
+pub record IsNotMade (old : State) (extended : Bool) (at : Point)
+    (stepped : Stepped State Answer) : Type 0 where
   pub standing : Option ℕ
   pub stands : AnswersWith old at standing
-  pub answer : stepped.answers ≡ Say (Tally at standing) ∷ []
+  pub answer : stepped.answers ≡ Say (tells_source extended at standing) ∷ []
   pub state : stepped.state ≡ old
 
 -- Answers tell of each place of a level that is in the plant, at the place's number: with the source with which an
@@ -92,11 +101,14 @@ abbrev pub TellNoOtherPlace : State → ℕ → ℕ → List Answer → Type 0
 TellNoOtherPlace state matrix level answers = (dest : ℕ)
     → IsNone (dest_at state.plant matrix level dest) → slice_get answers dest ≡ None
 
--- A dump tells what stands: for each place of the level that is in the plant the source with which an interrogate of it
--- is answered, at the place's number, and nothing else. Nothing changes.
+-- A dump of a level that isn't wide tells what stands: for each place of the level that is in the plant the source with
+-- which an interrogate of it is answered, at the place's number, and nothing else. One of a wide level tells nothing. Nothing
+-- changes.
 pub record IsDumped (old : State) (matrix level : ℕ) (stepped : Stepped State Answer) : Type 0 where
-  pub tells : TellEachPlace old matrix level stepped.answers
+  pub tells : is_wide_at old.plant matrix level ≡ false
+      → TellEachPlace old matrix level stepped.answers
   pub no_more : TellNoOtherPlace old matrix level stepped.answers
+  pub wide : is_wide_at old.plant matrix level ≡ true → stepped.answers ≡ []
   pub state : stepped.state ≡ old
 
 -- the state behind a list of requests
@@ -107,7 +119,8 @@ after state (request ∷ requests) = after (step state request).state requests
 -- A request isn't a connect of this place, nor a go that takes a group.
 abbrev pub LeavesAlone : Point → Request → Type 0
 LeavesAlone at request =
-    ((panel item : ℕ) (source : Option ℕ) → request ≢ Told panel item (Connect at source))
+    ((panel item : ℕ) (extended : Bool) (source : Option ℕ)
+    → request ≢ Told panel item (asks_change extended at source))
     × ((panel item salvo : ℕ) → request ≢ Told panel item (Go false salvo))
 
 -- the state at the start of a plant is valid
@@ -118,6 +131,16 @@ StartsAreValid = (plant : PlantData) → IsPlant plant → IsValid (start plant)
 abbrev pub StepsStayValid : Type 0
 StepsStayValid =
     (state : State) (request : Request) → IsValid state → IsValid (step state request).state
+
+-- at the start of a plant, and after each request that fits a valid state in which it was so, the commands that aren't
+-- extended can tell what they alone can reach
+abbrev pub StartsAreShort : Type 0
+StartsAreShort = (plant : PlantData) → StaysShort (start plant)
+
+abbrev pub StepsStayShort : Type 0
+StepsStayShort = (state : State) (request : Request)
+    → IsValid state → StaysShort state → Fits state request
+    → StaysShort (step state request).state
 
 -- no step changes the plant
 abbrev pub StepsKeepThePlant : Type 0
@@ -133,28 +156,32 @@ ChangesStayValid = (state : State) (changes : List Change)
 
 -- a connect that its panel may make is made
 abbrev pub ConnectablesAreMade : Type 0
-ConnectablesAreMade = (state : State) (panel item : ℕ) (at : Point) (source : Option ℕ)
+ConnectablesAreMade = (state : State) (panel item : ℕ) (extended : Bool) (at : Point)
+    (source : Option ℕ)
     → IsValid state → MayConnect state panel at source
-    → IsMade state at source (step state (Told panel item (Connect at source)))
+    → IsMade state at source (tells_change extended at source)
+    (step state (Told panel item (asks_change extended at source)))
 
 -- every other connect isn't made
 abbrev pub OthersAreNotMade : Type 0
-OthersAreNotMade = (state : State) (panel item : ℕ) (at : Point) (source : Option ℕ)
+OthersAreNotMade = (state : State) (panel item : ℕ) (extended : Bool) (at : Point)
+    (source : Option ℕ)
     → ¬ MayConnect state panel at source
-    → IsNotMade state at (step state (Told panel item (Connect at source)))
+    → IsNotMade state extended at (step state (Told panel item (asks_change extended at source)))
 
 -- A connect that is made stands: whoever interrogates its place is answered with its source, whatever was asked meanwhile
 -- but a connect of that place and a go that takes a group.
 abbrev pub ConnectsStand : Type 0
-ConnectsStand = (state : State) (panel item : ℕ) (at : Point) (source : Option ℕ)
-    (later : List Request)
+ConnectsStand = (state : State) (panel item : ℕ) (extended : Bool) (at : Point)
+    (source : Option ℕ) (later : List Request)
     → IsValid state → MayConnect state panel at source → All (LeavesAlone at) later
-    → (let new : State = (step state (Told panel item (Connect at source))).state
+    → (let new : State = (step state (Told panel item (asks_change extended at source))).state
     in AnswersWith (after new later) at source)
 
 -- A message only asks: for a source, an owner, a level's sources, or an entry of a group.
 abbrev pub OnlyAsks : Message → Type 0
 OnlyAsks (Interrogate at) = Unit {0}
+OnlyAsks (ExtInterrogate at) = Unit {0}
 OnlyAsks (ProtectAsk at) = Unit {0}
 OnlyAsks (DumpAsk matrix level) = Unit {0}
 OnlyAsks (EntryAsk salvo index) = Unit {0}
@@ -191,7 +218,8 @@ AnswersFit = (state : State) (request : Request) → Fits state request
 
 -- in a valid state each answer to a request that fits can be said
 abbrev pub AnswersAreSayable : Type 0
-AnswersAreSayable = (state : State) (request : Request) → IsValid state → Fits state request
+AnswersAreSayable = (state : State) (request : Request)
+    → IsValid state → StaysShort state → Fits state request
     → All IsSayable (step state request).answers
 
 -- no plant asks for room for more than 1,024 answers

@@ -6,12 +6,15 @@ pub use Rattle.swp08_messages.specs.Text
 pub use Rattle.crosspoint_state.specs.Crosspoints
 pub use Rattle.crosspoint_state.specs.Ties
 pub use Rattle.crosspoint_state.specs.Applied
+pub use Rattle.tie_pools.specs.Reserve
 pub use Rattle.protects.specs.Owners
 pub use Rattle.salvo_groups.specs.Groups
 pub use Rattle.change_boards.specs.Board
 pub use Rattle.change_boards.specs.Notices
 pub mod State
 pub mod StateInside
+pub mod Wide
+pub mod Short
 pub mod Answer
 pub mod Noticed
 pub mod Connects

@@ -3,7 +3,7 @@ use Rattle.std.specs.Prelude.{◌≡◌, ◌≢◌, ◌⊎◌, ℕ, ◌<◌, ◌
 use Rattle.std.specs.FinMap.{get}
 use Rattle.swp08_messages.specs.declared.point.Point.{Point}
 use Rattle.swp08_messages.specs.declared.message.Message.{Message}
-use Rattle.swp08_messages.specs.declared.message.Message.TheVariants.{Connect, ProtectConnect, ProtectDisconnect, Go}
+use Rattle.swp08_messages.specs.declared.message.Message.TheVariants.{Connect, ExtConnect, ProtectConnect, ProtectDisconnect, Go}
 use Rattle.plant_config.specs.Plant.{destinations_of}
 use Rattle.plant_config.specs.Sites.{dest_at}
 use Rattle.change_boards.specs.Board.{Board}
@@ -146,6 +146,7 @@ pub record IsServedAlike (one other : State) (request : Request) : Type 0 where
 -- A connect, a protect or a lift of a destination.
 abbrev pub IsOfOne : Message → Type 0
 IsOfOne (Connect at source) = Unit {0}
+IsOfOne (ExtConnect at source) = Unit {0}
 IsOfOne (ProtectConnect at device) = Unit {0}
 IsOfOne (ProtectDisconnect at device) = Unit {0}
 IsOfOne message = ⊥

@@ -8,7 +8,7 @@ use Rattle.swp08_messages.specs.declared.go_status.GoStatus.TheVariants.{Made, C
 use Rattle.swp08_messages.specs.declared.validity.Validity.TheVariants.{NoEntry}
 use Rattle.plant_config.specs.declared.records.Change.{Change}
 use Rattle.crosspoint_state.specs.Crosspoints.{source_of}
-use Rattle.crosspoint_state.specs.Applied.{are_enough}
+use Rattle.tie_pools.specs.Reserve.{are_enough_for}
 use Rattle.protects.specs.Owners.{IsForeign}
 use Rattle.salvo_groups.specs.Limits.{salvo_limit}
 use Rattle.salvo_groups.specs.Groups.{Group, group_of, may_store, stored}
@@ -16,7 +16,7 @@ use Rattle.history_lock.specs.Step.{Stepped}
 use Rattle.plant_core.specs.declared.request.Request.TheVariants.{Told}
 use Rattle.plant_core.specs.declared.answer.Answer.{Answer}
 use Rattle.plant_core.specs.declared.answer.Answer.TheVariants.{Say}
-use Rattle.plant_core.specs.State.{State, IsValid, device_of}
+use Rattle.plant_core.specs.State.{State, IsValid, device_of, is_master}
 use Rattle.plant_core.specs.Connects.{change_of}
 use Rattle.plant_core.specs.Salvos.{no_place, validity_at}
 use Rattle.plant_core.specs.Step.{step}
@@ -67,16 +67,18 @@ GoesAreWhole = (state : State) (panel item salvo : ℕ) (clear : Bool) → IsVal
     → (let new : State = (step state (Told panel item (Go clear salvo))).state
     in IsTakenWhole state (group_of state.groups salvo) new ⊎ (new.crosspoints ≡ state.crosspoints))
 
--- The ties are enough for all of a group at once.
-abbrev pub HasTies : State → Group → Type 0
-HasTies state group = are_enough state.plant state.crosspoints group ≡ true
+-- The ties that a panel may use are enough for all of a group at once.
+abbrev pub HasTies : State → ℕ → Group → Type 0
+HasTies state panel group =
+    are_enough_for state.plant state.crosspoints (is_master state.plant panel) group ≡ true
 
--- a group that has entries, of whose destinations no other device protects any, and for which the ties are enough, is taken
+-- a group that has entries, of whose destinations no other device protects any, and for which the ties that the panel may
+-- use are enough, is taken
 abbrev pub FreeGroupsAreTaken : Type 0
 FreeGroupsAreTaken = (state : State) (panel item salvo : ℕ)
     → IsValid state → salvo < salvo_limit → group_of state.groups salvo ≢ []
     → ¬ HasForeign state (device_of state.plant panel) (group_of state.groups salvo)
-    → HasTies state (group_of state.groups salvo)
+    → HasTies state panel (group_of state.groups salvo)
     → IsGone state salvo (step state (Told panel item (Go false salvo)))
 
 -- a group of which another device protects a destination isn't taken, and nothing changes
@@ -92,7 +94,7 @@ abbrev pub TielessGroupsAreRefused : Type 0
 TielessGroupsAreRefused = (state : State) (panel item salvo : ℕ)
     → group_of state.groups salvo ≢ []
     → ¬ HasForeign state (device_of state.plant panel) (group_of state.groups salvo)
-    → ¬ HasTies state (group_of state.groups salvo)
+    → ¬ HasTies state panel (group_of state.groups salvo)
     → step state (Told panel item (Go false salvo))
     ≡ record { state = state; answers = Say (GoDone NoTie salvo) ∷ [] }
 

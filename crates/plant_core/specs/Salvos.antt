@@ -12,11 +12,12 @@ use Rattle.plant_config.specs.Sites.{point_of, source_number_of}
 use Rattle.plant_config.specs.declared.records.Change.{Change}
 use Rattle.plant_config.specs.declared.records.Point as places
 use Rattle.crosspoint_state.specs.Crosspoints.{Crosspoints, is_idle}
-use Rattle.crosspoint_state.specs.Applied.{applied, are_enough}
+use Rattle.crosspoint_state.specs.Applied.{applied}
+use Rattle.tie_pools.specs.Reserve.{are_enough_for}
 use Rattle.salvo_groups.specs.Groups.{Group, group_of, may_store, with_store, with_clear}
 use Rattle.history_lock.specs.Step.{Stepped}
 use Rattle.plant_core.specs.declared.answer.Answer.{Answer}
-use Rattle.plant_core.specs.State.{State, device_of}
+use Rattle.plant_core.specs.State.{State, device_of, is_master}
 use Rattle.plant_core.specs.Noticed.{all_marked}
 use Rattle.plant_core.specs.Connects.{says, says_nothing, are_permitted}
 
@@ -45,9 +46,8 @@ all_changed state group = record state {
   boards = all_marked state.boards (moved state.crosspoints group);
 }
 
--- What a go does, and how it is answered: the first of five cases. An empty group stays so, and one that is to be cleared is.
--- One of which another device protects a destination changes nothing, and neither does one for which the ties aren't enough,
--- all of it at once. Any other is taken whole, and is empty then.
+-- What a go does, and how it is answered: the first of five cases. Nothing changes where the group is empty, where another
+-- device protects one of its destinations, or where the ties that the panel may use aren't enough for all of it at once.
 abbrev pub gone : State → ℕ → Bool → ℕ → Stepped State Answer
 gone state panel clear salvo =
     let group = group_of state.groups salvo in
@@ -55,7 +55,7 @@ gone state panel clear salvo =
     else if clear then says (emptied state salvo) (GoDone Cleared salvo)
     else if not (are_permitted state.owners (device_of state.plant panel) group)
     then says state (GoDone Protected salvo)
-    else if not (are_enough state.plant state.crosspoints group)
+    else if not (are_enough_for state.plant state.crosspoints (is_master state.plant panel) group)
     then says state (GoDone NoTie salvo)
     else says (emptied (all_changed state group) salvo) (GoDone Made salvo)
 

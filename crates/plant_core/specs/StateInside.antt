@@ -17,6 +17,7 @@ use Rattle.plant_core.specs.declared.tables.Tables.{Tables}
 use Rattle.plant_core.specs.declared.tallies.Tallies.{Tallies}
 use Rattle.due_displays.specs.Due.{Due}
 use Rattle.plant_core.specs.State.{State, IsValid}
+use Rattle.plant_core.specs.Short.{StaysShort}
 use Rattle.plant_core.specs.DueInside.{AreKeptDue}
 
 -- the state that its parts stand for
@@ -57,11 +58,12 @@ pub record HaveRoom (plant : PlantData) (points : Points) (owners : Table ℕ) :
   pub crosspoints : ArePointsOf plant points
   pub protects : owners.room ≡ destinations_of plant
 
--- A state is kept where it is valid, there is room for all destinations, the tables beside it go with it, and each display
--- that differs is due.
+-- A state is kept where it is valid, what the commands that aren't extended alone can reach can be told by them, there is
+-- room for all destinations, the tables beside it go with it, and each display that differs is due.
 pub record IsKept (state : State) (points : Points) (owners : Table ℕ) (tables : Tables)
     (waiting : Due) : Type 0 where
   pub valid : IsValid state
+  pub short : StaysShort state
   pub room : HaveRoom state.plant points owners
   pub beside : AreTablesOf state.plant state.crosspoints tables
   pub due : AreKeptDue state.plant state.crosspoints state.shown waiting

@@ -1,11 +1,11 @@
 -- What an event does to the state, and how it is answered.
-use Rattle.std.specs.Prelude.{ℕ, List, [], ◌∷◌, map, Option, Some, None}
+use Rattle.std.specs.Prelude.{ℕ, if◌then◌else◌, List, [], ◌∷◌, map, Option, Some, None}
 use Rattle.std.specs.List.{range_with_len}
 use Rattle.std.specs.Option.{option_map_or}
 use Rattle.std.specs.FinMap.{get}
 use Rattle.swp08_messages.specs.declared.point.Point.{Point}
 use Rattle.swp08_messages.specs.declared.message.Message.{Message}
-use Rattle.swp08_messages.specs.declared.message.Message.TheVariants.{Interrogate, Connect, Tally, Connected, DumpAsk, ProtectAsk, ProtectConnect, ProtectDisconnect, ProtectTally, ProtectConnected, ProtectDisconnected, Store, Go, EntryAsk}
+use Rattle.swp08_messages.specs.declared.message.Message.TheVariants.{Interrogate, Connect, Connected, ExtInterrogate, ExtConnect, ExtTally, ExtConnected, DumpAsk, ProtectAsk, ProtectConnect, ProtectDisconnect, ProtectTally, ProtectConnected, ProtectDisconnected, Store, Go, EntryAsk}
 use Rattle.plant_config.specs.Plant.{PlantData}
 use Rattle.plant_config.specs.Sites.{dest_at, level_at}
 use Rattle.change_boards.specs.Board.{next}
@@ -19,14 +19,15 @@ use Rattle.plant_core.specs.declared.answer.Answer.{Answer}
 use Rattle.plant_core.specs.declared.answer.Answer.TheVariants.{Say, Dumped}
 use Rattle.plant_core.specs.State.{State, standing, owner_at}
 use Rattle.plant_core.specs.Connects.{says, says_nothing, change_of, connected}
+use Rattle.plant_core.specs.Wide.{is_wide, tally_of, connected_of}
 use Rattle.plant_core.specs.Protecting.{owner_told, protected, unprotected}
 use Rattle.plant_core.specs.Displays.{display_polled}
 use Rattle.plant_core.specs.Salvos.{stored_in, gone, entry_answer, told_place}
 
--- how many destinations a level has, none where the plant has no such level
+-- how many destinations of a level are dumped: none where the plant has no such level, or it is wide
 abbrev pub dest_count : PlantData → ℕ → ℕ → ℕ
 dest_count plant matrix level =
-    option_map_or (λ at. at.destinations) (level_at plant matrix level) 0
+    option_map_or (λ at. if is_wide at then 0 else at.destinations) (level_at plant matrix level) 0
 
 -- what a dump tells of a place: the source that stands there
 abbrev pub dumped_at : State → Point → Answer
@@ -42,12 +43,17 @@ dumped state matrix level =
 abbrev pub dest_of : State → Point → Option ℕ
 dest_of state at = dest_at state.plant at.matrix at.level at.dest
 
--- What a message of a panel does. The device that a protect or a lift names isn't looked at: it is the panel's own. Neither
--- a report nor a message that asks for names does anything, and none of these is answered here.
+-- What a message of a panel does. The device that a protect or a lift names isn't looked at: it is the panel's own. A report
+-- and a message that asks for names do nothing here.
 abbrev pub answered : State → ℕ → Message → Stepped State Answer
-answered state panel (Interrogate at) = says state (Tally at (standing state at))
+answered state panel (Interrogate at) = says state (tally_of at (standing state at))
+answered state panel (ExtInterrogate at) = says state (ExtTally at (standing state at))
 answered state panel (Connect at source) =
-    connected state panel at source (change_of state.plant at source)
+    connected state panel (Connected at source) (tally_of at (standing state at))
+    (change_of state.plant at source)
+answered state panel (ExtConnect at source) =
+    connected state panel (ExtConnected at source) (ExtTally at (standing state at))
+    (change_of state.plant at source)
 answered state panel (ProtectAsk at) = says state (owner_told ProtectTally at (owner_at state at))
 answered state panel (ProtectConnect at device) = protected state panel at (dest_of state at)
 answered state panel (ProtectDisconnect at device) = unprotected state panel at (dest_of state at)
@@ -61,7 +67,7 @@ answered state panel message = says_nothing state
 
 -- a place and the source that stands there, told as a connect that was made
 abbrev pub told_source : State → Point → Answer
-told_source state at = Say (Connected at (standing state at))
+told_source state at = Say (connected_of at (standing state at))
 
 -- a place and its owner, told as a protect that was made where it has one, else as one that was lifted
 abbrev pub told_owner : Point → Option ℕ → Answer

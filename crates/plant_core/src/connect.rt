@@ -3,15 +3,17 @@
 ghost use Rattle.std.specs.Prelude.{◌≡◌, true, false, [], ◌∷◌, IfSome, IfOk, IfErr};
 ghost use Rattle.crosspoint_state.specs.Crosspoints.{is_idle};
 ghost use Rattle.crosspoint_state.specs.Applied.{applied, are_enough};
+ghost use Rattle.tie_pools.specs.Reserve.{are_enough_for};
 ghost use Rattle.protects.specs.Owners.{allows};
-ghost use Rattle.swp08_messages.specs.declared.message.Message.TheVariants.{Connect};
-ghost use Rattle.plant_core.specs.State.{IsValid, IsChangeOf, device_of};
-ghost use Rattle.plant_core.specs.Connects.{source_wanted, change_of, are_permitted, changed};
-ghost use Rattle.plant_core.specs.Step.{answered};
+ghost use Rattle.plant_core.specs.State.{IsValid, IsChangeOf, standing, device_of, is_master};
+ghost use Rattle.plant_core.specs.Wide.{tells_source, tells_change};
+ghost use Rattle.plant_core.specs.Connects.{source_wanted, change_of, are_permitted};
+ghost use Rattle.plant_core.specs.Connects.{changed, connected};
 ghost use Rattle.plant_core.specs.AnswerInside.{SaysJust};
 
 use crate::due::follow_changes;
 use crate::state::PlantState;
+use crate::wide::tells_change;
 use change_boards::Sort;
 use plant_config::{Change, DestId, PanelNo, SourceId};
 use protects::Protects;
@@ -20,25 +22,35 @@ use swp08_messages::{Message, Point};
 use tie_pools::{Exhausted, Planned};
 
 impl PlantState {
-    // Makes a connect where it is in range and permitted and the ties are enough, and answers so; else answers with the source
-    // that stands.
+    // Makes a connect where it is in range and permitted and the ties that its panel may use are enough, and answers so; else
+    // answers with the source that stands.
     #[inline]
-    pub(crate) fn connect(&mut self, panel: PanelNo, at: Point, source: Option<u16>) -> Message
-        ensures state { self.new ≡ (answered self.old panel (Connect at source)).state }
-        ensures answer { SaysJust (answered self.old panel (Connect at source)) result }
+    pub(crate) fn connect(
+        &mut self,
+        panel: PanelNo,
+        extended: bool,
+        at: Point,
+        source: Option<u16>,
+    ) -> Message
+        ensures state { self.new ≡ (connected self.old panel (tells_change extended at source)
+            (tells_source extended at (standing self.old at))
+            (change_of self.old.plant at source)).state }
+        ensures answer { SaysJust (connected self.old panel (tells_change extended at source)
+            (tells_source extended at (standing self.old at))
+            (change_of self.old.plant at source)) result }
         ensures valid { IsValid self.old }
     {
         let Some(change) = self.change(at, source) else {
-            return self.tally(at);
+            return self.tally(extended, at);
         };
         if !self.may_change(panel, change.dest) {
-            return self.tally(at);
+            return self.tally(extended, at);
         }
-        let Ok(planned) = self.plan(&change) else {
-            return self.tally(at);
+        let Ok(planned) = self.plan(panel, &change) else {
+            return self.tally(extended, at);
         };
         self.make(panel, &change, planned);
-        Message::Connected { at, source }
+        tells_change(extended, at, source)
     }
 
     // Whether no device but the panel's protects a destination.
@@ -79,19 +91,24 @@ impl PlantState {
         self.crosspoints.is_idle(change)
     }
 
-    // Whether the ties are enough for a change.
-    fn plan(&mut self, change: &Change) -> Result<Planned, Exhausted>
+    // Whether the ties that a panel may use are enough for a change.
+    fn plan(&mut self, panel: PanelNo, change: &Change) -> Result<Planned, Exhausted>
         requires { IsChangeOf self.old.plant change.now }
         ensures state { self.new ≡ self.old }
+        ensures permitted { IfOk result
+            (λ _. are_enough_for self.old.plant self.old.crosspoints
+            (is_master self.old.plant panel) (change.now ∷ []) ≡ true) }
         ensures enough { IfOk result
             (λ _. are_enough self.old.plant self.old.crosspoints (change.now ∷ []) ≡ true) }
         ensures exhausted { IfErr result
-            (λ _. are_enough self.old.plant self.old.crosspoints (change.now ∷ []) ≡ false) }
+            (λ _. are_enough_for self.old.plant self.old.crosspoints
+            (is_master self.old.plant panel) (change.now ∷ []) ≡ false) }
     {
+        let master = self.is_master(panel);
         let changes = slice::from_ref(change);
         self.tables
             .ties
-            .plan(&self.plant, &self.crosspoints, changes)
+            .plan(&self.plant, &self.crosspoints, master, changes)
     }
 
     // Makes a panel's change, for which the ties are enough, and gives notice of it to the others, unless it is idle.

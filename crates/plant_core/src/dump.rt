@@ -7,6 +7,7 @@ ghost use Rattle.plant_core.specs.Answer.{room_of};
 
 use crate::answer::{Answer, put};
 use crate::state::PlantState;
+use crate::wide::is_wide;
 use history_lock::OutBox;
 use swp08_messages::Point;
 
@@ -46,15 +47,15 @@ impl PlantState {
         put(told, out);
     }
 
-    // How many destinations a level has, none where the plant has no such level.
+    // How many destinations of a level are dumped, none where the plant has no such level, or it is wide.
     fn dest_count(&self, matrix: u8, level: u8) -> u16
         ensures count { result ≡ dest_count self.now.plant matrix level }
         ensures within { result ≤ room_of self.now.plant }
         ensures valid { IsValid self.now }
     {
         match self.plant.level_at(matrix, level) {
-            Some(at) => at.destinations as u16,
-            None => 0,
+            Some(at) if !is_wide(&at) => at.destinations as u16,
+            _ => 0,
         }
     }
 }

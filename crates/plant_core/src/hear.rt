@@ -5,13 +5,16 @@ ghost use Rattle.std.specs.Option.{option_to_list};
 ghost use Rattle.plant_config.specs.Plant.{destinations_of};
 ghost use Rattle.change_boards.specs.Board.{next};
 ghost use Rattle.change_boards.specs.Notices.{board_of, with_leave, with_take};
+ghost use Rattle.change_boards.specs.declared.sort.Sort.TheVariants.{Protect};
 ghost use Rattle.plant_core.specs.State.{IsValid};
+ghost use Rattle.plant_core.specs.Short.{IsShortDest};
 ghost use Rattle.plant_core.specs.Noticed.{marked_for_others};
 ghost use Rattle.plant_core.specs.Step.{told_for, poll_answers};
 
 use crate::answer::Answer;
 use crate::notify::notify_others;
 use crate::state::PlantState;
+use crate::wide::connected_of;
 use change_boards::Sort;
 use plant_config::{DestId, PanelNo};
 use swp08_messages::Message;
@@ -49,10 +52,7 @@ impl PlantState {
     {
         let at = self.told_place(dest);
         Answer::Say(match sort {
-            Sort::Source => Message::Connected {
-                at,
-                source: self.standing(at),
-            },
+            Sort::Source => connected_of(at, self.standing(at)),
             Sort::Protect => match self.owner(dest) {
                 Some(device) => Message::ProtectConnected {
                     at,
@@ -70,7 +70,8 @@ impl PlantState {
 
     // Gives notice of a destination to all panels but the one that changed it.
     pub(crate) fn give_notice(&mut self, asker: PanelNo, dest: DestId, sort: Sort)
-        requires { dest < destinations_of self.old.plant }
+        requires dest { dest < destinations_of self.old.plant }
+        requires short { sort ≡ Protect → IsShortDest self.old.plant dest }
         ensures { self.new ≡ record self.old {
           boards = marked_for_others self.old.boards asker dest sort;
         } }

@@ -12,8 +12,8 @@ pub fn histories_stay_valid()
     ensures ties { HistoriesKeepTiesValid }
 {}
 
-/// In a history that is legal from a valid state each answer can be spelled, and no entry has more answers than there has
-/// to be room for.
+/// In a history that is legal from a valid state, of which the commands that aren't extended can tell what they alone can
+/// reach, each answer can be spelled, and no entry has more answers than there has to be room for.
 pub fn answers_can_be_sent()
     ensures { LegalAnswersCanBeSent }
 {}

@@ -24,6 +24,7 @@ mod salvo_laws;
 mod state;
 mod tables;
 mod tallies;
+mod wide;
 
 pub use answer::Answer;
 pub use display_laws::{

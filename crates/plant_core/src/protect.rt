@@ -5,7 +5,9 @@ ghost use Rattle.swp08_messages.specs.declared.message.Message.TheVariants.{Prot
 ghost use Rattle.plant_config.specs.Plant.{destinations_of};
 ghost use Rattle.plant_config.specs.Limits.{last_device};
 ghost use Rattle.protects.specs.Owners.{allows, may_lift, taken, lifted};
+ghost use Rattle.swp08_messages.specs.Field.{dests};
 ghost use Rattle.plant_core.specs.State.{IsValid, device_of, is_master, owner_at};
+ghost use Rattle.plant_core.specs.Short.{IsShortDest};
 ghost use Rattle.plant_core.specs.Protecting.{owner_told, with_owners, protected, unprotected};
 ghost use Rattle.plant_core.specs.AnswerInside.{owner_told_from};
 ghost use Rattle.plant_core.specs.Step.{dest_of};
@@ -17,8 +19,19 @@ use plant_config::{DestId, PanelNo};
 use swp08_messages::{Message, Point};
 
 impl PlantState {
-    // Whether a panel may lift any protect.
-    fn is_master(&self, panel: PanelNo) -> bool
+    // The device that a panel acts for.
+    pub(crate) fn device_of(&self, panel: PanelNo) -> u16
+        ensures device { result ≡ device_of self.now.plant panel }
+        ensures within { result ≤ last_device }
+    {
+        match self.plant.panels().get(panel.get() as usize) {
+            Some(found) => found.device,
+            None => 0,
+        }
+    }
+
+    // Whether a panel may lift any protect, and use the ties that are kept for masters.
+    pub(crate) fn is_master(&self, panel: PanelNo) -> bool
         ensures { result ≡ is_master self.now.plant panel }
     {
         match self.plant.panels().get(panel.get() as usize) {
@@ -53,6 +66,7 @@ impl PlantState {
     // the owner.
     #[inline(never)]
     pub(crate) fn protect(&mut self, panel: PanelNo, at: Point) -> Message
+        requires { at.dest < dests }
         ensures state { self.new ≡ (protected self.old panel at (dest_of self.old at)).state }
         ensures answer { SaysJust (protected self.old panel at (dest_of self.old at)) result }
         ensures valid { IsValid self.old }
@@ -72,6 +86,7 @@ impl PlantState {
     // answers with the owner.
     #[inline(never)]
     pub(crate) fn unprotect(&mut self, panel: PanelNo, at: Point) -> Message
+        requires { at.dest < dests }
         ensures state { self.new ≡ (unprotected self.old panel at (dest_of self.old at)).state }
         ensures answer { SaysJust (unprotected self.old panel at (dest_of self.old at)) result }
         ensures valid { IsValid self.old }
@@ -90,6 +105,7 @@ impl PlantState {
     // owner changed, and says whether it is protected now.
     fn take(&mut self, asker: PanelNo, device: u16, dest: DestId) -> bool
         requires dest { dest < destinations_of self.old.plant }
+        requires short { IsShortDest self.old.plant dest }
         requires device { device ≤ last_device }
         ensures state { self.new ≡ with_owners self.old asker dest
             (taken self.old.owners device dest) }
@@ -104,7 +120,8 @@ impl PlantState {
     // Lifts the protect of a destination where no other device protects it or the panel is a master, gives notice of it to
     // the others where its owner changed, and says whether it is unprotected now.
     fn lift(&mut self, asker: PanelNo, dest: DestId) -> bool
-        requires { dest < destinations_of self.old.plant }
+        requires dest { dest < destinations_of self.old.plant }
+        requires short { IsShortDest self.old.plant dest }
         ensures state { self.new ≡ with_owners self.old asker dest
             (lifted self.old.owners (device_of self.old.plant asker)
             (is_master self.old.plant asker) dest) }
@@ -122,6 +139,7 @@ impl PlantState {
     // Protects a destination for a device where no other device protects it.
     fn own(&mut self, device: u16, dest: DestId) -> bool
         requires dest { dest < destinations_of self.old.plant }
+        requires short { IsShortDest self.old.plant dest }
         requires device { device ≤ last_device }
         ensures state { self.new ≡ record self.old {
           owners = taken self.old.owners device dest;
@@ -144,7 +162,8 @@ impl PlantState {
 
     // Gives notice of a destination's owner to all panels but the asker, where it isn't the one of before.
     fn tell_owner(&mut self, asker: PanelNo, dest: DestId, before: Option<u16>)
-        requires { dest < destinations_of self.old.plant }
+        requires dest { dest < destinations_of self.old.plant }
+        requires short { IsShortDest self.old.plant dest }
         ensures { self.new ≡ owner_told_from before self.old asker dest }
     {
         if self.owner(dest) != before {

@@ -6,10 +6,14 @@ ghost use Rattle.swp08_messages.specs.declared.message.Message.TheVariants.{Go, 
 ghost use Rattle.plant_config.specs.Plant.{destinations_of, sources_of};
 ghost use Rattle.plant_config.specs.Sites.{source_number_of};
 ghost use Rattle.crosspoint_state.specs.Applied.{are_enough};
+ghost use Rattle.tie_pools.specs.Reserve.{are_enough_for};
+ghost use Rattle.swp08_messages.specs.Field.{dests};
+ghost use Rattle.swp08_messages.specs.Text.{IsSource};
 ghost use Rattle.salvo_groups.specs.Limits.{salvo_limit};
 ghost use Rattle.salvo_groups.specs.Groups.{group_of, with_store};
 ghost use Rattle.salvo_groups.specs.Answers.{store_answer};
-ghost use Rattle.plant_core.specs.State.{IsValid, IsChangeOf, device_of};
+ghost use Rattle.plant_core.specs.State.{IsValid, IsChangeOf, device_of, is_master};
+ghost use Rattle.plant_core.specs.Short.{IsShortChange};
 ghost use Rattle.plant_core.specs.Connects.{are_permitted, change_of};
 ghost use Rattle.plant_core.specs.Salvos.{stored_in, emptied, all_changed, entry_answer};
 ghost use Rattle.plant_core.specs.Salvos.{told_place, validity_at};
@@ -37,7 +41,9 @@ impl PlantState {
     // Stores an entry in a group where it is in range and the group has room for it, and answers so; else answers nothing.
     #[inline(never)]
     pub(crate) fn store(&mut self, at: Point, source: Option<u16>, salvo: u8) -> Option<Message>
-        requires { salvo < salvo_limit }
+        requires group { salvo < salvo_limit }
+        requires dest { at.dest < dests }
+        requires source { IsSource source }
         ensures state { self.new ≡ (stored_in self.old at source salvo
             (change_of self.old.plant at source)).state }
         ensures answer { SaysAtMost (stored_in self.old at source salvo
@@ -53,7 +59,8 @@ impl PlantState {
         }
     }
 
-    // Clears a group, or takes it whole where it is permitted and the ties are enough, and says which it was.
+    // Clears a group, or takes it whole where it is permitted and the ties that its panel may use are enough, and says which
+    // it was.
     #[inline(never)]
     pub(crate) fn go(&mut self, panel: PanelNo, clear: bool, salvo: u8) -> GoStatus
         requires { salvo < salvo_limit }
@@ -71,7 +78,7 @@ impl PlantState {
         if !self.may_take(panel, salvo) {
             return GoStatus::Protected;
         }
-        let Ok(planned) = self.plan_group(salvo) else {
+        let Ok(planned) = self.plan_group(panel, salvo) else {
             return GoStatus::NoTie;
         };
         self.take_whole(salvo, planned);
@@ -92,6 +99,7 @@ impl PlantState {
     fn put(&mut self, salvo: u8, change: Change) -> Store
         requires group { salvo < salvo_limit }
         requires change { IsChangeOf self.old.plant change }
+        requires short { IsShortChange self.old.plant change }
         ensures state { self.new ≡ record self.old {
           groups = with_store self.old.groups salvo change;
         } }
@@ -108,19 +116,22 @@ impl PlantState {
         self.groups.clear(salvo);
     }
 
-    // Whether the ties are enough for all changes of a group at once.
-    fn plan_group(&mut self, salvo: u8) -> Result<Planned, Exhausted>
+    // Whether the ties that a panel may use are enough for all changes of a group at once.
+    fn plan_group(&mut self, panel: PanelNo, salvo: u8) -> Result<Planned, Exhausted>
         requires { salvo < salvo_limit }
         ensures state { self.new ≡ self.old }
+        ensures permitted { IfOk result (λ _. are_enough_for self.old.plant self.old.crosspoints
+            (is_master self.old.plant panel) (group_of self.old.groups salvo) ≡ true) }
         ensures enough { IfOk result (λ _. are_enough self.old.plant self.old.crosspoints
             (group_of self.old.groups salvo) ≡ true) }
-        ensures exhausted { IfErr result (λ _. are_enough self.old.plant self.old.crosspoints
-            (group_of self.old.groups salvo) ≡ false) }
+        ensures exhausted { IfErr result (λ _. are_enough_for self.old.plant self.old.crosspoints
+            (is_master self.old.plant panel) (group_of self.old.groups salvo) ≡ false) }
     {
+        let master = self.is_master(panel);
         let entries = self.groups.entries(salvo);
         self.tables
             .ties
-            .plan(&self.plant, &self.crosspoints, entries)
+            .plan(&self.plant, &self.crosspoints, master, entries)
     }
 
     // Makes all changes of a group as one, for which the ties are enough, gives notice of the sources that it changes to all

@@ -3,14 +3,14 @@
 ghost use Rattle.std.specs.Prelude.{◌≡◌, ◌<◌, ◌≤◌, [], length, All, Option, IfOk, IfSome};
 ghost use Rattle.std.specs.FinMap.{get};
 ghost use Rattle.swp08_messages.specs.Text.{InRange, kind_of};
-ghost use Rattle.swp08_messages.specs.declared.message.Message.TheVariants.{Tally};
 ghost use Rattle.swp08_messages.specs.declared.message.MessageKind.TheVariants as kinds;
 ghost use Rattle.plant_config.specs.Plant.{destinations_of};
-ghost use Rattle.plant_config.specs.Limits.{last_device};
 ghost use Rattle.crosspoint_state.specs.Crosspoints.{source_of};
 ghost use Rattle.mixer_effects.specs.Live.{is_live};
 ghost use Rattle.tally.specs.Tally.{roots_of};
-ghost use Rattle.plant_core.specs.State.{start, tie_of, standing, device_of, Fits, IsValid};
+ghost use Rattle.plant_core.specs.State.{start, tie_of, standing, Fits, IsValid};
+ghost use Rattle.plant_core.specs.Wide.{tells_source};
+ghost use Rattle.plant_core.specs.Short.{StaysShort};
 ghost use Rattle.plant_core.specs.Step.{step, answered, dest_of};
 ghost use Rattle.plant_core.specs.Answer.{IsSayable, IsAnswerCount, room_of};
 ghost use Rattle.plant_core.specs.AnswerInside.{AsksOther, SaysAtMost};
@@ -19,6 +19,7 @@ use crate::answer::{Answer, put};
 use crate::place::place_of;
 use crate::request::Request;
 use crate::tables::Tables;
+use crate::wide::{is_wide, tells_source};
 use change_boards::{Notices, Shown};
 use crosspoint_state::Crosspoints;
 use due_displays::DueDisplays;
@@ -106,7 +107,13 @@ impl PlantState {
         ensures { result ≡ room_of plant.now }
     {
         let levels = plant.levels().iter();
-        levels.fold(64, |most, level| most.max(level.destinations as usize))
+        levels.fold(64, |most, level| {
+            if is_wide(level) {
+                most
+            } else {
+                most.max(level.destinations as usize)
+            }
+        })
     }
 
     /// The source of a destination, `None` where it is parked.
@@ -158,17 +165,6 @@ impl PlantState {
         self.plant.panels().len() as u32
     }
 
-    // The device that a panel acts for.
-    pub(crate) fn device_of(&self, panel: PanelNo) -> u16
-        ensures device { result ≡ device_of self.now.plant panel }
-        ensures within { result ≤ last_device }
-    {
-        match self.plant.panels().get(panel.get() as usize) {
-            Some(found) => found.device,
-            None => 0,
-        }
-    }
-
     // The destination at a place, `None` where the plant has no such place.
     pub(crate) fn dest_of(&self, at: Point) -> Option<DestId>
         ensures dest { result ≡ dest_of self.now at }
@@ -189,15 +185,22 @@ impl PlantState {
         Some(self.plant.source_number(source))
     }
 
-    // The tally of a place.
-    pub(crate) fn tally(&self, at: Point) -> Message
-        ensures tally { result ≡ Tally at (standing self.now at) }
+    // The tally of a place, for an extended command or another.
+    pub(crate) fn tally(&self, extended: bool, at: Point) -> Message
+        ensures tally { result ≡ tells_source extended at (standing self.now at) }
         ensures valid { IsValid self.now }
     {
-        Message::Tally {
-            at,
-            source: self.standing(at),
-        }
+        tells_source(extended, at, self.standing(at))
+    }
+
+    // Nothing is done: what is kept of a state holds.
+    // kit: a body that only calls methods doesn't know the invariant.
+    #[inline(always)]
+    fn is_kept(&self)
+        ensures valid { IsValid self.now }
+        ensures short { StaysShort self.now }
+    {
+        let _plant = &self.plant;
     }
 
     /// One event: what it does to the state, and its answers, which can be spelled. It takes no memory.
@@ -214,6 +217,7 @@ impl PlantState {
         ensures places { out.new.places ≡ out.old.places }
         ensures plant { self.new.plant ≡ self.old.plant }
     {
+        self.is_kept();
         match request {
             Request::Told { panel, message, .. } => self.answer(*panel, message, out),
             Request::Poll { panel, .. } => {
@@ -240,9 +244,9 @@ impl PlantState {
         ensures valid { IsValid self.old }
     {
         match *message {
-            Message::Interrogate { at } => put(Answer::Say(self.tally(at)), out),
+            Message::Interrogate { at } => put(Answer::Say(self.tally(false, at)), out),
             Message::Connect { at, source } => {
-                put(Answer::Say(self.connect(panel, at, source)), out)
+                put(Answer::Say(self.connect(panel, false, at, source)), out)
             }
             Message::DumpAsk { matrix, level } => self.dump(matrix, level, out),
             other => self.answer_other(panel, other, out),
@@ -276,6 +280,8 @@ impl PlantState {
         ensures valid { IsValid self.old }
     {
         match message {
+            Message::ExtInterrogate { at } => Some(self.tally(true, at)),
+            Message::ExtConnect { at, source } => Some(self.connect(panel, true, at, source)),
             Message::ProtectAsk { at } => Some(self.protect_tally(at)),
             Message::ProtectConnect { at, .. } => Some(self.protect(panel, at)),
             Message::ProtectDisconnect { at, .. } => Some(self.unprotect(panel, at)),

@@ -1,6 +1,6 @@
-use Rattle.swp08_messages.specs.declared.message.Message.TheVariants.{Connect}
 use Rattle.plant_core.specs.declared.request.Request.{Request}
 use Rattle.plant_core.specs.declared.request.Request.TheVariants.{Told}
+use Rattle.plant_core.specs.Wide.{asks_change}
 use Rattle.plant_core.specs.Step.{step}
 use Rattle.plant_core.proofs.Steps.{connect-IsMade}
 use Rattle.plant_core.proofs.StepValidity.{IsValid-step}
@@ -8,6 +8,6 @@ use Rattle.plant_core.proofs.StepLeaves.{keep}
 use Rattle.plant_core.proofs.laws.connects_stand.Goals as goal
 
 pub returns : goal.returns
-returns c state panel item at source later valid is alone =
-    let request : Request = Told panel item (Connect at source) in
-    keep (step state request).state at later source (IsValid-step state request valid) alone (connect-IsMade state panel item at source valid is).stands
+returns c state panel item extended at source later valid is alone =
+    let request : Request = Told panel item (asks_change extended at source) in
+    keep (step state request).state at later source (IsValid-step state request valid) alone (connect-IsMade state panel item extended at source valid is).stands

@@ -1,7 +1,14 @@
 use Rattle.plant_core.proofs.Validity.{IsValid-start, IsValid-applied}
 use Rattle.plant_core.proofs.StepValidity.{IsValid-step}
 use Rattle.plant_core.proofs.StepLeaves.{plant-step}
+use Rattle.plant_core.proofs.ShortLemmas.{StaysShort-start, StaysShort-step}
 use Rattle.plant_core.proofs.laws.states_stay_valid.Goals as goal
+
+pub returns-clause-first_short : goal.returns-clause-first_short
+returns-clause-first_short c = StaysShort-start
+
+pub returns-clause-short : goal.returns-clause-short
+returns-clause-short c = StaysShort-step
 
 pub returns-clause-first : goal.returns-clause-first
 returns-clause-first c = IsValid-start

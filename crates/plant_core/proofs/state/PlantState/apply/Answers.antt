@@ -20,6 +20,7 @@ invariant_of-self c =
     subst (λ (due : Due). FollowValues c.self.inside.plant c.self.inside.crosspoints.entries c.make.new.points.entries due c.follow_changes.new.due) c.deref_mut-2.ensures.value (c.follow_changes.ensures c.self.inside.crosspoints.entries turned) in
     record {
       valid = rw (c.make.ensures.made, c.from_ref-changes.ensures.value) (IsValid-one (state_of c.self.inside.plant c.self.inside.crosspoints c.self.inside.protects c.self.inside.groups c.self.inside.notices c.self.inside.shown) c.args.change.now c.self.invariant.valid is enough);
+      short = record { owners = c.self.invariant.short.owners; notices = c.self.invariant.short.notices; changes = c.self.invariant.short.changes };
       room = record { crosspoints = c.make.ensures.kept; protects = c.self.invariant.room.protects };
       beside = c.make.ensures.tables;
       due = kept_followed c.self.inside.plant c.self.inside.crosspoints.entries c.make.new.points.entries c.self.inside.shown c.self.inside.due.value c.follow_changes.new.due follow c.self.invariant.due;

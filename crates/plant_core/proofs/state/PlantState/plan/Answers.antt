@@ -1,7 +1,8 @@
 use Rattle.std.proofs.Common.{◌≡◌, false, [], ◌∷◌}
 use Rattle.std.proofs.lemmas.Result.{IfErr-weaker}
-use Rattle.crosspoint_state.specs.Applied.{are_enough}
+use Rattle.tie_pools.specs.Reserve.{are_enough_for}
 use Rattle.tie_pools.specs.Plans.{IsExhausted}
+use Rattle.plant_core.specs.State.{is_master}
 use Rattle.plant_core.proofs.Changes.{once-one, inside-one}
 use Rattle.plant_core.proofs.Outcomes.{too_few}
 use Rattle.plant_core.proofs.state.PlantState.plan.Goals as goal
@@ -17,7 +18,7 @@ plan-requires c =
 
 pub returns-clause-exhausted : goal.returns-clause-exhausted
 returns-clause-exhausted c =
-    let short = rw c.from_ref-changes.ensures.value at c.plan.ensures.exhausted in
+    let short = rw (c.from_ref-changes.ensures.value, c.is_master-master.ensures, ← c.self.view_is) at c.plan.ensures.exhausted in
     rw (← c.self.view_is)
-    (IfErr-weaker c.plan.result (IsExhausted c.self.inside.plant c.self.inside.crosspoints.entries (c.args.change.now ∷ [])) (λ fault. are_enough c.self.inside.plant c.self.inside.crosspoints.entries (c.args.change.now ∷ []) ≡ false)
-    (too_few c.self.inside.plant c.self.inside.crosspoints.entries (c.args.change.now ∷ [])) short)
+    (IfErr-weaker c.plan.result (IsExhausted c.self.inside.plant c.self.inside.crosspoints.entries (is_master c.self.inside.plant c.args.panel) (c.args.change.now ∷ [])) (λ fault. are_enough_for c.self.inside.plant c.self.inside.crosspoints.entries (is_master c.self.inside.plant c.args.panel) (c.args.change.now ∷ []) ≡ false)
+    (too_few c.self.inside.plant c.self.inside.crosspoints.entries (is_master c.self.inside.plant c.args.panel) (c.args.change.now ∷ [])) short)

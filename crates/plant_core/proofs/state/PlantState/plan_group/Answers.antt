@@ -1,8 +1,9 @@
 use Rattle.std.proofs.Common.{◌≡◌, false}
 use Rattle.std.proofs.lemmas.Result.{IfErr-weaker}
-use Rattle.crosspoint_state.specs.Applied.{are_enough}
+use Rattle.tie_pools.specs.Reserve.{are_enough_for}
 use Rattle.tie_pools.specs.Plans.{IsExhausted}
 use Rattle.salvo_groups.specs.Groups.{Group, group_of}
+use Rattle.plant_core.specs.State.{is_master}
 use Rattle.plant_core.specs.StateInside.{state_of}
 use Rattle.plant_core.proofs.Outcomes.{too_few}
 use Rattle.plant_core.proofs.StepValidity.{entries-inside}
@@ -18,7 +19,7 @@ plan-requires c = record {
 pub returns-clause-exhausted : goal.returns-clause-exhausted
 returns-clause-exhausted c =
     let group : Group = group_of c.self.inside.groups c.args.salvo in
-    let short = rw c.entries-entries.ensures.entries at c.plan.ensures.exhausted in
+    let short = rw (c.entries-entries.ensures.entries, c.is_master-master.ensures, ← c.self.view_is) at c.plan.ensures.exhausted in
     rw (← c.self.view_is)
-    (IfErr-weaker c.plan.result (IsExhausted c.self.inside.plant c.self.inside.crosspoints.entries group) (λ fault. are_enough c.self.inside.plant c.self.inside.crosspoints.entries group ≡ false)
-    (too_few c.self.inside.plant c.self.inside.crosspoints.entries group) short)
+    (IfErr-weaker c.plan.result (IsExhausted c.self.inside.plant c.self.inside.crosspoints.entries (is_master c.self.inside.plant c.args.panel) group) (λ fault. are_enough_for c.self.inside.plant c.self.inside.crosspoints.entries (is_master c.self.inside.plant c.args.panel) group ≡ false)
+    (too_few c.self.inside.plant c.self.inside.crosspoints.entries (is_master c.self.inside.plant c.args.panel) group) short)

@@ -24,6 +24,7 @@ invariant_of-self c = record {
   valid =
       IsValid-shown (state_of c.self.inside.plant c.self.inside.crosspoints c.self.inside.protects c.self.inside.groups c.self.inside.notices c.self.inside.shown) c.forget.new.self c.self.invariant.valid
       (subst (AreShown c.self.inside.plant) (sym c.forget.ensures) (AreShown-forgotten c.displays-displays.result.now c.self.inside.plant c.self.inside.shown c.self.invariant.valid.shown));
+  short = record { owners = c.self.invariant.short.owners; notices = c.self.invariant.short.notices; changes = c.self.invariant.short.changes };
   room = c.self.invariant.room;
   beside = c.self.invariant.beside;
   due =

@@ -31,6 +31,7 @@ invariant_of-self c =
           IsValid-shown (state_of c.self.inside.plant c.self.inside.crosspoints c.self.inside.protects c.self.inside.groups c.self.inside.notices c.self.inside.shown) c.show_first.new.shown c.self.invariant.valid
           (subst (AreShown c.self.inside.plant) (sym c.show_first.ensures.shown)
           (AreShown-shown_all (first_differing values c.self.inside.shown c.displays-displays.result.now) c.self.inside.plant c.self.inside.crosspoints.entries c.self.inside.shown c.self.invariant.valid.is_crosspoint c.self.invariant.valid.shown));
+      short = record { owners = c.self.invariant.short.owners; notices = c.self.invariant.short.notices; changes = c.self.invariant.short.changes };
       room = c.self.invariant.room;
       beside = c.self.invariant.beside;
       due = c.show_first.ensures.due;

@@ -4,12 +4,14 @@ use Rattle.plant_core.specs.State.{State}
 use Rattle.plant_core.specs.StateInside.{state_of}
 use Rattle.plant_core.proofs.Validity.{IsValid-take}
 use Rattle.plant_core.proofs.TellLemmas.{next-below}
+use Rattle.plant_core.proofs.ShortLemmas.{StaysShort-take}
 use Rattle.plant_core.proofs.state.PlantState.take_notice.Goals as goal
 
 pub invariant_of-self : goal.invariant_of-self
 invariant_of-self c =
     record {
       valid = rw c.take_lowest.ensures.taken (IsValid-take (state_of c.self.inside.plant c.self.inside.crosspoints c.self.inside.protects c.self.inside.groups c.self.inside.notices c.self.inside.shown) c.args.panel c.self.invariant.valid);
+      short = rw c.take_lowest.ensures.taken (StaysShort-take (state_of c.self.inside.plant c.self.inside.crosspoints c.self.inside.protects c.self.inside.groups c.self.inside.notices c.self.inside.shown) c.args.panel c.self.invariant.short);
       room = c.self.invariant.room;
       beside = c.self.invariant.beside;
       due = c.self.invariant.due;

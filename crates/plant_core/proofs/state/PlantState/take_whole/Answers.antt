@@ -4,6 +4,7 @@ use Rattle.plant_core.specs.declared.tables.Tables.{Tables}
 use Rattle.plant_core.specs.StateInside.{state_of}
 use Rattle.plant_core.specs.DueInside.{HaveTurned, FollowValues}
 use Rattle.plant_core.proofs.StepValidity.{IsValid-taken_whole}
+use Rattle.plant_core.proofs.ShortLemmas.{StaysShort-taken_whole}
 use Rattle.plant_core.proofs.TurnLemmas.{kept_followed}
 use Rattle.plant_core.proofs.state.PlantState.take_whole.Goals as goal
 
@@ -18,6 +19,7 @@ invariant_of-self c =
       valid =
           rw (c.clear.ensures, c.make.ensures.made, c.notify_moved.ensures, c.entries-entries.ensures.entries)
           (IsValid-taken_whole (state_of c.self.inside.plant c.self.inside.crosspoints c.self.inside.protects c.self.inside.groups c.self.inside.notices c.self.inside.shown) c.args.salvo c.self.invariant.valid enough);
+      short = rw (c.clear.ensures, c.make.ensures.made, c.notify_moved.ensures, c.entries-entries.ensures.entries) (StaysShort-taken_whole (state_of c.self.inside.plant c.self.inside.crosspoints c.self.inside.protects c.self.inside.groups c.self.inside.notices c.self.inside.shown) c.args.salvo c.self.invariant.short);
       room = record { crosspoints = c.make.ensures.kept; protects = c.self.invariant.room.protects };
       beside = c.make.ensures.tables;
       due = kept_followed c.self.inside.plant c.self.inside.crosspoints.entries c.make.new.points.entries c.self.inside.shown c.self.inside.due.value c.follow_changes.new.due follow c.self.invariant.due;
