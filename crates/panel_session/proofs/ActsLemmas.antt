@@ -27,6 +27,7 @@ use Rattle.panel_session.specs.SoFar.{Progress, read_so_far, entries_so_far, wit
 use Rattle.panel_session.specs.TakenInside.{taken_phase, sent_by}
 use Rattle.panel_session.specs.Text.{frames_of, with_frames, nothing_sent}
 use Rattle.panel_session.specs.StandsInside.{Kept, Keeps, IsAtStage}
+use Rattle.panel_session.specs.NamesLeftInside.{AreLeft, NamesNone, stage_of}
 use Rattle.panel_session.specs.Session.{Stands, kept_of}
 use Rattle.panel_session.specs.ReadingInside.{IsReading, HasTaken}
 use Rattle.plant_core.specs.Answer.{room_of}
@@ -34,7 +35,8 @@ use Rattle.panel_session.specs.MovesInside.{next, took, took_answers, ended_turn
 use Rattle.panel_session.proofs.KeptTurnLemmas.{keeps_so_far, keeps_polled_more, keeps_turn, keeps_nothing, keeps_text, turn_over, bytes_of-append}
 use Rattle.panel_session.proofs.KeptItemLemmas.{reading, read-more}
 use Rattle.panel_session.proofs.KeepsLemmas.{entries-polled, keeps_polled_last}
-use Rattle.panel_session.proofs.StandsLemmas.{next-small, answers_one, fewer_items, phase-is, kept_same, kept_whole, at_phase, stands_item, stands_none, stands_with}
+use Rattle.panel_session.proofs.NamesLeftLemmas.{none_left, quiet_at}
+use Rattle.panel_session.proofs.StandsLemmas.{next-small, answers_one, fewer_items, phase-is, kept_same, kept_whole, at_phase, stands_item, stands_none, stands_with, taken_plain}
 
 -- a poll of a session, with its answers
 abbrev polled_entry : ℕ → Session → List Answer → PlantEntry
@@ -49,7 +51,7 @@ pub stands_polled_last : (plant : PlantData) (panel seat : ℕ) (session : Sessi
     (with_entry (record { seat = seat; request = Poll session.panel session.items session.counts.turns; answers = answers }) past)
 stands_polled_last plant panel seat session past polls answers unsent stands poll none empty some is last =
     let KeepsOf : Kept → Type 0 = λ kept. Keeps plant kept past in
-    let k = subst KeepsOf (at_phase session PollStage poll none) stands.keeps in
+    let k = subst KeepsOf (at_phase session PollStage poll tt none) stands.keeps in
     let later = with_entry (record { seat = seat; request = Poll session.panel session.items session.counts.turns; answers = answers }) past in
     let KeepsAt : ℕ → Type 0 = λ polls. Keeps plant (record {
       panel = session.panel;
@@ -61,7 +63,7 @@ stands_polled_last plant panel seat session past polls answers unsent stands pol
       unsent = unsent;
     }) later in
     let full : (answers ≡ []) ⊎ (session.polls + 1 ≡ 32) = elim last [ (inl none) ↦ inl none | (inr full) ↦ inr (sym is ∙ full) ] in
-    stands_with plant panel session (took_answers answers unsent (record session { phase = End; polls = polls })) past later stands refl refl refl refl refl refl refl refl
+    stands_with plant panel session (took_answers answers unsent (record session { phase = End; polls = polls })) past later stands refl refl refl refl refl refl refl refl tt
     (subst KeepsAt (sym is) (keeps_polled_last plant session.panel session.items session.counts.turns session.polls seat session.sender.output past answers unsent k empty full))
     (λ unsent. (some unsent, answers_one plant later (entries_so_far past) (polled_entry seat session answers) session.sender.output (entries-polled past.turns past.now.told past.now.polls (polled_entry seat session answers))))
 
@@ -74,7 +76,7 @@ pub stands_polled_more : (plant : PlantData) (panel seat : ℕ) (session : Sessi
     (with_entry (record { seat = seat; request = Poll session.panel session.items session.counts.turns; answers = answers }) past)
 stands_polled_more plant panel seat session past polls answers unsent stands poll none empty some is one below =
     let KeepsOf : Kept → Type 0 = λ kept. Keeps plant kept past in
-    let k = subst KeepsOf (at_phase session PollStage poll none) stands.keeps in
+    let k = subst KeepsOf (at_phase session PollStage poll tt none) stands.keeps in
     let later = with_entry (record { seat = seat; request = Poll session.panel session.items session.counts.turns; answers = answers }) past in
     let KeepsAt : ℕ → Type 0 = λ polls. Keeps plant (record {
       panel = session.panel;
@@ -85,7 +87,7 @@ stands_polled_more plant panel seat session past polls answers unsent stands pol
       output = with_frames (frames_of answers) (emptied session.sender.output);
       unsent = unsent;
     }) later in
-    stands_with plant panel session (took_answers answers unsent (record session { phase = PollStage; polls = polls })) past later stands refl refl refl refl refl refl refl refl
+    stands_with plant panel session (took_answers answers unsent (record session { phase = PollStage; polls = polls })) past later stands refl refl refl refl refl refl refl refl tt
     (subst KeepsAt (sym is) (keeps_polled_more plant session.panel session.items session.counts.turns session.polls seat session.sender.output past answers unsent k empty one (λ full. below (is ∙ full))))
     (λ unsent. (some unsent, answers_one plant later (entries_so_far past) (polled_entry seat session answers) session.sender.output (entries-polled past.turns past.now.told past.now.polls (polled_entry seat session answers))))
 
@@ -94,7 +96,7 @@ pub polls_below : (plant : PlantData) (panel : ℕ) (session : Session) (past : 
 polls_below plant panel session past stands poll =
     let k = stands.keeps in
     let at : IsAtStage PollStage session.panel (length (items (bytes_read past.turns))) k.before k.asked past =
-    (let P : Phase → Type 0 = λ phase. IsAtStage phase session.panel (length (items (bytes_read past.turns))) k.before k.asked past in subst P poll k.phase) in
+    (let P : Phase → Type 0 = λ phase. IsAtStage (stage_of phase) session.panel (length (items (bytes_read past.turns))) k.before k.asked past in subst P poll k.phase) in
     let are : session.polls ≡ length past.now.polls = k.polls_are in
     omega (arith, at.1.more)
 
@@ -103,7 +105,7 @@ pub stands_turn : (plant : PlantData) (panel : ℕ) (session : Session) (past : 
     → IsOver plant panel past × Stands plant panel (ended_turn session) (with_turn past)
 stands_turn plant panel session past stands over none small =
     let KeepsOf : Kept → Type 0 = λ kept. Keeps plant kept past in
-    let k = subst KeepsOf (at_phase session End over none) stands.keeps in
+    let k = subst KeepsOf (at_phase session End over tt none) stands.keeps in
     let KeepsThen : Kept → Type 0 = λ kept. Keeps plant kept (with_turn past) in
     let turns_are : session.counts.turns ≡ length past.turns = k.turns_are in
     let one_more : next session.counts.turns ≡ session.counts.turns + 1 = next-small session.counts.turns (omega arith) in
@@ -111,11 +113,11 @@ stands_turn plant panel session past stands over none small =
     let read : read_so_far (with_turn past) ≡ read_so_far past = append-nil (bytes_read (past.turns ++ past.now ∷ [])) ∙ bytes_of-append past.turns past.now in (
       record {
         turn = subst TurnOf stands.panel_is (turn_over plant session.panel session.items session.counts.turns session.polls session.sender.output past k);
-        text = keeps_text plant (kept_of session) past none stands.keeps;
+        text = keeps_text plant (kept_of session) past (quiet_at session.phase End session.unsent over tt none) stands.keeps;
       },
-      stands_with plant panel session (ended_turn session) past (with_turn past) stands read refl refl refl refl refl refl refl
+      stands_with plant panel session (ended_turn session) past (with_turn past) stands read refl refl refl refl refl refl refl tt
           (subst KeepsThen
-          (sym (kept_whole (ended_turn session) none
+          (sym (kept_whole (ended_turn session) tt none
           ∙ kept_same session.panel 0 session.sender.output Read Read session.items session.items (next session.counts.turns) (session.counts.turns + 1) session.unsent false refl refl one_more none))
           (keeps_turn plant session.panel session.items session.counts.turns session.polls session.sender.output past k))
           (λ unsent. absurd (false≢true (sym none ∙ unsent))),
@@ -123,9 +125,9 @@ stands_turn plant panel session past stands over none small =
 
 -- A session to which nothing happened.
 pub stands_new : (plant : PlantData) (panel : ℕ) (session : Session) → session.plant.now ≡ plant → session.sender.names ≡ plant → session.panel ≡ panel → panel < length plant.panels → framer.StandsFor session.framer []
-    → kept_of session ≡ reading panel 0 0 0 nothing_sent → session.unsent ≡ false → session.counts.goods ≡ 0 → session.counts.bads ≡ 0 → session.outbox.places ≡ room_of plant
+    → kept_of session ≡ reading panel 0 0 0 nothing_sent → session.phase ≡ Read → session.unsent ≡ false → session.counts.goods ≡ 0 → session.counts.bads ≡ 0 → session.outbox.places ≡ room_of plant
     → Stands plant panel session nothing_yet
-stands_new plant panel session plant_is names_are panel_is has_panel fed kept unsent goods bads places =
+stands_new plant panel session plant_is names_are panel_is has_panel fed kept read unsent goods bads places =
     let KeepsOf : Kept → Type 0 = λ kept. Keeps plant kept nothing_yet in
     let none : items [] ≡ [] = ap (λ (reading : Reading). reading.items) (reading-by_start []) in
     record {
@@ -139,6 +141,7 @@ stands_new plant panel session plant_is names_are panel_is has_panel fed kept un
       bads = bads ∙ ap bads_of (sym none);
       some = λ is. absurd (false≢true (sym unsent ∙ is));
       one = λ is. absurd (false≢true (sym unsent ∙ is));
+      left = none_left (AreLeft plant nothing_yet) session.phase (subst NamesNone (sym read) tt);
       places = places;
     }
 
@@ -224,6 +227,7 @@ has_taken_item plant panel session after past piece used a framer_then send read
         quiet_then,
         (λ gone. some refl (sym (sent refl) ∙ gone)),
         (λ poll. no_poll_phase a (sym staged ∙ poll)),
+        subst NamesNone (sym staged) (taken_plain a),
       )
       | false ↦ λ some sent none quiet. record {
         stands = (let NowAt : Progress → Type 0 = λ past. Stands plant panel after past in

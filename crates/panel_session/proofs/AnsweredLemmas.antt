@@ -11,7 +11,7 @@ use Rattle.plant_core.specs.declared.answer.Answer.{Answer}
 use Rattle.plant_core.specs.declared.request.Request.{Request}
 use Rattle.panel_session.specs.declared.session.Session.{Session}
 use Rattle.panel_session.specs.declared.session.phase.Phase.{Phase}
-use Rattle.panel_session.specs.declared.session.phase.Phase.TheVariants.{Read, Tell, Poll as PollStage, End}
+use Rattle.panel_session.specs.declared.session.phase.Phase.TheVariants.{Read, Name, Tell, Poll as PollStage, End}
 use Rattle.panel_session.specs.Entry.{PlantEntry}
 use Rattle.panel_session.specs.OneSend.{bytes_in}
 use Rattle.panel_session.specs.OutgoingInside.{emptied}
@@ -24,6 +24,7 @@ use Rattle.panel_session.specs.SoFar.{Progress, entries_so_far, nothing_yet, rea
 use Rattle.panel_session.specs.Text.{IsText, frames_of, nothing_sent, output_from, with_frames}
 use Rattle.panel_session.specs.Turns.{bytes_read}
 use Rattle.panel_session.proofs.KeptTurnLemmas.{keeps_text}
+use Rattle.panel_session.proofs.NamesLeftLemmas.{polled_plain, unsent_plain}
 use Rattle.panel_session.proofs.RoomLemmas.{fits-all}
 use Rattle.panel_session.proofs.SentLemmas.{polled_sent, told_sent}
 use Rattle.panel_session.proofs.TextFronts.{all_ask, text_front, text_once}
@@ -116,7 +117,7 @@ behind_poll (answer ∷ answers) polls = elim (eqb_tells polls 32) [
 ]
 
 -- What was sent, and then the frames of the answers, is the text with their entry.
-says_sent : (plant : PlantData) (panel : ℕ) (session after : Session) (past : Progress) (entry : PlantEntry) (fit : List Answer) → fit ≡ entry.answers → after.unsent ≡ false
+says_sent : (plant : PlantData) (panel : ℕ) (session after : Session) (past : Progress) (entry : PlantEntry) (fit : List Answer) → fit ≡ entry.answers → (kept_of after).unsent ≡ false
     → StandsFor plant panel after (with_sent (with_frames (frames_of fit) (emptied session.sender.output)).bytes (with_entry entry past)) → SaysWith plant entry past
 unfolding StandsFor
 says_sent plant panel session after past entry fit fits none stands =
@@ -139,9 +140,10 @@ says_answers plant panel seat session past request answers awaits few = at sessi
 
   at : (phase : Phase) → session.phase ≡ phase → AsksAt phase (kept_of session) request → SaysWith plant entry past
   at Read is asks = absurd asks
+  at (Name page) is asks = absurd asks
   at (Tell message) is asks = says_sent plant panel session _ past entry (fitting session.sender.names answers) fits refl (told_sent plant panel seat session past request message answers awaits few is)
   at PollStage is asks =
       let polls = (session.polls + 1) % 2 ^ 32 in
       let next = behind_poll answers polls in
-      says_sent plant panel session _ past entry (fitting session.sender.names answers) fits refl (polled_sent plant panel seat session past request next.0 polls answers awaits few is refl next.1)
+      says_sent plant panel session _ past entry (fitting session.sender.names answers) fits (unsent_plain next.0 false (polled_plain answers polls next.0 next.1)) (polled_sent plant panel seat session past request next.0 polls answers awaits few is refl next.1)
   at End is asks = absurd asks

@@ -17,7 +17,7 @@ use Rattle.plant_core.proofs.HistoryLemmas.{last_sent}
 use Rattle.plant_core.proofs.Validity.{IsValid-start}
 use Rattle.panel_session.specs.declared.session.Session.{Session}
 use Rattle.panel_session.specs.declared.session.phase.Phase.{Phase}
-use Rattle.panel_session.specs.declared.session.phase.Phase.TheVariants.{Read, Tell, Poll as PollStage, End}
+use Rattle.panel_session.specs.declared.session.phase.Phase.TheVariants.{Read, Name, Tell, Poll as PollStage, End}
 use Rattle.panel_session.specs.Entry.{PlantEntry}
 use Rattle.panel_session.specs.MostAnswers.{most_answers}
 use Rattle.panel_session.specs.Served.{PlantSeat}
@@ -43,6 +43,7 @@ answer_few plant entry is sent = omega (arith, sent.within, room_within plant is
 -- a session asks nothing of a screen
 reply_at : (phase : Phase) (kept : Kept) (request : Request) (plant : PlantData) (answers : List Answer) → AsksAt phase kept request → MayReply plant request answers
 reply_at Read kept request plant answers asks = absurd asks
+reply_at (Name page) kept request plant answers asks = absurd asks
 reply_at (Tell message) kept request plant answers asks =
     let P : Request → Type 0 = λ request. MayReply plant request answers in
     subst P (sym asks) tt

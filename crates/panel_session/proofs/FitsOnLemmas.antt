@@ -12,7 +12,7 @@ use Rattle.plant_core.specs.declared.request.Request.TheVariants.{Told}
 use Rattle.panel_session.specs.declared.session.asked.Asked.{Asked}
 use Rattle.panel_session.specs.declared.session.asked.Asked.TheVariants.{Nothing, Repeat, Refused, Noted, Named, Sent}
 use Rattle.panel_session.specs.declared.session.phase.Phase.{Phase}
-use Rattle.panel_session.specs.declared.session.phase.Phase.TheVariants.{Read, Tell, Poll as PollStage, End}
+use Rattle.panel_session.specs.declared.session.phase.Phase.TheVariants.{Read, Name, Tell, Poll as PollStage, End}
 use Rattle.panel_session.specs.declared.session.Session.{Session}
 use Rattle.panel_session.specs.Asked.{sent_to_plant}
 use Rattle.panel_session.specs.Entry.{PlantEntry}
@@ -136,6 +136,9 @@ polls_on plant kept past k some Read is =
     let P : Phase → Type 0 = λ phase. IsAtStage phase kept.panel (length (items (bytes_read past.turns))) k.before k.asked past in
     let at = subst P is k.phase in
     absurd (some at.1)
+polls_on plant kept past k some (Name page) is =
+    let P : Phase → Type 0 = λ phase. IsAtStage phase kept.panel (length (items (bytes_read past.turns))) k.before k.asked past in
+    absurd (subst P is k.phase)
 polls_on plant kept past k some (Tell message) is =
     let P : Phase → Type 0 = λ phase. IsAtStage phase kept.panel (length (items (bytes_read past.turns))) k.before k.asked past in
     let at = subst P is k.phase in

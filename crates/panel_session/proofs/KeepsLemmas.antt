@@ -13,7 +13,7 @@ use Rattle.plant_core.specs.declared.request.Request.TheVariants.{Told, Poll}
 use Rattle.panel_session.specs.declared.session.asked.Asked.{Asked}
 use Rattle.panel_session.specs.declared.session.asked.Asked.TheVariants.{Sent}
 use Rattle.panel_session.specs.declared.session.phase.Phase.{Phase}
-use Rattle.panel_session.specs.declared.session.phase.Phase.TheVariants.{Read, Tell, Poll as PollStage, End}
+use Rattle.panel_session.specs.declared.session.phase.Phase.TheVariants.{Read, Name, Tell, Poll as PollStage, End}
 use Rattle.panel_session.specs.Entry.{PlantEntry}
 use Rattle.panel_session.specs.Asked.{sent_to_plant}
 use Rattle.panel_session.specs.Turns.{bytes_read, entries_of_turns, Turn}
@@ -28,6 +28,7 @@ use Rattle.panel_session.proofs.KeptItemLemmas.{length-asked, length-before, no_
 -- The phase says the same once bytes were sent.
 phase-sent : (phase : Phase) (panel first : ℕ) (before asked : List Asked) (past : Progress) (sent : List ℕ) → IsAtStage phase panel first before asked past → IsAtStage phase panel first before asked (with_sent sent past)
 phase-sent Read panel first before asked past sent at = at
+phase-sent (Name page) panel first before asked past sent at = at
 phase-sent (Tell message) panel first before asked past sent at = at
 phase-sent PollStage panel first before asked past sent at = at
 phase-sent End panel first before asked past sent at = at
@@ -83,6 +84,7 @@ keeps_bytes plant kept past bytes none k =
 phase-unsent : (phase : Phase) (panel first : ℕ) (before asked : List Asked) (past : Progress) (sent other : List ℕ) → IsAtStage phase panel first before asked (with_sent sent past)
     → IsAtStage phase panel first before asked (with_sent other past)
 phase-unsent Read panel first before asked past sent other at = at
+phase-unsent (Name page) panel first before asked past sent other at = at
 phase-unsent (Tell message) panel first before asked past sent other at = at
 phase-unsent PollStage panel first before asked past sent other at = at
 phase-unsent End panel first before asked past sent other at = at

@@ -15,7 +15,7 @@ use Rattle.plant_core.specs.declared.request.Request.TheVariants.{Poll}
 use Rattle.panel_session.specs.declared.session.asked.Asked.{Asked}
 use Rattle.panel_session.specs.declared.session.asked.Asked.TheVariants.{Nothing, Repeat, Refused, Noted, Named, Sent}
 use Rattle.panel_session.specs.declared.session.phase.Phase.{Phase}
-use Rattle.panel_session.specs.declared.session.phase.Phase.TheVariants.{Read, Tell, Poll as PollStage, End}
+use Rattle.panel_session.specs.declared.session.phase.Phase.TheVariants.{Read, Name, Tell, Poll as PollStage, End}
 use Rattle.panel_session.specs.Entry.{PlantEntry}
 use Rattle.plant_core.specs.State.{IsForPlant}
 use Rattle.panel_session.specs.Asked.{Asks, sent_to_plant}
@@ -124,6 +124,7 @@ taken plant a panel items turns polls output =
 -- The phase says the same of a past in which more bytes were used and sent.
 phase-past : (phase : Phase) (panel first : ℕ) (before asked : List Asked) (past : Progress) (bytes sent : List ℕ) → (phase ≡ End → ⊥) → IsAtStage phase panel first before asked past → IsAtStage phase panel first before asked (with_sent sent (with_bytes bytes past))
 phase-past Read panel first before asked past bytes sent running at = at
+phase-past (Name page) panel first before asked past bytes sent running at = at
 phase-past (Tell message) panel first before asked past bytes sent running at = at
 phase-past PollStage panel first before asked past bytes sent running at = at
 phase-past End panel first before asked past bytes sent running at = absurd (running refl)

@@ -13,7 +13,7 @@ use Rattle.plant_core.specs.declared.request.Request.TheVariants.{Poll}
 use Rattle.panel_session.specs.declared.session.asked.Asked.{Asked}
 use Rattle.panel_session.specs.declared.session.asked.Asked.TheVariants.{Sent}
 use Rattle.panel_session.specs.declared.session.phase.Phase.{Phase}
-use Rattle.panel_session.specs.declared.session.phase.Phase.TheVariants.{Read, Tell, Poll as PollStage, End}
+use Rattle.panel_session.specs.declared.session.phase.Phase.TheVariants.{Read, Name, Tell, Poll as PollStage, End}
 use Rattle.panel_session.specs.Entry.{PlantEntry}
 use Rattle.panel_session.specs.Asked.{AllAsk, sent_to_plant}
 use Rattle.panel_session.specs.Turns.{bytes_read, entries_of_turns, requests, AreTurns, IsTurn, Turn}
@@ -152,6 +152,7 @@ keeps_text plant kept past is k =
 -- What was told of a turn so far is a front of what its items send, and all of it where polls were made.
 pub told_front : (phase : Phase) (panel first : ℕ) (before asked : List Asked) (past : Progress) → IsAtStage phase panel first before asked past → IsPrefix (requests past.now.told) (sent_to_plant panel first asked)
 told_front Read panel first before asked past at = ([], append-nil _ ∙ at.0)
+told_front (Name page) panel first before asked past at = absurd at
 told_front (Tell message) panel first before asked past at = (
   sent_to_plant panel (first + length at.0) (Sent message ∷ []),
   ap (λ (told : List Request). told ++ sent_to_plant panel (first + length at.0) (Sent message ∷ [])) at.2
@@ -163,6 +164,7 @@ told_front End panel first before asked past at = ([], append-nil _ ∙ at.0)
 
 pub told_all : (phase : Phase) (panel first : ℕ) (before asked : List Asked) (past : Progress) → IsAtStage phase panel first before asked past → past.now.polls ≢ [] → requests past.now.told ≡ sent_to_plant panel first asked
 told_all Read panel first before asked past at some = at.0
+told_all (Name page) panel first before asked past at some = absurd at
 told_all (Tell message) panel first before asked past at some = absurd (some at.3)
 told_all PollStage panel first before asked past at some = at.0
 told_all End panel first before asked past at some = at.0

@@ -1,5 +1,5 @@
 -- How many calls a turn may still take.
-use Rattle.std.proofs.Common.{◌≡◌, ℕ, ◌+◌, ◌-◌, ◌*◌, ◌%◌, ◌^◌, ◌<◌, ◌≤◌, true, false, Bool, List, refl, sym, ap, ◌∙◌, subst, arith, inl, inr}
+use Rattle.std.proofs.Common.{◌≡◌, ℕ, ◌+◌, ◌-◌, ◌*◌, ◌%◌, ◌^◌, ◌<◌, ◌≤◌, true, false, Bool, IfSome, List, refl, sym, ap, ◌∙◌, subst, arith, inl, inr}
 use Rattle.std.proofs.Math.Nat.{mod-eq_of_lt}
 use Rattle.plant_config.specs.Plant.{PlantData}
 use Rattle.history_lock.specs.Places.{Placed}
@@ -9,10 +9,14 @@ use Rattle.panel_session.specs.declared.session.asked.Asked.{Asked}
 use Rattle.panel_session.specs.declared.session.asked.Asked.TheVariants.{Nothing, Repeat, Refused, Noted, Named, Sent}
 use Rattle.panel_session.specs.declared.session.Session.{Session}
 use Rattle.panel_session.specs.declared.session.phase.Phase.{Phase}
-use Rattle.panel_session.specs.declared.session.phase.Phase.TheVariants.{Read, Tell, Poll as PollStage}
+use Rattle.panel_session.specs.declared.session.phase.Phase.TheVariants.{Read, Name, Tell, Poll as PollStage, End}
 use Rattle.swp08_messages.specs.declared.message.Message.{Message}
-use Rattle.panel_session.specs.CallsLeft.{phase_left, unsent_left, calls_left}
-use Rattle.panel_session.specs.MovesInside.{phase_with, took_answers}
+use Rattle.panel_session.specs.CallsLeft.{calls_left, parts_from, phase_left, unsent_left}
+use Rattle.panel_session.specs.MovesInside.{IsReadOrLeft, NamesOn, TakesTo, took_answers}
+use Rattle.panel_session.specs.NamePagesInside.{IsFarBehind}
+use Rattle.panel_session.specs.NamesLeftInside.{left_at}
+use Rattle.panel_session.specs.SenderKept.{SenderData}
+use Rattle.panel_session.specs.declared.sending.name_page.NamePage.{NamePage}
 use Rattle.panel_session.specs.PolledInside.{HasPolled}
 use Rattle.panel_session.specs.Session.{Awaits, with_outbox}
 use Rattle.panel_session.specs.SoFar.{Progress}
@@ -50,18 +54,42 @@ left_poll plant panel session after past request phase polls answers awaits poll
     ]
 
 -- an item leaves at most this much
-phase-most : (a : Asked) (polls : ℕ) → phase_left (phase_with a Read) polls ≤ 68
-phase-most Nothing polls = omega arith
-phase-most Repeat polls = omega arith
-phase-most Refused polls = omega arith
-phase-most Noted polls = omega arith
-phase-most (Named message) polls = omega arith
-phase-most (Sent message) polls = omega arith
+names-most : (phase : Phase) (polls : ℕ) → IsReadOrLeft phase → phase_left phase polls ≤ 132
+names-most Read polls may = omega arith
+names-most (Name page) polls may = omega arith
+names-most (Tell message) polls may = absurd may
+names-most PollStage polls may = absurd may
+names-most End polls may = absurd may
 
-pub taken-most : (session after : Session) (a : Asked) → session.phase ≡ Read → after.phase ≡ phase_with a session.phase → phase_left after.phase after.polls ≤ 68
-taken-most session after a read is =
-    let P : Phase → Type 0 = λ phase. phase_left phase after.polls ≤ 68 in
-    subst P (sym (is ∙ ap (phase_with a) read)) (phase-most a after.polls)
+phase-most : (a : Asked) (session : Session) (sender : SenderData) (phase : Phase) (polls : ℕ) → session.phase ≡ Read → TakesTo a session sender phase → phase_left phase polls ≤ 132
+phase-most Nothing session sender phase polls read to = let P : Phase → Type 0 = λ phase. phase_left phase polls ≤ 132 in subst P (sym (to.1 ∙ read)) (omega arith)
+phase-most Repeat session sender phase polls read to = let P : Phase → Type 0 = λ phase. phase_left phase polls ≤ 132 in subst P (sym (to.1 ∙ read)) (omega arith)
+phase-most Refused session sender phase polls read to = let P : Phase → Type 0 = λ phase. phase_left phase polls ≤ 132 in subst P (sym (to.1 ∙ read)) (omega arith)
+phase-most Noted session sender phase polls read to = let P : Phase → Type 0 = λ phase. phase_left phase polls ≤ 132 in subst P (sym (to.1 ∙ read)) (omega arith)
+phase-most (Named message) session sender phase polls read to = names-most phase polls (to read).1
+phase-most (Sent message) session sender phase polls read to = let P : Phase → Type 0 = λ phase. phase_left phase polls ≤ 132 in subst P (sym to.1) (omega arith)
+
+pub taken-most : (session after : Session) (a : Asked) → session.phase ≡ Read → TakesTo a session after.sender after.phase → phase_left after.phase after.polls ≤ 132
+taken-most session after a read to = phase-most a session after.sender after.phase after.polls read to
+
+-- Each part of the pages that are left leaves fewer.
+parts-fewer : (page : NamePage) (phase : Phase) (polls : ℕ) → IsReadOrLeft phase → IfSome (left_at phase) (IsFarBehind page.first) → phase_left phase polls < 66 + parts_from page.first
+parts-fewer page Read polls may far = omega arith
+parts-fewer page (Name next) polls may far = omega (arith, far.0, far.1)
+parts-fewer page (Tell message) polls may far = absurd may
+parts-fewer page PollStage polls may far = absurd may
+parts-fewer page End polls may far = absurd may
+
+pub fewer_parts : (session after : Session) (page : NamePage) (length : ℕ) → session.phase ≡ Name page → NamesOn page session after → 72 * (length - 0) + calls_left after < 72 * length + calls_left session
+fewer_parts session after page length at on =
+    omega (
+      arith,
+      left-by session,
+      left-by after,
+      parts-fewer page after.phase after.polls on.left on.far,
+      ap (λ (phase : Phase). phase_left phase session.polls) at,
+      ap (λ (session : Session). unsent_left session.unsent) on.same,
+    )
 
 -- What is in the outbox leaves as much.
 pub left-box : (session : Session) (box : Placed Answer) → calls_left (with_outbox session box) ≡ calls_left session

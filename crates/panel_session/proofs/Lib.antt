@@ -3,6 +3,7 @@ pub mod EntryLemmas
 pub mod KeptItemLemmas
 pub mod KeepsLemmas
 pub mod KeptTurnLemmas
+mod NamesLeftLemmas
 pub mod StandsLemmas
 pub mod ActsLemmas
 pub mod ReadLemmas
@@ -17,13 +18,16 @@ pub mod ReadsLemmas
 pub mod TurnedLemmas
 pub mod EndedLemmas
 pub mod ServedLemmas
+mod NamesHandedLemmas
 pub mod HandedLemmas
 pub mod SessionLemmas
+mod NamesOnLemmas
 pub mod FrameRoom
 pub mod FrameLemmas
 pub mod AddLemmas
 pub mod RoomLemmas
 pub mod NamePageLemmas
+mod NamesAddedLemmas
 pub mod LeftLemmas
 pub mod RunLemmas
 pub mod ServesLemmas
@@ -37,6 +41,7 @@ pub mod TurnsFit
 pub mod TurnsOnce
 pub mod SentLemmas
 pub mod WayLemmas
+mod SpelledLemmas
 pub mod WorkLemmas
 pub mod SessionRequests
 pub mod LampLemmas

@@ -1,5 +1,5 @@
 -- Pages of names, one after the other.
-use Rattle.std.proofs.Common.{◌≡◌, ◌≢◌, ℕ, zero, suc, ◌+◌, ◌-◌, ◌*◌, ◌/◌, ◌<◌, ◌≤◌, nat_lt, ◌==◌, Bool, true, false, not, ◌||◌, IfSome, if◌then◌else◌, List, [], ◌∷◌, ◌++◌, length, Option, None, Some, inl, inr, refl, sym, ap, ◌∙◌, subst, arith}
+use Rattle.std.proofs.Common.{◌≡◌, ◌≢◌, ℕ, zero, suc, ◌+◌, ◌-◌, ◌*◌, ◌/◌, ◌<◌, ◌≤◌, nat_lt, ◌==◌, Bool, true, false, not, ◌||◌, IfSome, if◌then◌else◌, List, [], ◌∷◌, length, Option, None, Some, inl, inr, refl, sym, ap, ◌∙◌, subst, arith}
 use Rattle.std.specs.Prelude.{map}
 use Rattle.std.specs.List.{range_with_len}
 use Rattle.std.proofs.lemmas.Bool.{cases_lt, lt-ltb, le-ltb}
@@ -8,20 +8,25 @@ use Rattle.std.proofs.Math.Nat.{add-div_right}
 use Rattle.plant_names.specs.declared.paged.Paged.{Paged}
 use Rattle.plant_names.specs.declared.paged.Paged.TheVariants.{Nothing, Last, More}
 use Rattle.plant_names.specs.Pages.{AreFew, most_names, page_data, page_end, page_names, names_text}
-use Rattle.panel_session.specs.NamePages.{page_count, page_from, all_pages}
-use Rattle.panel_session.specs.RoomsInside.{most_named}
-use Rattle.panel_session.proofs.RoomLemmas.{names-most}
+use Rattle.panel_session.specs.NamePages.{all_pages, page_count, page_from}
 use Rattle.dle_framing.specs.Frame.{frame}
 use Rattle.plant_config.specs.Plant.{PlantData}
 use Rattle.panel_session.specs.declared.sending.name_page.NamePage.{NamePage}
-use Rattle.panel_session.specs.Text.{Output, with_frame, with_frames}
-use Rattle.panel_session.specs.NamePagesInside.{IsNamePage, HasRoomFor, GoesOnWith, numbers_left, pages_from, pages_behind, command_of, level_of, names_of, data_of, end_of, frames_left, AddsNames}
+use Rattle.panel_session.specs.Text.{Output, with_frame}
+use Rattle.panel_session.specs.NamePagesInside.{HasName, pages_from, pages_behind, command_of, level_of, names_of, data_of, end_of, frames_left, AddsNames}
 
 -- a page has ten names or more
 pub most-some : (size : ℕ) → 10 ≤ most_names size
 most-some size = elim (size == 0) as (λ test. 10 ≤ (if test then 32 else (if size == 1 then 16 else 10))) [
   | true ↦ omega arith
   | false ↦ elim (size == 1) as (λ test. 10 ≤ (if test then 16 else 10)) [ true ↦ omega arith | false ↦ omega arith ]
+]
+
+-- and 32 or fewer
+most-most : (size : ℕ) → most_names size ≤ 32
+most-most size = elim (size == 0) as (λ test. (if test then 32 else (if size == 1 then 16 else 10)) ≤ 32) [
+  | true ↦ omega arith
+  | false ↦ elim (size == 1) as (λ test. (if test then 16 else 10) ≤ 32) [ true ↦ omega arith | false ↦ omega arith ]
 ]
 
 -- how many pages are left
@@ -117,54 +122,64 @@ module _ (command matrix level size : ℕ) where
         | (inr past) ↦ subst AtMore (sym (le-ltb first (length names) past)) (from-none command matrix level size names first past)
       ]
 
-  -- Where there are more pages, they begin ten names behind it or more.
-  abbrev Grows : ℕ → Paged → Type 0
-  Grows first Nothing = Unit {0}
-  Grows first Last = Unit {0}
-  Grows first (More next) = (first + 10 ≤ next) × (next < 1024)
+  -- Where there are more pages, they begin ten names behind it or more, and are there.
+  abbrev Grows : Option (List (List ℕ)) → ℕ → Paged → Type 0
+  Grows names first Nothing = Unit {0}
+  Grows names first Last = Unit {0}
+  Grows names first (More next) = (first + 10 ≤ next) × (next < 1024) × HasName names next × (next ≤ first + 32)
 
-  grows : (one : Bool) (first : ℕ) (names : Option (List (List ℕ))) → IfSome names AreFew → Grows first (page_end one size first names)
+  grows : (one : Bool) (first : ℕ) (names : Option (List (List ℕ))) → IfSome names AreFew → Grows names first (page_end one size first names)
   grows one first None few = tt
   grows one first (Some names) few =
       let most = most_names size in
       let At : Bool → Bool → Type 0 = λ some more.
-      Grows first (if not some then Nothing else (if one || not more then Last else More (first + most))) in
+      Grows (Some names) first (if not some then Nothing else (if one || not more then Last else More (first + most))) in
       let AtMore : Bool → Type 0 = λ some. At some (nat_lt (first + most) (length names)) in
       elim (cases_lt first (length names)) [
         | (inl some) ↦ subst AtMore (sym (lt-ltb first (length names) some)) (elim (cases_lt (first + most) (length names)) [
           | (inl more) ↦ subst (At true) (sym (lt-ltb (first + most) (length names) more))
-              (elim one as (λ one. Grows first (if one || false then Last else More (first + most))) [
+              (elim one as (λ one. Grows (Some names) first (if one || false then Last else More (first + most))) [
                 | true ↦ tt
-                | false ↦ (omega (arith, most-some size), omega (arith, few, more))
+                | false ↦ (omega (arith, most-some size), omega (arith, few, more), more, omega (arith, most-most size))
               ])
           | (inr last) ↦ subst (At true) (sym (le-ltb (first + most) (length names) last))
-              (elim one as (λ one. Grows first (if one || true then Last else More (first + most))) [ true ↦ tt | false ↦ tt ])
+              (elim one as (λ one. Grows (Some names) first (if one || true then Last else More (first + most))) [ true ↦ tt | false ↦ tt ])
         ])
         | (inr past) ↦ subst AtMore (sym (le-ltb first (length names) past)) tt
       ]
 
-  -- A page that is there has bytes, and a number below the most names of a level.
-  written : (most : ℕ) (one : Bool) (first : ℕ) (names : Option (List (List ℕ))) → page_end one size first names ≢ Nothing → IfSome names (λ names. length names ≤ most)
-      → (first < most) × (1 ≤ length (page_data command matrix level one size first names))
-  written most one first None some few = absurd (some refl)
-  written most one first (Some names) some few =
+  -- A page of which there is a name is one of those that are left.
+  pub there_left : (one : Bool) (first : ℕ) (names : Option (List (List ℕ))) → HasName names first → pages_behind command matrix level size one first names ≢ []
+  there_left one first None there = absurd there
+  there_left true first (Some names) there =
+      let its = names_text command matrix level size first (page_names true size first names) in
+      subst (λ (test : Bool). (if test then its ∷ [] else []) ≢ []) (sym (lt-ltb first (length names) there)) (λ none. cc)
+  there_left false first (Some names) there =
+      elim (cases_lt (first + most_names size) (length names)) [
+        | (inl more) ↦ λ none. (let no = sym (from-more command matrix level size names first more) ∙ none in cc)
+        | (inr last) ↦ λ none. (let no = sym (from-last command matrix level size names first there last) ∙ none in cc)
+      ]
+
+  -- A page that is there has bytes.
+  written : (one : Bool) (first : ℕ) (names : Option (List (List ℕ))) → page_end one size first names ≢ Nothing → 1 ≤ length (page_data command matrix level one size first names)
+  written one first None some = absurd (some refl)
+  written one first (Some names) some =
       let its = names_text command matrix level size first (page_names one size first names) in
       let Long : Bool → Type 0 = λ test. 1 ≤ length (if test then its else []) in
       elim (cases_lt first (length names)) [
-        | (inl less) ↦ (omega (arith, few, less), subst Long (sym (lt-ltb first (length names) less)) (omega arith))
+        | (inl less) ↦ subst Long (sym (lt-ltb first (length names) less)) (omega arith)
         | (inr past) ↦ absurd (some (ap (λ (test : Bool).
             if not test then Nothing else (if one || not (nat_lt (first + most_names size) (length names)) then Last else More (first + most_names size))) (le-ltb first (length names) past)))
       ]
 
 module _ (plant : PlantData) (page : NamePage) where
-  pub is_written : (end : Paged) → end ≡ end_of plant page → end ≢ Nothing → (page.first < most_named plant) × (1 ≤ length (data_of plant page))
+  pub is_written : (end : Paged) → end ≡ end_of plant page → end ≢ Nothing → 1 ≤ length (data_of plant page)
   is_written end is some =
-      written (command_of page.names) page.matrix (level_of page.names) page.size (most_named plant) page.one page.first (names_of plant page.matrix page.names) (λ none. some (is ∙ none))
-      (names-most plant page.matrix page.names)
+      written (command_of page.names) page.matrix (level_of page.names) page.size page.one page.first (names_of plant page.matrix page.names) (λ none. some (is ∙ none))
 
-  pub next_page : (next : ℕ) → More next ≡ end_of plant page → IfSome (names_of plant page.matrix page.names) AreFew → (page.first + 10 ≤ next) × (next < 1024)
+  next_page : (next : ℕ) → More next ≡ end_of plant page → IfSome (names_of plant page.matrix page.names) AreFew → (page.first + 10 ≤ next) × (next < 1024) × HasName (names_of plant page.matrix page.names) next × (next ≤ page.first + 32)
   next_page next is few =
-      let GrowsTo : Paged → Type 0 = λ end. Grows (command_of page.names) page.matrix (level_of page.names) page.size page.first end in
+      let GrowsTo : Paged → Type 0 = λ end. Grows (command_of page.names) page.matrix (level_of page.names) page.size (names_of plant page.matrix page.names) page.first end in
       subst GrowsTo (sym is) (grows (command_of page.names) page.matrix (level_of page.names) page.size page.one page.first (names_of plant page.matrix page.names) few)
 
 -- The pages of all names are those from 0 on.
@@ -186,38 +201,24 @@ module _ (plant : PlantData) (page : NamePage) (output : Output) where
 
   -- Where there is no page, nothing is sent.
   pub adds_nothing : Nothing ≡ end_of plant page → AddsNames plant page output None output
-  adds_nothing is = sym (ap (λ (pages : List (List ℕ)). with_frames (map frame pages) output) (so_ends Nothing is))
+  adds_nothing is =
+      let none : frames_left plant (Some page) ≡ [] = ap (map frame) (so_ends Nothing is) in
+      record { frames = []; frames_are = none; adds = refl; some = λ some. absurd (some none); next = tt; most = tt }
 
   -- The last page is sent,
   pub adds_last : (output_then : Output) → Last ≡ end_of plant page → output_then ≡ with_frame (frame (data_of plant page)) output → AddsNames plant page output None output_then
-  adds_last output_then is sent = sent ∙ sym (ap (λ (pages : List (List ℕ)). with_frames (map frame pages) output) (so_ends Last is))
+  adds_last output_then is sent = record { frames = frame (data_of plant page) ∷ []; frames_are = ap (map frame) (so_ends Last is); adds = sent; some = λ some none. cc; next = tt; most = tt }
 
   -- or one behind which there are more.
-  pub adds_more : (next : ℕ) (output_then : Output) → More next ≡ end_of plant page → output_then ≡ with_frame (frame (data_of plant page)) output
+  pub adds_more : (next : ℕ) (output_then : Output) → More next ≡ end_of plant page → IfSome (names_of plant page.matrix page.names) AreFew → page.size ≤ 2 → output_then ≡ with_frame (frame (data_of plant page)) output
       → AddsNames plant page output (Some (record page { first = next })) output_then
-  adds_more next output_then is sent =
-      ap (with_frames (frames_left plant (Some (record page { first = next })))) sent ∙ sym (ap (λ (pages : List (List ℕ)). with_frames (map frame pages) output) (so_ends (More next) is))
-
-append-some : (one other : List ℕ) → one ≢ [] → one ++ other ≢ []
-append-some [] other some = absurd (some refl)
-append-some (byte ∷ bytes) other some = λ is. cc
-
--- What was to be sent is still to be sent once frames are added.
-pub with_frames-some : (frames : List (List ℕ)) (output : Output) → output.bytes ≢ [] → (with_frames frames output).bytes ≢ []
-with_frames-some [] output some = some
-with_frames-some (sent ∷ others) output some = with_frames-some others (with_frame sent output) (append-some output.bytes sent some)
-
--- Pages that may be left.
-module _ (output : Output) where
-  pub first_has_room : (left : Option NamePage) → length output.bytes ≤ 2 → IfSome left (λ page. HasRoomFor page output)
-  first_has_room None short = tt
-  first_has_room (Some page) short = omega arith
-
-pub next_is_page : (page : NamePage) (left : Option NamePage) → IfSome left (λ next. GoesOnWith page next) → IfSome left IsNamePage
-next_is_page page None goes = tt
-next_is_page page (Some next) goes = goes.0
-
-pub fewer_left : (page : NamePage) (left then_left : Option NamePage) → left ≡ Some page → IsNamePage page → IfSome then_left (λ next. GoesOnWith page next)
-    → numbers_left then_left < numbers_left left
-fewer_left page left None is within goes = omega (arith, ap numbers_left is, within.first)
-fewer_left page left (Some next) is within goes = omega (arith, ap numbers_left is, within.first, goes.1, goes.0.first)
+  adds_more next output_then is few size sent =
+      let grows = next_page plant page next is few in
+      record {
+        frames = frame (data_of plant page) ∷ [];
+        frames_are = ap (map frame) (so_ends (More next) is);
+        adds = sent;
+        some = λ some none. cc;
+        next = record { is_page = record { size = size; first = omega (arith, grows.1) }; behind = grows.0; there = grows.2; same = refl };
+        most = omega (arith, grows.3);
+      }

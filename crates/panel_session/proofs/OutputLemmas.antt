@@ -153,3 +153,9 @@ repeated-behind before output = at output.bytes output.last output.repeats where
 -- Once bytes that were to be sent are sent, nothing is.
 pub sent-behind : (before : List ℕ) (output : Output) → behind before output ≡ behind (before ++ output.bytes) (emptied output)
 sent-behind before output = ap (λ (bytes : List ℕ). record output { bytes = bytes }) (sym (append-nil (before ++ output.bytes)))
+
+-- What is to be sent with frames behind it.
+pub behind_frames : (frames : List (List ℕ)) (output : Output) → with_frames frames output ≡ behind output.bytes (with_frames frames (emptied output))
+behind_frames frames output =
+    let P : List ℕ → Type 0 = λ bytes. with_frames frames (record output { bytes = bytes }) ≡ behind output.bytes (with_frames frames (emptied output)) in
+    subst P (append-nil output.bytes) (frames-behind frames output.bytes (emptied output))

@@ -14,7 +14,7 @@ use Rattle.plant_config.specs.Plant.{PlantData}
 use Rattle.plant_core.specs.Answer.{room_of}
 use Rattle.plant_core.specs.declared.answer.Answer.{Answer}
 use Rattle.panel_session.specs.NamePagesInside.{names_of}
-use Rattle.panel_session.specs.RoomsInside.{fitting, most_named}
+use Rattle.panel_session.specs.RoomsInside.{fitting, most_at_once, most_named}
 use Rattle.panel_session.specs.declared.sending.name_page.NamesOf.{NamesOf}
 use Rattle.panel_session.specs.declared.sending.name_page.NamesOf.TheVariants.{Sources, Dests}
 
@@ -67,7 +67,7 @@ module _ (plant : PlantData) where
   -- So there is room for all of them.
   pub fits-all : (answers : List Answer) → length answers ≤ room_of plant → fitting plant answers ≡ answers
   fits-all answers few =
-      ap (λ (test : Bool). if test then [] else answers) (le-ltb (most_named plant) (length answers) (omega (arith, few, answers-most)))
+      ap (λ (test : Bool). if test then [] else answers) (le-ltb (most_at_once plant) (length answers) (omega (arith, few)))
 
   -- A plant has at most 1,024 names at a level.
   pub names-bounded : IsPlant plant → most_named plant ≤ 1024

@@ -12,7 +12,7 @@ use Rattle.plant_core.specs.declared.request.Request.TheVariants.{Told}
 use Rattle.swp08_messages.specs.declared.message.Message.{Message}
 use Rattle.panel_session.specs.declared.session.Session.{Session}
 use Rattle.panel_session.specs.declared.session.phase.Phase.{Phase}
-use Rattle.panel_session.specs.declared.session.phase.Phase.TheVariants.{Read, Tell, Poll as PollStage, End}
+use Rattle.panel_session.specs.declared.session.phase.Phase.TheVariants.{Read, Name, Tell, Poll as PollStage, End}
 use Rattle.panel_session.specs.declared.session.asked.Asked.{Asked}
 use Rattle.panel_session.specs.declared.session.asked.Asked.TheVariants.{Sent}
 use Rattle.panel_session.specs.Entry.{PlantEntry}
@@ -20,37 +20,32 @@ use Rattle.panel_session.specs.MovesInside.{took_answers, answered_too}
 use Rattle.panel_session.specs.OutgoingInside.{emptied}
 use Rattle.panel_session.specs.PolledInside.{HasPolled}
 use Rattle.panel_session.specs.ReadingInside.{IsReading, HasTaken}
+use Rattle.panel_session.specs.NamesLeftInside.{NamesNone, stage_of}
 use Rattle.panel_session.specs.RoomsInside.{fitting}
 use Rattle.panel_session.specs.SenderKept.{sending}
 use Rattle.panel_session.specs.Session.{StandsFor, Awaits, AsksAt, kept_of, made_by, with_outbox}
 use Rattle.panel_session.specs.SoFar.{Progress, unstarted, read_so_far, with_sent, with_entry}
-use Rattle.panel_session.specs.StandsInside.{Kept, Keeps, IsAtStage, behind}
-use Rattle.panel_session.specs.Text.{Output, frames_of, with_frames}
+use Rattle.panel_session.specs.StandsInside.{Kept, Keeps, IsAtStage}
+use Rattle.panel_session.specs.Text.{frames_of, with_frames}
 use Rattle.panel_session.specs.Turns.{Turn, bytes_read}
 use Rattle.panel_session.proofs.ActsLemmas.{no_bytes}
 use Rattle.panel_session.proofs.KeptItemLemmas.{length-asked, length-before}
-use Rattle.panel_session.proofs.OutputLemmas.{frames-behind}
+use Rattle.panel_session.proofs.NamesLeftLemmas.{none_begun}
 use Rattle.panel_session.proofs.SessionLemmas.{answered_poll, answered_told, awaits_with, sends_unsent}
 use Rattle.panel_session.proofs.StandsLemmas.{at_phase, stands_with}
 use Rattle.panel_session.proofs.KeepsLemmas.{keeps_bytes}
 
--- What is to be sent with frames behind it.
-pub behind_frames : (frames : List (List ℕ)) (output : Output) → with_frames frames output ≡ behind output.bytes (with_frames frames (emptied output))
-behind_frames frames output =
-    let P : List ℕ → Type 0 = λ bytes. with_frames frames (record output { bytes = bytes }) ≡ behind output.bytes (with_frames frames (emptied output)) in
-    subst P (append-nil output.bytes) (frames-behind frames output.bytes (emptied output))
-
 -- A session stands for the same past, whatever it has sent, and whether an ACK went by itself.
-pub stands_whatever : (plant : PlantData) (panel : ℕ) (session : Session) (past : Progress) (bytes : List ℕ) (parted : Bool) → StandsFor plant panel session past → session.unsent ≡ false
+pub stands_whatever : (plant : PlantData) (panel : ℕ) (session : Session) (past : Progress) (bytes : List ℕ) (parted : Bool) → StandsFor plant panel session past → session.unsent ≡ false → NamesNone session.phase
     → StandsFor plant panel (record session { sender = sending (record session.sender.output { bytes = bytes }) session.sender; parted = parted }) past
 unfolding StandsFor
-stands_whatever plant panel session past bytes parted stands none =
+stands_whatever plant panel session past bytes parted stands none plain =
     let after = record session { sender = sending (record session.sender.output { bytes = bytes }) session.sender; parted = parted } in
     let KeepsOf : Kept → Type 0 = λ kept. Keeps plant kept past in
-    let k = subst KeepsOf (at_phase session session.phase refl none) stands.0.keeps in
-    let same = keeps_bytes plant (record (kept_of session) { output = session.sender.output; unsent = false }) past bytes refl k in (
-      stands_with plant panel session after past past stands.0 refl refl refl refl refl refl refl refl
-          (subst KeepsOf (sym (at_phase after session.phase refl none)) same) (λ unsent. absurd (false≢true (sym none ∙ unsent))),
+    let k = subst KeepsOf (at_phase session session.phase refl plain none) stands.0.keeps in
+    let same = keeps_bytes plant (record (kept_of session) { phase = session.phase; output = session.sender.output; unsent = false }) past bytes refl k in (
+      stands_with plant panel session after past past stands.0 refl refl refl refl refl refl refl refl stands.0.left
+          (subst KeepsOf (sym (at_phase after session.phase refl plain none)) same) (λ unsent. absurd (false≢true (sym none ∙ unsent))),
       stands.1,
       stands.2,
     )
@@ -122,7 +117,7 @@ told_is plant panel session past request message awaits tell =
 pub polls_none : (plant : PlantData) (panel : ℕ) (session : Session) (past : Progress) → IsReading plant panel session past → session.polls ≡ 0
 polls_none plant panel session past reading =
     let k = reading.stands.keeps in
-    let StageAt : Phase → Type 0 = λ phase. IsAtStage phase session.panel (length (items (bytes_read past.turns))) k.before k.asked past in
+    let StageAt : Phase → Type 0 = λ phase. IsAtStage (stage_of phase) session.panel (length (items (bytes_read past.turns))) k.before k.asked past in
     let at = subst StageAt reading.phase k.phase in
     let polls_are : session.polls ≡ length past.now.polls = k.polls_are in
     polls_are ∙ ap (length {A = PlantEntry}) at.1
@@ -131,9 +126,10 @@ polls_none plant panel session past reading =
 pub reads_unread : (plant : PlantData) (panel : ℕ) (session : Session) (past : Progress) (phase : Phase) → session.phase ≡ phase → StandsFor plant panel session past → past.now ≡ unstarted → session.phase ≡ Read
 unfolding StandsFor
 reads_unread plant panel session past Read is stands begins = is
+reads_unread plant panel session past (Name page) is stands begins = absurd (subst NamesNone is (none_begun plant past session.phase stands.0.left begins))
 reads_unread plant panel session past (Tell message) is stands begins =
     let k = stands.0.keeps in
-    let StageAt : Phase → Type 0 = λ phase. IsAtStage phase session.panel (length (items (bytes_read past.turns))) k.before k.asked past in
+    let StageAt : Phase → Type 0 = λ phase. IsAtStage (stage_of phase) session.panel (length (items (bytes_read past.turns))) k.before k.asked past in
     let at = subst StageAt is k.phase in
     let all = length-asked plant (kept_of session) past k in
     let front = length-before plant (kept_of session) past k in
@@ -151,7 +147,7 @@ reads_unread plant panel session past (Tell message) is stands begins =
 reads_unread plant panel session past PollStage is stands begins = absurd (stands.2 is (ap (λ (turn : Turn). turn.polls) begins))
 reads_unread plant panel session past End is stands begins =
     let k = stands.0.keeps in
-    let StageAt : Phase → Type 0 = λ phase. IsAtStage phase session.panel (length (items (bytes_read past.turns))) k.before k.asked past in
+    let StageAt : Phase → Type 0 = λ phase. IsAtStage (stage_of phase) session.panel (length (items (bytes_read past.turns))) k.before k.asked past in
     let at = subst StageAt is k.phase in
     let none : past.now.polls ≡ [] = ap (λ (turn : Turn). turn.polls) begins in
     absurd (omega (arith, ap (length {A = PlantEntry}) at.1.polls_are, ap (length {A = PlantEntry}) none, length-append at.1.answered (at.1.last ∷ [])))

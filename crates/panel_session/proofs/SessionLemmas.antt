@@ -1,5 +1,5 @@
 -- What the calls of a session do.
-use Rattle.std.proofs.Common.{◌≡◌, ◌≢◌, ℕ, ◌+◌, ◌-◌, ◌%◌, ◌^◌, ◌<◌, ◌≤◌, true, false, Bool, List, [], ◌∷◌, ◌++◌, length, refl, sym, ap, ◌∙◌, subst, arith, ◌⊎◌, inl, inr}
+use Rattle.std.proofs.Common.{◌≡◌, ◌≢◌, ℕ, ◌+◌, ◌-◌, ◌%◌, ◌^◌, ◌<◌, ◌≤◌, true, false, Bool, List, [], ◌∷◌, ◌++◌, length, refl, sym, ap, ◌∙◌, subst, arith, inl, inr}
 use Rattle.std.proofs.Math.Nat.{mod-eq_of_lt}
 use Rattle.std.proofs.lemmas.List.{length-append}
 use Rattle.dle_framing.specs.Items.{items}
@@ -21,6 +21,7 @@ use Rattle.panel_session.specs.Entry.{PlantEntry}
 use Rattle.panel_session.specs.SoFar.{Progress, read_so_far, with_bytes, with_sent, with_entry}
 use Rattle.panel_session.specs.Text.{frames_of, with_frames}
 use Rattle.panel_session.specs.StandsInside.{IsAtStage}
+use Rattle.panel_session.specs.NamesLeftInside.{stage_of}
 use Rattle.panel_session.specs.Session.{Stands, StandsFor, Awaits, AsksAt, kept_of, later_of, outgoing_of, with_outbox}
 use Rattle.panel_session.specs.PolledInside.{HasPolled}
 use Rattle.panel_session.specs.ReadingInside.{IsReading, HasRead}
@@ -31,6 +32,7 @@ use Rattle.panel_session.proofs.RoomLemmas.{fits-all}
 use Rattle.panel_session.specs.MovesInside.{took_answers, ended_turn}
 use Rattle.panel_session.proofs.KeptItemLemmas.{reading, length-asked}
 use Rattle.panel_session.proofs.KeptTurnLemmas.{keeps_text}
+use Rattle.panel_session.proofs.NamesLeftLemmas.{quiet_at}
 use Rattle.panel_session.proofs.StandsLemmas.{fewer_items, stands_with, stands_to_poll, stands_sent, stands_told}
 use Rattle.panel_session.proofs.ActsLemmas.{stands_polled_last, stands_polled_more, polls_below, stands_front, stands_turn, no_bytes}
 
@@ -87,7 +89,7 @@ asks_a_poll plant panel session now piece used request stands empty poll none al
       box_is session.outbox (room_of plant) empty stands.places,
       has_panel plant panel session now stands,
       all,
-      keeps_text plant (kept_of session) now none stands.keeps,
+      keeps_text plant (kept_of session) now (quiet_at session.phase PollStage session.unsent poll tt none) stands.keeps,
     )
 
 -- A session that has read the piece polls.
@@ -111,7 +113,7 @@ pub asks_told : (plant : PlantData) (panel : ℕ) (session : Session) (past : Pr
 unfolding StandsFor Awaits
 asks_told plant panel session past piece request message stands may tell none is =
     let k = stands.0.keeps in
-    let StageAt : Phase → Type 0 = λ phase. IsAtStage phase session.panel (length (items (bytes_read past.turns))) k.before k.asked past in
+    let StageAt : Phase → Type 0 = λ phase. IsAtStage (stage_of phase) session.panel (length (items (bytes_read past.turns))) k.before k.asked past in
     let at = subst StageAt tell k.phase in
     let items_are : session.items ≡ length (items (read_so_far past)) = k.items_are in
     let all = length-asked plant (kept_of session) past k in
@@ -127,7 +129,7 @@ asks_told plant panel session past piece request message stands may tell none is
       box_is session.outbox (room_of plant) stands.1 stands.0.places,
       (has_panel plant panel session past stands.0, at.6),
       at.3,
-      keeps_text plant (kept_of session) past none stands.0.keeps,
+      keeps_text plant (kept_of session) past (quiet_at session.phase (Tell message) session.unsent tell tt none) stands.0.keeps,
     ))
 
 some_polls : (answered : List PlantEntry) (last : PlantEntry) (polls : List PlantEntry) → polls ≡ answered ++ last ∷ [] → polls ≡ [] → ⊥
@@ -140,7 +142,7 @@ unfolding StandsFor
 rests plant panel session past piece stands may over none =
     let P : Progress → Type 0 = λ now. Acts plant panel now piece 0 Rest (ended_turn session) in
     let k = stands.0.keeps in
-    let StageAt : Phase → Type 0 = λ phase. IsAtStage phase session.panel (length (items (bytes_read past.turns))) k.before k.asked past in
+    let StageAt : Phase → Type 0 = λ phase. IsAtStage (stage_of phase) session.panel (length (items (bytes_read past.turns))) k.before k.asked past in
     let at = subst StageAt over k.phase in
     let gone : piece ≡ [] = may.rest (some_polls at.1.answered at.1.last past.now.polls at.1.polls_are) in
     let after = stands_turn plant panel session past stands.0 over none may.turns in
@@ -210,18 +212,18 @@ answered_poll plant panel seat session after past request phase polls awaits few
     )
 
 -- Nothing was asked at other stages.
-pub nothing_asked : (plant : PlantData) (panel : ℕ) (session : Session) (past : Progress) (request : Request) → Awaits plant panel session past request → (session.phase ≡ Read) ⊎ (session.phase ≡ End) → ⊥
+pub nothing_asked : (plant : PlantData) (panel : ℕ) (session : Session) (past : Progress) (request : Request) (phase : Phase) → Awaits plant panel session past request → session.phase ≡ phase → AsksAt phase (kept_of session) request
 unfolding Awaits
-nothing_asked plant panel session past request awaits phase =
+nothing_asked plant panel session past request phase awaits is =
     let AskAt : Phase → Type 0 = λ phase. AsksAt phase (kept_of session) request in
-    elim phase [ (inl read) ↦ subst AskAt read awaits.2 | (inr over) ↦ subst AskAt over awaits.2 ]
+    subst AskAt is awaits.2
 
 -- A session waits with whatever its outbox has.
 pub awaits_with : (plant : PlantData) (panel : ℕ) (session : Session) (past : Progress) (request : Request) (box : Placed Answer) → Awaits plant panel session past request → box.places ≡ session.outbox.places
     → Awaits plant panel (with_outbox session box) past request
 unfolding Awaits
 awaits_with plant panel session past request box awaits same = (
-  stands_with plant panel session (with_outbox session box) past past awaits.0 refl refl refl refl refl refl same refl awaits.0.keeps (λ unsent. (awaits.0.some unsent, awaits.0.one unsent)),
+  stands_with plant panel session (with_outbox session box) past past awaits.0 refl refl refl refl refl refl same refl awaits.0.left awaits.0.keeps (λ unsent. (awaits.0.some unsent, awaits.0.one unsent)),
   awaits.1,
   awaits.2,
 )

@@ -1,5 +1,5 @@
 -- What a session stands for, item by item.
-use Rattle.std.proofs.Common.{◌≡◌, ◌≢◌, ℕ, ◌+◌, ◌-◌, ◌^◌, ◌<◌, ◌≤◌, true, false, Bool, List, [], ◌∷◌, ◌++◌, length, drop, refl, sym, ap, ◌∙◌, subst, arith, inr}
+use Rattle.std.proofs.Common.{◌≡◌, ◌≢◌, ℕ, ◌+◌, ◌-◌, ◌^◌, ◌<◌, ◌≤◌, true, false, Bool, IfSome, List, [], ◌∷◌, ◌++◌, length, refl, sym, ap, ◌∙◌, subst, arith, inr}
 use Rattle.std.proofs.Math.Nat.{mod-eq_of_lt}
 use Rattle.std.proofs.lemmas.Bool.{false≢true}
 use Rattle.std.proofs.lemmas.List.{length-append}
@@ -27,13 +27,15 @@ use Rattle.panel_session.specs.SoFar.{Progress, read_so_far, entries_so_far, wit
 use Rattle.panel_session.specs.TakenInside.{taken_phase, taken_output, sent_by}
 use Rattle.panel_session.specs.Text.{Output, frames_of, with_frames}
 use Rattle.panel_session.specs.StandsInside.{Kept, Keeps}
-use Rattle.panel_session.specs.Session.{Stands, kept_of, left_output, later_of, next_bytes}
+use Rattle.panel_session.specs.NamesLeftInside.{AreLeft, NamesNone, left_at}
+use Rattle.panel_session.specs.Session.{Stands, kept_of, left_output, later_of}
 use Rattle.panel_session.specs.MovesInside.{next, counts_with, phase_with, took, took_answers}
 use Rattle.panel_session.proofs.KeptItemLemmas.{reading, read-more, keeps_item, keeps_none, keeps_to_poll}
 use Rattle.panel_session.specs.Entry.{PlantEntry}
 use Rattle.panel_session.specs.OneSend.{IsOneSend}
 use Rattle.panel_session.proofs.TraceLemmas.{frames-bytes}
-use Rattle.panel_session.proofs.KeepsLemmas.{entries-told, keeps_bytes, keeps_sent, keeps_told}
+use Rattle.panel_session.proofs.KeepsLemmas.{entries-told, keeps_told}
+use Rattle.panel_session.proofs.NamesLeftLemmas.{keeps_handed, kept_plain, left_sent, none_left}
 
 -- one more of a number that is far from the end
 pub next-small : (n : ℕ) → n < 2 ^ 62 → next n ≡ n + 1
@@ -137,16 +139,28 @@ left_same false unsent output none = refl
 left_same true true output none = absurd (false≢true (sym none))
 left_same true false output none = refl
 
-pub kept_whole : (session : Session) → session.unsent ≡ false
+pub kept_whole : (session : Session) → NamesNone session.phase → session.unsent ≡ false
     → kept_of session ≡ record { panel = session.panel; phase = session.phase; items = session.items; turns = session.counts.turns; polls = session.polls; output = session.sender.output; unsent = session.unsent }
-kept_whole session none =
-    ap (λ (output : Output). record { panel = session.panel; phase = session.phase; items = session.items; turns = session.counts.turns; polls = session.polls; output = output; unsent = session.unsent })
+kept_whole session plain none =
+    kept_plain session.phase session.sender.names session.panel session.items session.counts.turns session.polls (left_output session.parted session.unsent session.sender.output) session.unsent plain
+    ∙ ap (λ (output : Output). record { panel = session.panel; phase = session.phase; items = session.items; turns = session.counts.turns; polls = session.polls; output = output; unsent = session.unsent })
     (left_same session.parted session.unsent session.sender.output none)
 
--- a session at a phase, with nothing to be sent
-pub at_phase : (session : Session) (phase : Phase) → session.phase ≡ phase → session.unsent ≡ false
+-- a session at a phase at which no pages of names are left, with nothing to be sent
+pub at_phase : (session : Session) (phase : Phase) → session.phase ≡ phase → NamesNone phase → session.unsent ≡ false
     → kept_of session ≡ record { panel = session.panel; phase = phase; items = session.items; turns = session.counts.turns; polls = session.polls; output = session.sender.output; unsent = false }
-at_phase session phase at none = kept_whole session none ∙ kept_same session.panel session.polls session.sender.output session.phase phase session.items session.items session.counts.turns session.counts.turns session.unsent false at refl refl none
+at_phase session phase at plain none =
+    kept_whole session (subst NamesNone (sym at) plain) none
+    ∙ kept_same session.panel session.polls session.sender.output session.phase phase session.items session.items session.counts.turns session.counts.turns session.unsent false at refl refl none
+
+-- no pages of names are left at what an item makes of a session
+pub taken_plain : (a : Asked) → NamesNone (taken_phase a)
+taken_plain Nothing = tt
+taken_plain Repeat = tt
+taken_plain Refused = tt
+taken_plain Noted = tt
+taken_plain (Named message) = tt
+taken_plain (Sent message) = tt
 
 -- An item was read.
 pub stands_item : (plant : PlantData) (panel : ℕ) (session : Session) (past : Progress) (bytes : List ℕ) (item : Item (List ℕ)) (a : Asked) (framer_then : Framer) → Stands plant panel session past
@@ -158,13 +172,14 @@ stands_item plant panel session past bytes item a framer_then stands read none a
     let later = with_bytes bytes past in
     let counted : length (items (read_so_far past ++ bytes)) ≡ length its + 1 = ap (length {A = Item (List ℕ)}) adds ∙ length-append its (item ∷ []) in
     let KeepsOf : Kept → Type 0 = λ kept. Keeps plant kept past in
-    let k : Keeps plant (reading session.panel session.items session.counts.turns session.polls session.sender.output) past = subst KeepsOf (at_phase session Read read none) stands.keeps in
+    let k : Keeps plant (reading session.panel session.items session.counts.turns session.polls session.sender.output) past = subst KeepsOf (at_phase session Read read tt none) stands.keeps in
     let KeepsThen : Kept → Type 0 = λ kept. Keeps plant kept (with_sent (sent_by plant a session.sender.output) later) in
     let FedOf : List ℕ → Type 0 = λ text. framer.StandsFor framer_then text in
     let all : items (read_so_far later) ≡ its ++ item ∷ [] = ap items (sym (read-more past bytes)) ∙ adds in
     let items_are : session.items ≡ length its = k.items_are in
     let goods_small : session.counts.goods < 2 ^ 62 = omega (arith, stands.goods, count_by-le-length is_good_item its) in
     let bads_small : session.counts.bads < 2 ^ 62 = omega (arith, stands.bads, count_by-le-length is_bad_item its) in
+    let plain : NamesNone (phase_with a session.phase) = subst NamesNone (sym (phase-is a session.phase read)) (taken_plain a) in
     record {
       plant_is = stands.plant_is;
       names_are = stands.names_are;
@@ -172,7 +187,7 @@ stands_item plant panel session past bytes item a framer_then stands read none a
       has_panel = stands.has_panel;
       framer = subst FedOf (read-more past bytes) fed;
       keeps = subst KeepsThen
-          (sym (kept_whole (took plant a (record session { framer = framer_then })) none
+          (sym (kept_whole (took plant a (record session { framer = framer_then })) plain none
           ∙ kept_same session.panel session.polls (taken_output plant a session.sender.output) (phase_with a session.phase) (taken_phase a) (next session.items) (session.items + 1)
           (counts_with a session.counts).turns session.counts.turns session.unsent false
           (phase-is a session.phase read) (next-small session.items (omega arith)) (turns-with a session.counts) none))
@@ -181,6 +196,7 @@ stands_item plant panel session past bytes item a framer_then stands read none a
       bads = bads-with a item session.counts asks bads_small ∙ ap (λ (n : ℕ). n + bads_of (item ∷ [])) stands.bads ∙ sym (bads-more its item) ∙ ap bads_of (sym all);
       some = λ unsent. absurd (false≢true (sym none ∙ unsent));
       one = λ unsent. absurd (false≢true (sym none ∙ unsent));
+      left = none_left (AreLeft plant (with_sent (sent_by plant a session.sender.output) later)) (phase_with a session.phase) plain;
       places = stands.places;
     }
 
@@ -191,7 +207,7 @@ pub stands_none : (plant : PlantData) (panel : ℕ) (session : Session) (past : 
 stands_none plant panel session past bytes framer_then stands read none adds fed =
     let later = with_bytes bytes past in
     let KeepsOf : Kept → Type 0 = λ kept. Keeps plant kept past in
-    let k : Keeps plant (reading session.panel session.items session.counts.turns session.polls session.sender.output) past = subst KeepsOf (at_phase session Read read none) stands.keeps in
+    let k : Keeps plant (reading session.panel session.items session.counts.turns session.polls session.sender.output) past = subst KeepsOf (at_phase session Read read tt none) stands.keeps in
     let KeepsThen : Kept → Type 0 = λ kept. Keeps plant kept later in
     let FedOf : List ℕ → Type 0 = λ text. framer.StandsFor framer_then text in
     let all : items (read_so_far later) ≡ items (read_so_far past) = ap items (sym (read-more past bytes)) ∙ adds in
@@ -201,19 +217,20 @@ stands_none plant panel session past bytes framer_then stands read none adds fed
       panel_is = stands.panel_is;
       has_panel = stands.has_panel;
       framer = subst FedOf (read-more past bytes) fed;
-      keeps = subst KeepsThen (sym (at_phase session Read read none)) (keeps_none plant session.panel session.items session.counts.turns session.polls session.sender.output past bytes k adds);
+      keeps = subst KeepsThen (sym (at_phase session Read read tt none)) (keeps_none plant session.panel session.items session.counts.turns session.polls session.sender.output past bytes k adds);
       goods = stands.goods ∙ ap goods_of (sym all);
       bads = stands.bads ∙ ap bads_of (sym all);
       some = λ unsent. absurd (false≢true (sym none ∙ unsent));
       one = λ unsent. absurd (false≢true (sym none ∙ unsent));
+      left = none_left (AreLeft plant later) session.phase (subst NamesNone (sym read) tt);
       places = stands.places;
     }
 
 -- Other parts of a session that keep the same past.
 pub stands_with : (plant : PlantData) (panel : ℕ) (session after : Session) (past later : Progress) → Stands plant panel session past → read_so_far later ≡ read_so_far past → after.plant ≡ session.plant → after.sender.names ≡ session.sender.names → after.framer ≡ session.framer
     → after.counts.goods ≡ session.counts.goods → after.counts.bads ≡ session.counts.bads → after.outbox.places ≡ session.outbox.places → after.panel ≡ session.panel
-    → Keeps plant (kept_of after) later → (after.unsent ≡ true → (later_of after ≢ []) × IsOneSend plant later (later_of after)) → Stands plant panel after later
-stands_with plant panel session after past later stands read same_plant same_names same_framer same_goods same_bads same_places same_panel keeps some =
+    → IfSome (left_at after.phase) (AreLeft plant later) → Keeps plant (kept_of after) later → (after.unsent ≡ true → (later_of after ≢ []) × IsOneSend plant later (later_of after)) → Stands plant panel after later
+stands_with plant panel session after past later stands read same_plant same_names same_framer same_goods same_bads same_places same_panel left keeps some =
     let FedBy : Framer → Type 0 = λ one. framer.StandsFor one (read_so_far past) in
     let FedOf : List ℕ → Type 0 = λ text. framer.StandsFor after.framer text in
     record {
@@ -227,6 +244,7 @@ stands_with plant panel session after past later stands read same_plant same_nam
       bads = same_bads ∙ stands.bads ∙ ap (λ (text : List ℕ). bads_of (items text)) (sym read);
       some = λ unsent. (some unsent).0;
       one = λ unsent. (some unsent).1;
+      left = left;
       places = same_places ∙ stands.places;
     }
 
@@ -235,30 +253,19 @@ pub stands_to_poll : (plant : PlantData) (panel : ℕ) (session : Session) (past
     → Stands plant panel (record session { phase = PollStage }) past
 stands_to_poll plant panel session past stands read none =
     let KeepsOf : Kept → Type 0 = λ kept. Keeps plant kept past in
-    let k : Keeps plant (reading session.panel session.items session.counts.turns session.polls session.sender.output) past = subst KeepsOf (at_phase session Read read none) stands.keeps in
-    stands_with plant panel session (record session { phase = PollStage }) past past stands refl refl refl refl refl refl refl refl
-    (subst KeepsOf (sym (at_phase (record session { phase = PollStage }) PollStage refl none)) (keeps_to_poll plant session.panel session.items session.counts.turns session.polls session.sender.output past k))
+    let k : Keeps plant (reading session.panel session.items session.counts.turns session.polls session.sender.output) past = subst KeepsOf (at_phase session Read read tt none) stands.keeps in
+    stands_with plant panel session (record session { phase = PollStage }) past past stands refl refl refl refl refl refl refl refl tt
+    (subst KeepsOf (sym (at_phase (record session { phase = PollStage }) PollStage refl tt none)) (keeps_to_poll plant session.panel session.items session.counts.turns session.polls session.sender.output past k))
     (λ unsent. absurd (false≢true (sym none ∙ unsent)))
-
--- What was handed out of a session's bytes is sent.
-keeps_handed : (plant : PlantData) (kept : Kept) (output : Output) (parted unsent : Bool) (past : Progress) → unsent ≡ true
-    → Keeps plant (record kept { output = left_output parted unsent output; unsent = unsent }) past
-    → Keeps plant (record kept { output = output; unsent = false }) (with_sent (next_bytes parted false output.bytes) past)
-keeps_handed plant kept output parted false past is k = absurd (false≢true is)
-keeps_handed plant kept output false true past is k = keeps_sent plant (record kept { output = output; unsent = true }) past refl k
-keeps_handed plant kept output true true past is k =
-    let rest = drop 2 output.bytes in
-    let left : Output = record output { bytes = rest } in
-    keeps_bytes plant (record kept { output = left; unsent = false }) (with_sent rest past) output.bytes refl (keeps_sent plant (record kept { output = left; unsent = true }) past refl k)
 
 -- What was to be sent is sent.
 pub stands_sent : (plant : PlantData) (panel : ℕ) (session : Session) (past : Progress) → Stands plant panel session past → session.unsent ≡ true
     → Stands plant panel (record session { unsent = false }) (with_sent (later_of session) past)
 stands_sent plant panel session past stands unsent =
     let after = record session { unsent = false } in
-    let KeepsOf : Kept → Type 0 = λ kept. Keeps plant kept (with_sent (later_of session) past) in
     stands_with plant panel session after past (with_sent (later_of session) past) stands refl refl refl refl refl refl refl refl
-    (subst KeepsOf (sym (kept_whole after refl)) (keeps_handed plant (kept_of session) session.sender.output session.parted session.unsent past unsent stands.keeps))
+    (left_sent plant past (later_of session) session.phase stands.left)
+    (keeps_handed session.phase plant session.sender.names (kept_of session) session.sender.output session.parted session.unsent past unsent stands.keeps)
     (λ unsent. absurd (false≢true unsent))
 
 -- The frames of the answers to what was asked last are sent at once.
@@ -275,9 +282,9 @@ pub stands_told : (plant : PlantData) (panel seat : ℕ) (session : Session) (pa
     (with_entry (record { seat = seat; request = Told session.panel (session.items - 1) message; answers = answers }) past)
 stands_told plant panel seat session past message answers unsent stands tell none empty some =
     let KeepsOf : Kept → Type 0 = λ kept. Keeps plant kept past in
-    let k = subst KeepsOf (at_phase session (Tell message) tell none) stands.keeps in
+    let k = subst KeepsOf (at_phase session (Tell message) tell tt none) stands.keeps in
     let entry : PlantEntry = record { seat = seat; request = Told session.panel (session.items - 1) message; answers = answers } in
     stands_with plant panel session (took_answers answers unsent (record session { phase = Read })) past
-    (with_entry entry past) stands refl refl refl refl refl refl refl refl
+    (with_entry entry past) stands refl refl refl refl refl refl refl refl tt
     (keeps_told plant session.panel session.items session.counts.turns session.polls seat message session.sender.output past answers unsent k empty)
     (λ unsent. (some unsent, answers_one plant (with_entry entry past) (entries_so_far past) entry session.sender.output (entries-told past.turns past.now.told past.now.polls entry k.phase.3)))

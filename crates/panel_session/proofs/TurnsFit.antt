@@ -15,6 +15,7 @@ use Rattle.panel_session.specs.StandsInside.{Kept, Keeps, pending}
 use Rattle.panel_session.specs.Text.{Output, IsText}
 use Rattle.panel_session.specs.Turns.{FitsReads, AreTurns, Turn, bytes_read, entries_of_turns}
 use Rattle.panel_session.proofs.EntryLemmas.{all_ask-append}
+use Rattle.panel_session.proofs.NamesLeftLemmas.{kept_plain, none_begun}
 
 -- Turns fit their own pieces and entries.
 pub turns_fit_lem : (plant : PlantData) (panel : ℕ) (session : Session) (past : Progress) → Stands plant panel session past → FitsReads panel (map (λ turn. turn.piece) past.turns) (entries_of_turns past.turns)
@@ -53,7 +54,8 @@ pub turns_text_lem : (plant : PlantData) (panel : ℕ) (session : Session) (past
 turns_text_lem plant panel session past stands begins =
     let TextOf : List ℕ → Type 0 = λ text. IsText plant (items (bytes_read past.turns)) (entries_of_turns past.turns) text in
     let left = left_output session.parted session.unsent session.sender.output in
+    let plain = kept_plain session.phase session.sender.names session.panel session.items session.counts.turns session.polls left session.unsent (none_begun plant past session.phase stands.left begins) in
     (elim (session.unsent) as (λ unsent. session.unsent ≡ unsent → TextOf (past.sent ++ (if unsent then left else emptied left).bytes) → TextOf past.sent ⊎ TextOf (past.sent ++ later_of session)) [
       | true ↦ λ is text. inr (subst TextOf (ap (λ (bytes : List ℕ). past.sent ++ bytes) (left_later session.parted session.unsent session.sender.output is)) text)
       | false ↦ λ is text. inl (subst TextOf (append-nil past.sent) text)
-    ]) refl (text_over plant past (past.sent ++ (pending (kept_of session)).bytes) begins (text_left plant (kept_of session) past stands.keeps))
+    ]) refl (subst TextOf (ap (λ (kept : Kept). past.sent ++ (pending kept).bytes) plain) (text_over plant past (past.sent ++ (pending (kept_of session)).bytes) begins (text_left plant (kept_of session) past stands.keeps)))

@@ -29,8 +29,10 @@ use Rattle.panel_session.specs.StandsInside.{behind}
 use Rattle.panel_session.specs.Text.{Output, frames_of, with_frames}
 use Rattle.panel_session.specs.WorkInside.{polling_at}
 use Rattle.panel_session.proofs.ActsLemmas.{no_bytes}
+use Rattle.panel_session.proofs.NamesLeftLemmas.{polled_plain}
+use Rattle.panel_session.proofs.OutputLemmas.{behind_frames}
 use Rattle.panel_session.proofs.RunLemmas.{asked_behind, drop-none, goes_none, may_go_on, told_behind, used_more, way_over, way_sent}
-use Rattle.panel_session.proofs.SentLemmas.{behind_frames, polled_sent, polls_none, reading_stands, stands_whatever, taken_stands, told_is, told_sent}
+use Rattle.panel_session.proofs.SentLemmas.{polled_sent, polls_none, reading_stands, stands_whatever, taken_stands, told_is, told_sent}
 use Rattle.panel_session.proofs.SessionLemmas.{asks_first_poll, asks_poll, asks_told, is_reading, rests}
 
 module _ {State : Type 0} {step : State → Request → Stepped State Answer} {Fits : State → Request → Type 0}
@@ -110,7 +112,7 @@ module _ {State : Type 0} {step : State → Request → Stepped State Answer} {F
       let At : Session → Type 0 = λ session. StandsFor plant panel session later in
       let stands : At (after false (behind output.bytes (with_frames frames (emptied output)))) =
       stands_whatever plant panel (record (after false (with_frames frames (emptied output))) { parted = false }) later (output.bytes ++ sent) session_now.parted
-      (told_sent plant panel panel session_now now request message answers acts.0 few tell) refl in
+      (told_sent plant panel panel session_now now request message answers acts.0 few tell) refl tt in
       asked_behind 0 request sent way refl fits state
       (subst At (ap (after false) (sym (behind_frames frames output)) ∙ ap (λ (unsent : Bool). after unsent (with_frames frames output)) (sym none)) stands)
       refl (sym (append-nil now.now.piece)) refl (told_behind now.now.told now.now.polls entry acts.3) (λ some. absurd (some acts.3))
@@ -186,7 +188,7 @@ module _ {State : Type 0} {step : State → Request → Stepped State Answer} {F
         later,
         asked_behind 0 request sent way refl fits state
             (subst At (sym none) (stands_whatever plant panel (record after { parted = false }) later sent asking.parted
-            (polled_sent plant panel panel (polling_at polls asking) now request phase (polls + 1) answers acts.0 few refl counted polled) refl))
+            (polled_sent plant panel panel (polling_at polls asking) now request phase (polls + 1) answers acts.0 few refl counted polled) refl (polled_plain answers (polls + 1) phase polled)))
             refl (sym (append-nil now.now.piece)) refl (sym (append_assoc now.now.told now.now.polls (entry ∷ []))) (λ _. refl),
       )
 

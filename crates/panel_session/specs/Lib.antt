@@ -7,14 +7,15 @@ pub mod Text
 pub mod MostAnswers
 pub mod RoomsInside
 pub mod OutgoingInside
-pub mod NamePagesInside
 pub mod OutgoingKept
 pub mod SenderKept
 pub mod PageKept
 pub mod SoFar
+pub mod OneSend
+pub mod NamePagesInside
+pub mod NamesLeftInside
 pub mod TakenInside
 pub mod Counted
-pub mod OneSend
 pub mod StandsInside
 pub mod Session
 pub mod MovesInside

@@ -1,5 +1,5 @@
 -- What a session sends at once.
-use Rattle.std.specs.Prelude.{◌≡◌, ◌⊎◌, ℕ, List, [], ◌∷◌, ◌++◌, Some}
+use Rattle.std.specs.Prelude.{◌≡◌, ◌≢◌, ◌⊎◌, ℕ, ◌≤◌, List, [], ◌∷◌, ◌++◌, length, Some}
 use Rattle.std.specs.List.{flat_map}
 use Rattle.dle_framing.specs.Numbers.{ack, nak}
 use Rattle.dle_framing.specs.declared.item.Item.{Item}
@@ -11,7 +11,7 @@ use Rattle.panel_session.specs.Asked.{GoodAsks, AllAsk}
 use Rattle.panel_session.specs.declared.session.asked.Asked.{Asked}
 use Rattle.panel_session.specs.declared.session.asked.Asked.TheVariants.{Named}
 use Rattle.panel_session.specs.Entry.{PlantEntry}
-use Rattle.panel_session.specs.NamePages.{name_frames}
+use Rattle.panel_session.specs.NamePages.{GoAtOnce, name_frames, names_asked}
 use Rattle.panel_session.specs.SoFar.{Progress, read_so_far, entries_so_far}
 use Rattle.panel_session.specs.Text.{frames_of, nothing_sent, output_from}
 
@@ -28,14 +28,21 @@ pub record IsSentAgain (plant : PlantData) (read : List ℕ) (entries : List Pla
   pub ask : AllAsk before asked
   pub last_frame : (output_from plant 0 asked entries nothing_sent).last ≡ Some bytes
 
--- The last item asks for names, and these bytes are the frames of all their pages.
+-- The last item asks for names, and these bytes are the frames of pages of theirs, one behind the other: of all pages where
+-- these go at once, and else of a part, 32 of them or more where others are left.
 pub record ArePages (plant : PlantData) (read bytes : List ℕ) : Type 0 where
   pub before : List (Item (List ℕ))
   pub carried : List ℕ
   pub message : Message
   pub last_item : items read ≡ before ++ Good carried ∷ []
   pub asks : GoodAsks carried (Named message)
-  pub bytes_are : bytes ≡ bytes_in (name_frames plant message)
+  pub earlier : List (List ℕ)
+  pub frames : List (List ℕ)
+  pub later : List (List ℕ)
+  pub frames_are : name_frames plant message ≡ earlier ++ (frames ++ later)
+  pub bytes_are : bytes ≡ bytes_in frames
+  pub at_once : GoAtOnce (names_asked plant message) → (earlier ≡ []) × (later ≡ [])
+  pub enough : later ≢ [] → 32 ≤ length frames
 
 -- These bytes are all frames of the answers to what was asked last.
 pub record AreAnswers (entries : List PlantEntry) (bytes : List ℕ) : Type 0 where
@@ -44,7 +51,7 @@ pub record AreAnswers (entries : List PlantEntry) (bytes : List ℕ) : Type 0 wh
   pub entries_are : entries ≡ before ++ last ∷ []
   pub bytes_are : bytes ≡ bytes_in (frames_of last.answers)
 
--- What is sent at once: one ACK, one NAK, one frame that is sent again, the pages of names of one message, or the frames of
+-- What is sent at once: one ACK, one NAK, one frame that is sent again, pages of the names of one message, or the frames of
 -- the answers to one request.
 abbrev pub IsOneSend : PlantData → Progress → List ℕ → Type 0
 IsOneSend plant past bytes =

@@ -6,6 +6,7 @@ use Rattle.panel_session.specs.declared.session.act.Act.{Act}
 use Rattle.panel_session.specs.declared.session.Session.{Session}
 use Rattle.panel_session.specs.declared.session.phase.Phase.TheVariants.{Read, Poll}
 use Rattle.panel_session.specs.SoFar.{Progress, read_so_far, with_bytes, with_sent}
+use Rattle.panel_session.specs.NamesLeftInside.{NamesNone}
 use Rattle.panel_session.specs.Session.{Stands, outgoing_of, made_by}
 use Rattle.panel_session.specs.Acting.{Acts, MayGoOn}
 use Rattle.panel_session.specs.OneSend.{IsOneSend}
@@ -36,6 +37,7 @@ HasTaken plant panel now true session =
     × (session.unsent ≡ false)
     × (made_by session ≢ [])
     × (session.phase ≡ Poll → ⊥)
+    × NamesNone session.phase
 HasTaken plant panel now false session = IsReading plant panel session now
 
 -- What reading on does: it acts so behind each past of a session that reads, where the piece may go on.

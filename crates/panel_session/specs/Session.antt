@@ -1,5 +1,5 @@
 -- Which pasts a session stands for.
-use Rattle.std.specs.Prelude.{◌≡◌, ◌≢◌, ℕ, ◌-◌, ◌<◌, ◌≤◌, Bool, true, false, List, [], length, take, drop}
+use Rattle.std.specs.Prelude.{◌≡◌, ◌≢◌, ℕ, ◌-◌, ◌<◌, ◌≤◌, Bool, true, false, List, [], length, take, drop, IfSome}
 use Rattle.dle_framing.specs.Framer as framer
 use Rattle.dle_framing.specs.Items.{items}
 use Rattle.history_lock.specs.Places.{Placed}
@@ -10,9 +10,10 @@ use Rattle.plant_core.specs.declared.request.Request.{Request}
 use Rattle.plant_core.specs.declared.request.Request.TheVariants.{Told, Poll}
 use Rattle.panel_session.specs.declared.session.Session.{Session}
 use Rattle.panel_session.specs.declared.session.phase.Phase.{Phase}
-use Rattle.panel_session.specs.declared.session.phase.Phase.TheVariants.{Read, Tell, Poll as PollStage, End}
+use Rattle.panel_session.specs.declared.session.phase.Phase.TheVariants.{Read, Name, Tell, Poll as PollStage, End}
 use Rattle.panel_session.specs.SoFar.{Progress, nothing_yet, read_so_far, with_entry}
 use Rattle.panel_session.specs.StandsInside.{Kept, Keeps}
+use Rattle.panel_session.specs.NamesLeftInside.{AreLeft, is_unsent, left_at, stage_of, with_left}
 use Rattle.panel_session.specs.Counted.{goods_of, bads_of}
 use Rattle.panel_session.specs.OneSend.{IsOneSend}
 use Rattle.panel_session.specs.Text.{Output}
@@ -54,15 +55,17 @@ left_output false unsent output = output
 left_output true true output = record output { bytes = drop 2 output.bytes }
 left_output true false output = output
 
+-- what it keeps: while pages of names are left, it is one that reads and has yet to send them
 abbrev pub kept_of : Session → Kept
 kept_of session = record {
   panel = session.panel;
-  phase = session.phase;
+  phase = stage_of session.phase;
   items = session.items;
   turns = session.counts.turns;
   polls = session.polls;
-  output = left_output session.parted session.unsent session.sender.output;
-  unsent = session.unsent;
+  output = with_left session.sender.names session.phase session.unsent
+      (left_output session.parted session.unsent session.sender.output);
+  unsent = is_unsent session.phase session.unsent;
 }
 
 -- The session of this panel of a plant keeps what it needs of this past.
@@ -78,6 +81,7 @@ pub record Stands (plant : PlantData) (panel : ℕ) (session : Session) (past : 
   pub bads : session.counts.bads ≡ bads_of (items (read_so_far past))
   pub some : session.unsent ≡ true → later_of session ≢ []
   pub one : session.unsent ≡ true → IsOneSend plant past (later_of session)
+  pub left : IfSome (left_at session.phase) (AreLeft plant past)
   pub places : session.outbox.places ≡ room_of plant
 
 -- The session of this panel of a plant stands for this past, with nothing asked that wasn't answered: where it polls it has
@@ -90,6 +94,7 @@ StandsFor plant panel session past =
 -- A request is what a session asks at this phase.
 abbrev pub AsksAt : Phase → Kept → Request → Type 0
 AsksAt Read kept request = ⊥
+AsksAt (Name page) kept request = ⊥
 AsksAt (Tell message) kept request = request ≡ Told kept.panel (kept.items - 1) message
 AsksAt PollStage kept request = request ≡ Poll kept.panel kept.items kept.turns
 AsksAt End kept request = ⊥

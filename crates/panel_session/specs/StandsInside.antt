@@ -8,7 +8,7 @@ use Rattle.plant_core.specs.State.{IsForPlant}
 use Rattle.panel_session.specs.declared.session.asked.Asked.{Asked}
 use Rattle.panel_session.specs.declared.session.asked.Asked.TheVariants.{Nothing, Repeat, Refused, Noted, Named, Sent}
 use Rattle.panel_session.specs.declared.session.phase.Phase.{Phase}
-use Rattle.panel_session.specs.declared.session.phase.Phase.TheVariants.{Read, Tell, Poll as PollStage, End}
+use Rattle.panel_session.specs.declared.session.phase.Phase.TheVariants.{Read, Name, Tell, Poll as PollStage, End}
 use Rattle.panel_session.specs.Entry.{PlantEntry}
 use Rattle.panel_session.specs.Asked.{AllAsk, sent_to_plant}
 use Rattle.panel_session.specs.Turns.{bytes_read, requests, item_count, EndIn, AreTurns, ArePolls}
@@ -65,6 +65,7 @@ IsAtStage Read panel first before asked past =
     (requests past.now.told ≡ sent_to_plant panel first asked)
     × (past.now.polls ≡ [])
     × AllTold 0 (before ++ asked) (entries_so_far past)
+IsAtStage (Name page) panel first before asked past = ⊥
 IsAtStage (Tell message) panel first before asked past =
     (front : List Asked)
     × (asked ≡ front ++ Sent message ∷ [])

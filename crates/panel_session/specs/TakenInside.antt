@@ -37,10 +37,6 @@ IsAnswer plant asked output = sent_by plant asked output ≢ []
 abbrev pub IsNoAnswer : PlantData → Asked → Output → Type 0
 IsNoAnswer plant asked output = sent_by plant asked output ≡ []
 
--- what is to be sent next is what is sent for the item
-abbrev pub IsSending : PlantData → Asked → Output → Output → Type 0
-IsSending plant asked before after = after.bytes ≡ sent_by plant asked before
-
 -- what comes next
 abbrev pub taken_phase : Asked → Phase
 taken_phase Nothing = Read

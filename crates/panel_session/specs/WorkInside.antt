@@ -1,19 +1,45 @@
 -- A turn that is worked at once.
-use Rattle.std.specs.Prelude.{◌≡◌, ℕ, Bool, if◌then◌else◌, List, [], ◌++◌, drop}
+use Rattle.std.specs.Prelude.{◌≡◌, ℕ, Bool, true, if◌then◌else◌, List, [], ◌++◌, drop}
 use Rattle.history_lock.specs.Step.{Stepped}
 use Rattle.plant_config.specs.Plant.{PlantData}
 use Rattle.plant_core.specs.declared.answer.Answer.{Answer}
 use Rattle.plant_core.specs.declared.request.Request.{Request}
 use Rattle.panel_session.specs.declared.session.Session.{Session}
 use Rattle.panel_session.specs.declared.session.phase.Phase.TheVariants.{Poll}
+use Rattle.panel_session.specs.NamePagesInside.{frames_left}
+use Rattle.panel_session.specs.NamesLeftInside.{left_at, stage_of, with_left}
+use Rattle.panel_session.specs.OneSend.{bytes_in}
 use Rattle.panel_session.specs.Run.{MayTurn, HasRun}
 use Rattle.panel_session.specs.RunInside.{IsUnderWay}
+use Rattle.panel_session.specs.SenderKept.{sending}
 use Rattle.panel_session.specs.Session.{later_of, made_by}
 use Rattle.panel_session.specs.SoFar.{Progress}
 
 -- what was not yet handed out
 abbrev pub unsent_bytes : Session → List ℕ
 unsent_bytes session = if session.unsent then later_of session else []
+
+-- a session that has spelled all pages of names that are left
+abbrev pub spelled_all : Session → Session
+spelled_all session = record session {
+  phase = stage_of session.phase;
+  sender = sending
+      (with_left session.sender.names session.phase true session.sender.output) session.sender;
+}
+
+-- the bytes of these pages
+abbrev pub left_bytes : Session → List ℕ
+left_bytes session = bytes_in (frames_left session.sender.names (left_at session.phase))
+
+-- All pages that were left were spelled and handed out, part by part: the session is one that has spelled them all, but for
+-- the bytes that it has yet.
+pub record IsSpelled (session after : Session) : Type 0 where
+  pub bytes : List ℕ
+  pub parted : Bool
+  pub same : after ≡ record (spelled_all session) {
+    sender = sending (record (spelled_all session).sender.output { bytes = bytes }) session.sender;
+    parted = parted;
+  }
 
 -- a session that has polled so often in the turn, and polls again
 abbrev pub polling_at : ℕ → Session → Session
@@ -54,8 +80,8 @@ abbrev pub WorksOn : {State : Type 0} (step : State → Request → Stepped Stat
 WorksOn step Fits most rest used send session session_then machine machine_then =
     (on : IsOnItsWay step Fits most session machine rest)
     → (now_then : Progress)
-    × HasCome on session_then machine_then (drop used rest) now_then
-    (if send then made_by session_then else [])
+    × HasCome on (spelled_all session_then) machine_then (drop used rest) now_then
+    (if send then made_by (spelled_all session_then) else [])
 
 -- A turn goes on, up to where this is left of its piece: exactly what was sent was given to the outlet.
 abbrev pub GoesOn : {State Outlet : Type 0} (step : State → Request → Stepped State Answer)

@@ -70,7 +70,7 @@ impl<'p> Session<'p> {
     ghost use Rattle.panel_session.specs.Session.{TakesAnswers, BeginsAnew, BeginsAnewUnanswered};
 
     /// A session of a panel of the plant, to which nothing was sent. The names are those of the plant. Its room is enough for
-    /// the longest pages of this plant, and for the answers of a step.
+    /// the pages of 1,024 names, or of all where a level of this plant has fewer, and for the answers of a step.
     pub fn start(
         alloc: Global,
         plant: &'p Plant,
@@ -212,6 +212,10 @@ impl<'p> Session<'p> {
         }
         match self.phase {
             Phase::Read => self.read(piece),
+            Phase::Name(page) => {
+                self.name_on(page);
+                (0, Act::Send)
+            }
             Phase::Tell(message) => (0, Act::Ask(self.telling(message))),
             Phase::Poll => (0, Act::Ask(self.polling())),
             Phase::End => {
@@ -240,6 +244,7 @@ impl<'p> Session<'p> {
                 self.take_answers();
             }
             Phase::Read | Phase::End => {}
+            Phase::Name(_) => {}
         }
     }
 
@@ -269,7 +274,8 @@ impl<'p> Session<'p> {
         ensures reads { HasReadOn self.old piece.now result.0 result.1 self.new }
         ensures quiet { result.1 ≡ false → self.new.phase ≡ self.old.phase }
         ensures unsent { result.1 ≡ false → self.new.unsent ≡ self.old.unsent }
-        ensures left { self.old.phase ≡ Read → phase_left self.new.phase self.new.polls ≤ 68 }
+        ensures left { self.old.phase ≡ Read
+            → phase_left self.new.phase self.new.polls ≤ 132 }
     {
         let (used, asked) = next_asked(&mut self.framer, piece);
         match asked {

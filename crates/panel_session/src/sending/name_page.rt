@@ -4,7 +4,7 @@ ghost use Rattle.std.specs.Prelude.{◌≡◌, ◌+◌, ◌≤◌, ◌++◌, IfS
 ghost use Rattle.swp08_messages.specs.Text.{InRange};
 ghost use Rattle.plant_config.specs.Plant.{PlantData};
 ghost use Rattle.plant_names.specs.Pages.{max_page_len, AreFew};
-ghost use Rattle.panel_session.specs.NamePages.{name_pages};
+ghost use Rattle.panel_session.specs.NamePages.{name_pages, names_asked};
 ghost use Rattle.panel_session.specs.NamePagesInside.{IsNamePage, names_of, data_of, end_of};
 ghost use Rattle.panel_session.specs.NamePagesInside.{pages_left};
 
@@ -35,6 +35,8 @@ impl NamePage {
         ensures pages { (plant : PlantData)
             → pages_left plant result ≡ name_pages plant message }
         ensures page { IfSome result IsNamePage }
+        ensures names { (plant : PlantData) → IfSome result (λ page.
+            names_of plant page.matrix page.names ≡ names_asked plant message) }
     {
         let (names, matrix, size, first, one) = match message {
             Message::SourceNamesAsk {
@@ -74,7 +76,7 @@ impl NamePage {
 
     // Appends its DATA, where there are names from its number on, and answers how it ends.
     pub(crate) fn write(self, names: &Names, out: &mut Vec<u8>) -> Paged
-        requires page { IsNamePage self }
+        requires size { self.size ≤ 2 }
         requires room { vec_len out.old + max_page_len ≤ vec_capacity out.old }
         ensures end { result ≡ end_of names.now self }
         ensures few { IfSome (names_of names.now self.matrix self.names) AreFew }

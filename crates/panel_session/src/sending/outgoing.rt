@@ -8,14 +8,12 @@ ghost use Rattle.dle_framing.specs.Frame.{frame};
 ghost use Rattle.swp08_messages.specs.Dump.{page_text};
 ghost use Rattle.panel_session.specs.Text.{repeated, nothing_sent};
 ghost use Rattle.panel_session.specs.Text.{with_frame, with_control};
-ghost use Rattle.panel_session.specs.NamePagesInside.{IsNamePage, HasRoomFor, names_of};
-ghost use Rattle.panel_session.specs.NamePagesInside.{data_of, end_of};
+ghost use Rattle.panel_session.specs.NamePagesInside.{names_of, data_of, end_of};
 ghost use Rattle.plant_names.specs.Pages.{AreFew};
 ghost use Rattle.plant_names.specs.declared.paged.Paged.TheVariants.{Nothing};
 ghost use Rattle.panel_session.specs.OutgoingInside.{emptied};
 ghost use Rattle.panel_session.specs.OutgoingKept.{most_message_frame, most_answer_frame};
 ghost use Rattle.panel_session.specs.OutgoingKept.{answer_bytes};
-ghost use Rattle.panel_session.specs.RoomsInside.{room_to_send};
 
 use crate::sending::dump_page::DumpPage;
 use crate::sending::name_page::NamePage;
@@ -181,9 +179,8 @@ impl Outgoing {
 
     // The frame of this page of names is to be sent too, if there is such a page. It answers how the page ends.
     pub(crate) fn send_names(&mut self, names: &Names, page: NamePage) -> Paged
-        requires page { IsNamePage page }
-        requires names { room_to_send names.now ≤ self.old.room }
-        requires room { HasRoomFor page self.old.output }
+        requires size { page.size ≤ 2 }
+        requires room { length self.old.output.bytes + most_answer_frame ≤ self.old.room }
         ensures end { result ≡ end_of names.now page }
         ensures few { IfSome (names_of names.now page.matrix page.names) AreFew }
         ensures none { result ≡ Nothing → self.new.output ≡ self.old.output }

@@ -1,20 +1,22 @@
 //! What a session sends next, with the names of its plant.
 
-ghost use Rattle.std.specs.Prelude.{◌≡◌, ◌≢◌, ◌≤◌, true, false, [], length, All, IfOk};
+ghost use Rattle.std.specs.Prelude.{◌≡◌, ◌≢◌, ◌≤◌, true, false, [], length, All, IfOk, IfSome};
 ghost use Rattle.dle_framing.specs.Numbers.{ack, nak};
 ghost use Rattle.swp08_messages.specs.Text.{InRange};
 ghost use Rattle.plant_config.specs.IsPlant.{IsPlant};
 ghost use Rattle.plant_core.specs.Answer.{IsSayable};
-ghost use Rattle.panel_session.specs.NamePages.{name_frames};
+ghost use Rattle.panel_session.specs.NamePagesInside.{AddsNames, BeginsNames, IsFarBehind};
 ghost use Rattle.panel_session.specs.OutgoingInside.{emptied};
 ghost use Rattle.panel_session.specs.RoomsInside.{fitting, most_named};
 ghost use Rattle.panel_session.specs.SenderKept.{sending};
 ghost use Rattle.panel_session.specs.Text.{frames_of, nothing_sent, repeated};
 ghost use Rattle.panel_session.specs.Text.{with_control, with_frames};
 
+use crate::sending::name_frames::NAMES_AT_ONCE;
+use crate::sending::name_page::NamePage;
 use crate::sending::outgoing::Outgoing;
 use plant_config::Plant;
-use plant_core::Answer;
+use plant_core::{Answer, PlantState};
 use plant_names::Names;
 use std::alloc::{AllocError, Global};
 use std::marker::Model;
@@ -27,13 +29,13 @@ const ONE_PAGE: usize = 278;
 const ONE_NAME: usize = 28;
 
 // What is sent next, and the names that panels ask for. There is room for an ACK and the pages of all names of a level of the
-// plant, and so for the answers of a step: they are no more than the destinations of a level, or 64, and no page of a dump is
-// longer than the messages of as many answers. Only `new` takes memory.
+// plant, or of 1,024 of them, and for the answers of a step: no page of a dump is longer than the messages of as many answers.
+// Only `new` takes memory.
 #[derive(Drop)]
 pub(crate) struct Sender<'p> {
     names: &'p Names,
     outgoing: Outgoing,
-    // The most names of a level.
+    // The most names or answers that are sent at once.
     most: usize,
 }
 
@@ -58,7 +60,8 @@ impl<'p> Sender<'p> {
         ensures { IfOk result (λ sender. sender
             ≡ record { names = plant.now; output = nothing_sent }) }
     {
-        let most = count_most(plant);
+        let names_most = count_most(plant).min(usize::from(NAMES_AT_ONCE));
+        let most = names_most.max(PlantState::room_of(plant));
         Ok(Sender {
             names,
             outgoing: Outgoing::new(alloc, ONE_PAGE + ONE_NAME * most)?,
@@ -103,13 +106,30 @@ impl<'p> Sender<'p> {
         self.outgoing.repeat()
     }
 
-    // An ACK is to be sent, and the pages of names that this message asks for.
-    pub(crate) fn names(&mut self, message: Message)
+    // An ACK is to be sent, and the first pages of names that this message asks for. It answers from which page on others are
+    // left.
+    pub(crate) fn names(&mut self, message: Message) -> Option<NamePage>
         requires { InRange message }
-        ensures { self.new ≡ sending (with_frames (name_frames self.old.names message)
-            (with_control ack (emptied self.old.output))) self.old }
+        ensures names { self.new.names ≡ self.old.names }
+        ensures begins { BeginsNames self.old.names message
+            (with_control ack (emptied self.old.output)) result self.new.output }
     {
-        self.outgoing.names(self.names, message);
+        self.outgoing.names(self.names, message)
+    }
+
+    // The next pages of names are to be sent, from this one on. It answers from which page on others are left. Of a size that
+    // no page has none is sent.
+    pub(crate) fn more_names(&mut self, page: NamePage) -> Option<NamePage>
+        ensures names { self.new.names ≡ self.old.names }
+        ensures adds { page.size ≤ 2
+            → AddsNames self.old.names page (emptied self.old.output) result self.new.output }
+        ensures far { IfSome result (IsFarBehind page.first) }
+    {
+        self.outgoing.clear();
+        if page.size > 2 {
+            return None;
+        }
+        self.outgoing.add_part(self.names, page)
     }
 
     // The frames of these answers are to be sent, in order, where there is room for them. It answers whether there are some.

@@ -5,7 +5,7 @@ ghost use Rattle.std.specs.Prelude.{vec_capacity, ◌+◌};
 ghost use Rattle.dle_framing.specs.Frame.{frame};
 ghost use Rattle.swp08_messages.specs.Dump.{page_text};
 ghost use Rattle.plant_names.specs.Pages.{max_page_len, AreFew};
-ghost use Rattle.panel_session.specs.NamePagesInside.{IsNamePage, names_of, data_of, end_of};
+ghost use Rattle.panel_session.specs.NamePagesInside.{names_of, data_of, end_of};
 ghost use Rattle.swp08_messages.specs.Text.{InRange, text};
 ghost use Rattle.panel_session.specs.OutgoingKept.{most_message_frame, answer_bytes};
 
@@ -68,7 +68,7 @@ pub(crate) fn spell_page(page: &DumpPage, spelled: &mut Vec<u8>, out: &mut Vec<u
 
 // The DATA of a page of names in place of what was spelled, none where there is no such page. It answers how the page ends.
 pub(crate) fn spell_names(page: NamePage, names: &Names, spelled: &mut Vec<u8>) -> Paged
-    requires page { IsNamePage page }
+    requires size { page.size ≤ 2 }
     requires room { max_page_len ≤ vec_capacity spelled.old }
     ensures end { result ≡ end_of names.now page }
     ensures few { IfSome (names_of names.now page.matrix page.names) AreFew }

@@ -3,12 +3,14 @@
 ghost use Rattle.std.specs.Prelude.{◌≡◌, ◌≢◌, true, false, [], All, Some};
 ghost use Rattle.plant_core.specs.Answer.{IsSayable};
 ghost use Rattle.panel_session.specs.AskedInside.{NamesInRange};
-ghost use Rattle.panel_session.specs.MovesInside.{took, acknowledged, took_answers, ended_turn};
-ghost use Rattle.panel_session.specs.MovesInside.{apart, goes_apart};
+ghost use Rattle.panel_session.specs.MovesInside.{took_to, acknowledged, took_answers};
+ghost use Rattle.panel_session.specs.MovesInside.{apart, ended_turn, goes_apart};
+ghost use Rattle.panel_session.specs.MovesInside.{NamesOn, TakesTo, phase_then};
 ghost use Rattle.panel_session.specs.RoomsInside.{fitting};
-ghost use Rattle.panel_session.specs.TakenInside.{IsSending, IsAnswer, IsNoAnswer};
+ghost use Rattle.panel_session.specs.TakenInside.{IsAnswer, IsNoAnswer};
 
 use super::{ACK_LEN, Session};
+use crate::sending::name_page::NamePage;
 use crate::session::asked::Asked;
 use crate::session::phase::Phase;
 
@@ -16,11 +18,10 @@ impl Session<'_> {
     // Does what an item asks, and answers whether something is to be sent.
     pub(super) fn take(&mut self, asked: Asked) -> bool
         requires names { NamesInRange (Some asked) }
-        ensures session { self.new ≡ took self.old.sender.names asked self.old }
+        ensures session { self.new ≡ took_to self.new.sender self.new.phase asked self.old }
+        ensures to { TakesTo asked self.old self.new.sender self.new.phase }
         ensures some { result ≡ true
             → IsAnswer self.old.sender.names asked self.old.sender.output }
-        ensures bytes { result ≡ true → IsSending self.old.sender.names asked
-            self.old.sender.output self.new.sender.output }
         ensures none { result ≡ false
             → IsNoAnswer self.old.sender.names asked self.old.sender.output }
         ensures quiet { result ≡ false → self.new.phase ≡ self.old.phase }
@@ -40,7 +41,8 @@ impl Session<'_> {
             }
             Asked::Named(message) => {
                 self.counts.goods = self.counts.goods.wrapping_add(1);
-                self.sender.names(message);
+                let left = self.sender.names(message);
+                self.leave(left);
                 true
             }
             Asked::Sent(message) => {
@@ -55,12 +57,11 @@ impl Session<'_> {
     pub(super) fn take_apart(&mut self, asked: Asked) -> bool
         requires names { NamesInRange (Some asked) }
         ensures session { self.new ≡ apart self.new.parted
-            (took self.old.sender.names asked self.old) }
+            (took_to self.new.sender self.new.phase asked self.old) }
+        ensures to { TakesTo asked self.old self.new.sender self.new.phase }
         ensures parted { self.new.parted ≡ goes_apart asked self.new.sender.output.bytes }
         ensures some { result ≡ true
             → IsAnswer self.old.sender.names asked self.old.sender.output }
-        ensures bytes { result ≡ true → IsSending self.old.sender.names asked
-            self.old.sender.output self.new.sender.output }
         ensures none { result ≡ false
             → IsNoAnswer self.old.sender.names asked self.old.sender.output }
         ensures quiet { result ≡ false → self.new.phase ≡ self.old.phase }
@@ -72,6 +73,25 @@ impl Session<'_> {
             self.unsent = true;
         }
         send
+    }
+
+    // Makes the pages of names from this one on what is to be sent, as many as go at once.
+    pub(super) fn name_on(&mut self, page: NamePage)
+        ensures { NamesOn page self.old self.new }
+    {
+        self.parted = false;
+        self.phase = Phase::Read;
+        let left = self.sender.more_names(page);
+        self.leave(left);
+    }
+
+    // Where pages of names are left, it sends them next.
+    fn leave(&mut self, left: Option<NamePage>)
+        ensures { self.new ≡ record self.old { phase = phase_then left self.old.phase } }
+    {
+        if let Some(page) = left {
+            self.phase = Phase::Name(page);
+        }
     }
 
     // A good frame is counted, and its ACK is to be sent.

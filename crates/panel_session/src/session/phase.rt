@@ -2,6 +2,7 @@
 
 ghost use Rattle.panel_session.specs.PolledInside.{HasPolled};
 
+use crate::sending::name_page::NamePage;
 use plant_core::Answer;
 use swp08_messages::Message;
 
@@ -13,6 +14,8 @@ const MOST_POLLS: u32 = 32;
 pub(crate) enum Phase {
     // It reads the piece.
     Read,
+    // It sends the pages of names from this one on, for which the last item asks.
+    Name(NamePage),
     // The last item sends the plant this message.
     Tell(Message),
     // It polls for a notice.

@@ -1,11 +1,14 @@
 //! A whole turn of a session, worked over a machine at once.
 
-ghost use Rattle.std.specs.Prelude.{◌≡◌, ◌<◌, ◌≤◌, false, [], All, length};
+ghost use Rattle.std.specs.Prelude.{◌≡◌, ◌<◌, ◌≤◌, false, [], All, IfSome, length};
 ghost use Rattle.plant_core.specs.Answer.{IsSayable};
 ghost use Rattle.plant_core.specs.declared.request.Request.{Request};
-ghost use Rattle.panel_session.specs.MovesInside.{answered_too};
+ghost use Rattle.panel_session.specs.MovesInside.{answered_too, IsReadOrLeft};
+ghost use Rattle.panel_session.specs.NamePagesInside.{IsNamePage};
+ghost use Rattle.panel_session.specs.NamesLeftInside.{left_at};
 ghost use Rattle.panel_session.specs.Run.{IsReady, RunsOn};
 ghost use Rattle.panel_session.specs.WorkInside.{unsent_bytes, IsOnItsWay, WorksOn, GoesOn, Ends};
+ghost use Rattle.panel_session.specs.WorkInside.{left_bytes, IsSpelled};
 ghost use Rattle.panel_session.specs.declared.session.phase.Phase.TheVariants.{Read};
 
 use super::Session;
@@ -66,6 +69,7 @@ impl Session<'_> {
             rest = &rest[used..];
             if send {
                 out.give(self.sender.as_slice());
+                self.give_left(out);
             }
         }
     }
@@ -82,7 +86,9 @@ impl Session<'_> {
         ensures progress { 0 < length piece.now → 0 < result.0 }
         ensures works { WorksOn M.step M.Fits M.room piece.now result.0 result.1
             self.old self.new machine.old machine.new }
-        ensures reads { self.new.phase ≡ Read }
+        ensures reads { IsReadOrLeft self.new.phase }
+        ensures pages { IfSome (left_at self.new.phase) IsNamePage }
+        ensures quiet { result.1 ≡ false → self.new.phase ≡ Read }
         ensures none { self.new.unsent ≡ false }
         ensures fits { (request : Request)
             → M.Fits machine.old request → M.Fits machine.new request }
@@ -101,6 +107,21 @@ impl Session<'_> {
         self.acknowledge();
         self.answer_too();
         (used, true)
+    }
+
+    // Gives the outlet the pages of names that are left, part by part.
+    fn give_left<O: Outlet>(&mut self, out: &mut O)
+        requires left { IsReadOrLeft self.old.phase }
+        requires pages { IfSome (left_at self.old.phase) IsNamePage }
+        ensures session { IsSpelled self.old self.new }
+        ensures reads { self.new.phase ≡ Read }
+        ensures none { self.new.unsent ≡ self.old.unsent }
+        ensures given { O.Given out.old (left_bytes self.old) out.new }
+    {
+        while let Phase::Name(page) = self.phase {
+            self.name_on(page);
+            out.give(self.sender.as_slice());
+        }
     }
 
     // Polls, once the piece is used up, and ends the turn.

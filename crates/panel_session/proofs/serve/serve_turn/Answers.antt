@@ -114,8 +114,8 @@ loop-link-smaller g c =
     let after = c.act-used.new.self in
     let At : Act → Type 0 = λ act. Acts m.plant m.panel (with_bytes (take used rest) w.now) rest used act after in
     let acts = subst At c.in-Ask.is (c.act-used.ensures.acts m.plant m.panel w.now w.stands (serving_may w m.begins m.may)) in
-    let P : Act → Type 0 = λ act. LeavesLessToDo act (4 * length rest + calls_left c.loop-link.session) (4 * (length rest - used) + calls_left after) in
-    let left : 4 * (length rest - used) + calls_left after ≤ 4 * length rest + calls_left c.loop-link.session = subst P c.in-Ask.is c.act-used.ensures.ends in
+    let P : Act → Type 0 = λ act. LeavesLessToDo act (72 * length rest + calls_left c.loop-link.session) (72 * (length rest - used) + calls_left after) in
+    let left : 72 * (length rest - used) + calls_left after ≤ 72 * length rest + calls_left c.loop-link.session = subst P c.in-Ask.is c.act-used.ensures.ends in
     let fewer : calls_left c.ask_lock.new.session < calls_left after = c.in_ok-ask_lock-in-Ask.ensures.nearer m.plant m.panel (with_bytes (take used rest) w.now) acts.0 in
     omega (arith, left, fewer, ap (length {A = ℕ}) (take_rest rest used), length-drop used rest)
 

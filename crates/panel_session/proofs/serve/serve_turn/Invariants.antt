@@ -24,4 +24,4 @@ invariant-loop-link g l = record {
 }
 
 abbrev pub decreases-loop-link : goal.decreases-loop-link
-decreases-loop-link g l = 4 * length l.rest + calls_left l.session
+decreases-loop-link g l = 72 * length l.rest + calls_left l.session

@@ -1,9 +1,10 @@
-use Rattle.std.proofs.Common.{[], false, sym, ap, subst, arith}
+use Rattle.std.proofs.Common.{[], false, length, sym, ap, subst, arith}
 use Rattle.panel_session.specs.declared.session.act.Act.TheVariants.{Rest}
 use Rattle.panel_session.specs.declared.session.Session.{Session}
 use Rattle.panel_session.specs.Acting.{Acts}
 use Rattle.panel_session.specs.CallsLeft.{unsent_left}
-use Rattle.panel_session.proofs.LeftLemmas.{left-by}
+use Rattle.panel_session.proofs.LeftLemmas.{fewer_parts, left-by}
+use Rattle.panel_session.proofs.NamesOnLemmas.{sends_names}
 use Rattle.panel_session.specs.SoFar.{with_bytes}
 use Rattle.panel_session.proofs.SessionLemmas.{sends_unsent, is_reading, asks_told, asks_poll, rests}
 use Rattle.panel_session.proofs.session.Session.act.Goals as goal
@@ -14,6 +15,10 @@ returns-then-self-clause-acts c = λ plant panel past stands may. sends_unsent p
 pub returns-in-Read-clause-acts : goal.returns-in-Read-clause-acts
 returns-in-Read-clause-acts c = λ plant panel past stands may.
     c.read.ensures.acts plant panel past (is_reading plant panel c.args.self.now past stands c.in-Read.is c.if-self.false) may
+
+pub returns-in-Name-clause-acts : goal.returns-in-Name-clause-acts
+returns-in-Name-clause-acts c = λ plant panel past stands may.
+    sends_names plant panel c.args.self.now c.name_on.new.self past c.args.piece.now c.in-Name.page stands c.in-Name.is c.if-self.false c.name_on.ensures
 
 pub returns-in-Tell-clause-acts : goal.returns-in-Tell-clause-acts
 returns-in-Tell-clause-acts c = λ plant panel past stands may.
@@ -35,3 +40,6 @@ returns-then-self-clause-ends c =
 
 pub returns-in-Read-clause-ends : goal.returns-in-Read-clause-ends
 returns-in-Read-clause-ends c = c.read.ensures.ends c.in-Read.is
+
+pub returns-in-Name-clause-ends : goal.returns-in-Name-clause-ends
+returns-in-Name-clause-ends c = fewer_parts c.args.self.now c.name_on.new.self c.in-Name.page (length c.args.piece.now) c.in-Name.is c.name_on.ensures

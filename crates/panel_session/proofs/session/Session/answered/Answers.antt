@@ -1,5 +1,6 @@
-use Rattle.std.proofs.Common.{◌+◌, ◌%◌, ◌^◌, List, refl, subst}
+use Rattle.std.proofs.Common.{◌+◌, ◌%◌, ◌^◌, List, inl, inr, refl, subst}
 use Rattle.plant_core.specs.declared.answer.Answer.{Answer}
+use Rattle.panel_session.specs.declared.session.phase.Phase.TheVariants.{Read, Name, End}
 use Rattle.panel_session.specs.PolledInside.{HasPolled}
 use Rattle.panel_session.specs.RoomsInside.{fitting}
 use Rattle.panel_session.proofs.SessionLemmas.{answered_told, answered_poll, nothing_asked}
@@ -16,7 +17,13 @@ returns-in-Poll-clause-answered c = λ request plant panel seat past awaits few.
     answered_poll plant panel seat c.args.self.now c.take_answers-in-Poll.new.self past request c.phase_behind-self.result _ awaits few c.in-Poll.is refl (subst Polled c.items.ensures c.phase_behind-self.ensures) c.take_answers-in-Poll.ensures.took c.take_answers-in-Poll.ensures.some c.take_answers-in-Poll.ensures.none
 
 pub returns-in-Read-clause-answered : goal.returns-in-Read-clause-answered
-returns-in-Read-clause-answered c = λ request plant panel seat past awaits few. absurd (nothing_asked plant panel c.args.self.now past request awaits c.in-Read.is)
+returns-in-Read-clause-answered c = λ request plant panel seat past awaits few. elim c.in-Read.is [
+  | (inl read) ↦ absurd (nothing_asked plant panel c.args.self.now past request Read awaits read)
+  | (inr over) ↦ absurd (nothing_asked plant panel c.args.self.now past request End awaits over)
+]
+
+pub returns-in-Name-clause-answered : goal.returns-in-Name-clause-answered
+returns-in-Name-clause-answered c = λ request plant panel seat past awaits few. absurd (nothing_asked plant panel c.args.self.now past request (Name c.in-Name.field-0) awaits c.in-Name.is)
 
 pub returns-in-Tell-clause-ends : goal.returns-in-Tell-clause-ends
 returns-in-Tell-clause-ends c = λ request plant panel past awaits. left_told c.args.self.now c.take_answers.new.self c.in-Tell.field-0 (fitting c.args.self.now.sender.names c.args.self.now.outbox.items) c.in-Tell.is c.take_answers.ensures.took
@@ -27,4 +34,10 @@ returns-in-Poll-clause-ends c = λ request plant panel past awaits.
     left_poll plant panel c.args.self.now c.take_answers-in-Poll.new.self past request c.phase_behind-self.result _ (fitting c.args.self.now.sender.names c.args.self.now.outbox.items) awaits c.in-Poll.is refl (subst Polled c.items.ensures c.phase_behind-self.ensures) c.take_answers-in-Poll.ensures.took
 
 pub returns-in-Read-clause-ends : goal.returns-in-Read-clause-ends
-returns-in-Read-clause-ends c = λ request plant panel past awaits. absurd (nothing_asked plant panel c.args.self.now past request awaits c.in-Read.is)
+returns-in-Read-clause-ends c = λ request plant panel past awaits. elim c.in-Read.is [
+  | (inl read) ↦ absurd (nothing_asked plant panel c.args.self.now past request Read awaits read)
+  | (inr over) ↦ absurd (nothing_asked plant panel c.args.self.now past request End awaits over)
+]
+
+pub returns-in-Name-clause-ends : goal.returns-in-Name-clause-ends
+returns-in-Name-clause-ends c = λ request plant panel past awaits. absurd (nothing_asked plant panel c.args.self.now past request (Name c.in-Name.field-0) awaits c.in-Name.is)

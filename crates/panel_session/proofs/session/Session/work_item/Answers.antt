@@ -1,4 +1,4 @@
-use Rattle.std.proofs.Common.{◌≡◌, ℕ, ◌-◌, ◌^◌, ◌<◌, ◌≤◌, false, List, length, drop, All, Option, Some, refl, sym, ap, ◌∙◌, subst, arith}
+use Rattle.std.proofs.Common.{◌≡◌, ℕ, ◌-◌, ◌^◌, ◌<◌, ◌≤◌, false, List, [], length, drop, All, Option, Some, refl, sym, ap, ◌∙◌, subst, arith}
 use Rattle.history_lock.specs.Places.{Placed}
 use Rattle.plant_core.specs.Answer.{IsSayable, room_of}
 use Rattle.plant_core.specs.declared.answer.Answer.{Answer}
@@ -9,10 +9,14 @@ use Rattle.panel_session.specs.declared.session.asked.Asked.TheVariants.{Sent}
 use Rattle.panel_session.specs.declared.session.Session.{Session}
 use Rattle.panel_session.specs.declared.session.phase.Phase.{Phase}
 use Rattle.panel_session.specs.declared.session.phase.Phase.TheVariants.{Read}
-use Rattle.panel_session.specs.MovesInside.{answered_too}
+use Rattle.panel_session.specs.MovesInside.{IsReadOrLeft, answered_too}
+use Rattle.panel_session.specs.NamePagesInside.{IsNamePage}
+use Rattle.panel_session.specs.NamesLeftInside.{NamesNone}
 use Rattle.panel_session.specs.Session.{made_by, with_outbox}
-use Rattle.panel_session.specs.WorkInside.{HasCome}
-use Rattle.panel_session.proofs.ReadLemmas.{has_passed, has_taken, has_told, phase_stays, told_by}
+use Rattle.panel_session.specs.WorkInside.{HasCome, spelled_all}
+use Rattle.panel_session.proofs.HandedLemmas.{stays}
+use Rattle.panel_session.proofs.NamesLeftLemmas.{none_left}
+use Rattle.panel_session.proofs.ReadLemmas.{has_passed, has_taken, has_told, left_is_page, reads_or_left, spelled_is, spelled_plain, told_by}
 use Rattle.panel_session.proofs.RunLemmas.{sayable_now}
 use Rattle.panel_session.proofs.SentLemmas.{taken_too}
 use Rattle.panel_session.proofs.WorkLemmas.{asks_item, way_item, way_told}
@@ -117,26 +121,54 @@ returns-clause-works g c =
     ∙ ap (λ (phase : Phase). answered_too c.step.new.out.items (with_outbox (record told { phase = phase }) c.step.new.out)) c.requires.reads
     ∙ taken_too (record told { phase = Read }) c.step.new.out answers c.step.ensures.answers c.step.ensures.places in
     let Of : Session → Type 0 = λ session. HasCome on session c.step.new.self (drop used c.args.piece.now) done.0 (made_by session) in
-    (done.0, subst Of (sym same) done.1)
+    let plain : NamesNone c.answer_too.new.self.phase = subst NamesNone (sym (ap (λ (session : Session). session.phase) same)) tt in
+    (done.0, subst Of (sym (spelled_plain c.answer_too.new.self plain)) (subst Of (sym same) done.1))
 
 pub returns-in_default-clause-works : goal.returns-in_default-clause-works
 returns-in_default-clause-works g c = λ on.
     let Found : List ℕ → Option Asked → Type 0 = λ text asked. FoundAsks text c.args.piece.now c.next_asked-used.result.0 asked in
-    way_item (record c.args.self.now { framer = c.next_asked-used.new.framer }) c.next_asked-used.result.0 false on.may on.way c.requires.reads c.requires.none
+    let after : Session = record c.args.self.now { framer = c.next_asked-used.new.framer } in
+    let done = way_item after c.next_asked-used.result.0 false on.may on.way c.requires.reads c.requires.none
     (has_passed c.args.self.now c.next_asked-used.new.framer c.args.piece.now c.next_asked-used.result.0 c.next_asked-used.ensures.stands
-    (λ text stands. subst (Found text) c.in_default.is (c.next_asked-used.ensures.finds text stands)))
+    (λ text stands. subst (Found text) c.in_default.is (c.next_asked-used.ensures.finds text stands))) in
+    let Of : Session → Type 0 = λ session. HasCome on session c.args.machine.now (drop c.next_asked-used.result.0 c.args.piece.now) done.0 [] in
+    (done.0, subst Of (sym (spelled_plain after (subst NamesNone (sym c.requires.reads) tt))) done.1)
 
 pub returns-in_default-asked-clause-works : goal.returns-in_default-asked-clause-works
 returns-in_default-asked-clause-works g c = λ on.
     let Found : List ℕ → Option Asked → Type 0 = λ text asked. FoundAsks text c.args.piece.now c.next_asked-used.result.0 asked in
-    way_item c.take.new.self c.next_asked-used.result.0 c.take.result on.may on.way c.requires.reads c.requires.none
-    (has_taken c.args.self.now c.take.new.self c.next_asked-used.new.framer c.args.piece.now c.next_asked-used.result.0 c.in-Some.asked c.take.result c.next_asked-used.ensures.stands
+    let framed : Session = record c.args.self.now { framer = c.next_asked-used.new.framer } in
+    let after = c.take.new.self in
+    let spelled = ap spelled_all c.take.ensures.session ∙ spelled_is c.in-Some.asked framed after.sender after.phase c.requires.reads c.take.ensures.to in
+    way_item (spelled_all after) c.next_asked-used.result.0 c.take.result on.may on.way c.requires.reads c.requires.none
+    (has_taken c.args.self.now (spelled_all after) c.next_asked-used.new.framer c.args.piece.now c.next_asked-used.result.0 c.in-Some.asked c.take.result c.next_asked-used.ensures.stands
     (λ text stands. subst (Found text) c.in-Some.is (c.next_asked-used.ensures.finds text stands))
-    c.take.ensures.session c.take.ensures.some c.take.ensures.bytes c.take.ensures.none c.take.ensures.quiet)
+    spelled c.take.ensures.some c.take.ensures.none (λ quiet. ap (λ (session : Session). session.phase) spelled ∙ stays c.in-Some.asked framed after.sender after.phase c.take.ensures.to (c.take.ensures.quiet quiet)))
 
 pub returns-in_default-asked-clause-reads : goal.returns-in_default-asked-clause-reads
 returns-in_default-asked-clause-reads g c =
-    ap (λ (session : Session). session.phase) c.take.ensures.session ∙ phase_stays c.in-Some.asked c.args.self.now.phase c.in_default-asked.not-Sent ∙ c.requires.reads
+    reads_or_left c.in-Some.asked (record c.args.self.now { framer = c.next_asked-used.new.framer }) c.take.new.self.sender c.take.new.self.phase c.requires.reads c.in_default-asked.not-Sent c.take.ensures.to
+
+pub returns-in_default-asked-clause-quiet : goal.returns-in_default-asked-clause-quiet
+returns-in_default-asked-clause-quiet g c = λ quiet. c.take.ensures.quiet quiet ∙ c.requires.reads
 
 pub returns-in_default-asked-clause-none : goal.returns-in_default-asked-clause-none
 returns-in_default-asked-clause-none g c = ap (λ (session : Session). session.unsent) c.take.ensures.session ∙ c.requires.none
+
+pub returns-in_default-asked-clause-pages : goal.returns-in_default-asked-clause-pages
+returns-in_default-asked-clause-pages g c =
+    left_is_page c.in-Some.asked (record c.args.self.now { framer = c.next_asked-used.new.framer }) c.take.new.self.sender c.take.new.self.phase c.requires.reads c.in_default-asked.not-Sent c.take.ensures.to
+
+pub returns-in_default-clause-reads : goal.returns-in_default-clause-reads
+returns-in_default-clause-reads g c = subst IsReadOrLeft (sym c.requires.reads) tt
+
+pub returns-in_default-clause-pages : goal.returns-in_default-clause-pages
+returns-in_default-clause-pages g c = none_left IsNamePage c.args.self.now.phase (subst NamesNone (sym c.requires.reads) tt)
+
+pub returns-clause-reads : goal.returns-clause-reads
+returns-clause-reads g c = subst IsReadOrLeft (sym (ap (λ (session : Session). session.phase) c.answer_too.ensures ∙ ap (λ (session : Session). session.phase) c.acknowledge.ensures ∙ c.requires.reads)) tt
+
+pub returns-clause-pages : goal.returns-clause-pages
+returns-clause-pages g c =
+    none_left IsNamePage c.answer_too.new.self.phase
+    (subst NamesNone (sym (ap (λ (session : Session). session.phase) c.answer_too.ensures ∙ ap (λ (session : Session). session.phase) c.acknowledge.ensures ∙ c.requires.reads)) tt)

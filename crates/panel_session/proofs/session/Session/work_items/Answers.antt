@@ -1,8 +1,9 @@
 use Rattle.std.proofs.Common.{ℕ, List, [], ◌++◌, length, eqb-true, refl, sym, ◌∙◌, subst}
 use Rattle.std.proofs.lemmas.List.{nil_from_length, take_rest}
 use Rattle.panel_session.specs.Session.{made_by}
-use Rattle.panel_session.specs.WorkInside.{HasCome}
+use Rattle.panel_session.specs.WorkInside.{HasCome, left_bytes, spelled_all}
 use Rattle.panel_session.proofs.RunLemmas.{goes_none, goes_quiet, goes_sent}
+use Rattle.panel_session.proofs.SpelledLemmas.{spelled_bytes, staged, way_plain, way_spelled}
 use Rattle.panel_session.proofs.WayLemmas.{further}
 use Rattle.panel_session.proofs.session.Session.work_items.Goals as goal
 
@@ -25,15 +26,20 @@ loop-rest-preserved-then-send g c = record {
   way = λ on.
       let come = c.loop-rest.invariant.way on in
       let worked = c.work_item-used.ensures.works (further on come.0 come.1 come.3 c.loop-rest.invariant.fits c.loop-rest.invariant.room) in
-      let bytes = made_by c.work_item-used.new.self in
-      let Given : List ℕ → Type 0 = λ bytes. g.O.Outlet.Given c.loop-rest.out bytes c.give.new.self in (
+      let before = c.work_item-used.new.self in
+      let made = made_by before in
+      let left = left_bytes before in
+      let Given : List ℕ → Type 0 = λ bytes. g.O.Outlet.Given c.loop-rest.out bytes c.give.new.self in
+      let whole = goes_sent on.more come.1 (made_by (spelled_all before)) c.work_item-used.result.1 c.if-send.true (take_rest c.loop-rest.rest.now c.work_item-used.result.0) worked.1 in
+      let parts = g.met.O.Outlet.given_more c.loop-rest.out c.give.new.self c.give_left.new.out made left (subst Given c.as_slice.ensures c.give.ensures) c.give_left.ensures.given in (
         worked.0,
-        come.1 ++ bytes,
-        g.met.O.Outlet.given_more c.args.out.now c.loop-rest.out c.give.new.self come.1 bytes come.2 (subst Given c.as_slice.ensures c.give.ensures),
-        goes_sent on.more come.1 bytes c.work_item-used.result.1 c.if-send.true (take_rest c.loop-rest.rest.now c.work_item-used.result.0) worked.1,
+        come.1 ++ (made ++ left),
+        g.met.O.Outlet.given_more c.args.out.now c.loop-rest.out c.give_left.new.out come.1 (made ++ left) come.2 parts,
+        way_spelled before c.give_left.new.self on.more come.1 made left whole c.work_item-used.ensures.none (staged before.phase c.work_item-used.ensures.reads) c.give_left.ensures.session
+            (spelled_bytes before c.work_item-used.ensures.reads),
       );
-  reads = c.work_item-used.ensures.reads;
-  none = c.work_item-used.ensures.none;
+  reads = c.give_left.ensures.reads;
+  none = c.give_left.ensures.none ∙ c.work_item-used.ensures.none;
   fits = λ request fits. c.work_item-used.ensures.fits request (c.loop-rest.invariant.fits request fits);
   room = c.work_item-used.ensures.same ∙ c.loop-rest.invariant.room;
 }
@@ -42,13 +48,15 @@ pub loop-rest-preserved : goal.loop-rest-preserved
 loop-rest-preserved g c = record {
   way = λ on.
       let come = c.loop-rest.invariant.way on in
-      let worked = c.work_item-used.ensures.works (further on come.0 come.1 come.3 c.loop-rest.invariant.fits c.loop-rest.invariant.room) in (
+      let worked = c.work_item-used.ensures.works (further on come.0 come.1 come.3 c.loop-rest.invariant.fits c.loop-rest.invariant.room) in
+      let after = c.work_item-used.new.self in (
         worked.0,
         come.1,
         come.2,
-        goes_quiet (on.more ++ come.1) (made_by c.work_item-used.new.self) c.work_item-used.result.1 c.if-send.false (take_rest c.loop-rest.rest.now c.work_item-used.result.0) worked.1,
+        way_plain after (c.work_item-used.ensures.quiet c.if-send.false)
+            (goes_quiet (on.more ++ come.1) (made_by (spelled_all after)) c.work_item-used.result.1 c.if-send.false (take_rest c.loop-rest.rest.now c.work_item-used.result.0) worked.1),
       );
-  reads = c.work_item-used.ensures.reads;
+  reads = c.work_item-used.ensures.quiet c.if-send.false;
   none = c.work_item-used.ensures.none;
   fits = λ request fits. c.work_item-used.ensures.fits request (c.loop-rest.invariant.fits request fits);
   room = c.work_item-used.ensures.same ∙ c.loop-rest.invariant.room;

@@ -40,8 +40,8 @@ pub loop-out-smaller-in-Send : goal.loop-out-smaller-in-Send
 loop-out-smaller-in-Send g c =
     let rest = c.loop-out.rest.now in
     let used = c.act-used.result.0 in
-    let P : Act → Type 0 = λ act. LeavesLessToDo act (4 * length rest + calls_left c.loop-out.session) (4 * (length rest - used) + calls_left c.act-used.new.self) in
-    let left : 4 * (length rest - used) + calls_left c.act-used.new.self < 4 * length rest + calls_left c.loop-out.session = subst P c.in-Send.is c.act-used.ensures.ends in
+    let P : Act → Type 0 = λ act. LeavesLessToDo act (72 * length rest + calls_left c.loop-out.session) (72 * (length rest - used) + calls_left c.act-used.new.self) in
+    let left : 72 * (length rest - used) + calls_left c.act-used.new.self < 72 * length rest + calls_left c.loop-out.session = subst P c.in-Send.is c.act-used.ensures.ends in
     omega (arith, left, ap (length {A = ℕ}) (take_rest rest used), length-drop used rest)
 
 pub loop-out-preserved : goal.loop-out-preserved
@@ -69,8 +69,8 @@ loop-out-smaller g c =
     let used = c.act-used.result.0 in
     let asked = c.act-used.new.self in
     let acts = acts_on_way used c.act-used.result.1 (Ask c.in-Ask.request) asked c.requires.may w.3 c.act-used.ensures.acts c.in-Ask.is in
-    let P : Act → Type 0 = λ act. LeavesLessToDo act (4 * length rest + calls_left c.loop-out.session) (4 * (length rest - used) + calls_left asked) in
-    let left : 4 * (length rest - used) + calls_left asked ≤ 4 * length rest + calls_left c.loop-out.session = subst P c.in-Ask.is c.act-used.ensures.ends in
+    let P : Act → Type 0 = λ act. LeavesLessToDo act (72 * length rest + calls_left c.loop-out.session) (72 * (length rest - used) + calls_left asked) in
+    let left : 72 * (length rest - used) + calls_left asked ≤ 72 * length rest + calls_left c.loop-out.session = subst P c.in-Ask.is c.act-used.ensures.ends in
     let fewer : calls_left c.ask.new.session < calls_left asked = c.ask.ensures.ends c.requires.plant c.requires.panel (with_bytes (take used rest) w.0) acts.0 in
     omega (arith, left, fewer, ap (length {A = ℕ}) (take_rest rest used), length-drop used rest)
 

@@ -19,4 +19,4 @@ invariant-loop-out g l = record {
 }
 
 abbrev pub decreases-loop-out : goal.decreases-loop-out
-decreases-loop-out g l = 4 * length l.rest + calls_left l.session
+decreases-loop-out g l = 72 * length l.rest + calls_left l.session

@@ -13,17 +13,14 @@ encode_frame-requires-clause-bytes c =
     let page = data_of c.args.names.now c.args.page in
     let is : c.deref.result.now ≡ page = c.deref.ensures.value ∙ c.spell_names-end.ensures.text in
     let some = is_written c.args.names.now c.args.page c.spell_names-end.result c.spell_names-end.ensures.end c.in_default.not-Nothing in (
-      omega (arith, ap (length {A = ℕ}) is, some.1),
+      omega (arith, ap (length {A = ℕ}) is, some),
       omega (arith, c.deref.ensures.len, c.spell_names-end.ensures.most),
     )
 
 pub encode_frame-requires-clause-room : goal.encode_frame-requires-clause-room
 encode_frame-requires-clause-room c =
-    let some = is_written c.args.names.now c.args.page c.spell_names-end.result c.spell_names-end.ensures.end c.in_default.not-Nothing in
     omega (
       arith,
-      some.0,
-      c.requires.names,
       c.requires.room,
       ap (λ (buffer : Buffer). buffer.room) c.self.view_is,
       ap (λ (buffer : Buffer). length buffer.output.bytes) c.self.view_is,
