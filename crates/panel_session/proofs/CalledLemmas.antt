@@ -14,6 +14,7 @@ use Rattle.plant_core.specs.declared.request.Request.{Request}
 use Rattle.plant_core.specs.HistoryLaws.{CanBeSent}
 use Rattle.plant_core.proofs.CountLemmas.{room_within}
 use Rattle.plant_core.proofs.HistoryLemmas.{last_sent}
+use Rattle.plant_core.proofs.ShortLemmas.{StaysShort-start}
 use Rattle.plant_core.proofs.Validity.{IsValid-start}
 use Rattle.panel_session.specs.declared.session.Session.{Session}
 use Rattle.panel_session.specs.declared.session.phase.Phase.{Phase}
@@ -34,7 +35,7 @@ pub answer_of : (plant : PlantData) (seat seat_then : PlantSeat) (request : Requ
     → SeesAnswers seat request answers seat_then → CanBeSent plant (asked_by seat request answers)
 answer_of plant seat seat_then request answers is legal sees =
     let Legal : List PlantEntry → Type 0 = λ history. IsLegal step Takes (start plant) history in
-    last_sent (start plant) (seat.seen ++ sees.0) (asked_by seat request answers) (IsValid-start plant is) (subst Legal sees.1 legal)
+    last_sent (start plant) (seat.seen ++ sees.0) (asked_by seat request answers) (IsValid-start plant is) (StaysShort-start plant) (subst Legal sees.1 legal)
 
 -- and is few.
 pub answer_few : (plant : PlantData) (entry : PlantEntry) → IsPlant plant → CanBeSent plant entry → length entry.answers ≤ most_answers

@@ -7,7 +7,7 @@ use Rattle.std.proofs.lemmas.Nat.{div-mul-add}
 use Rattle.std.proofs.Math.Nat.{add-div_right}
 use Rattle.plant_names.specs.declared.paged.Paged.{Paged}
 use Rattle.plant_names.specs.declared.paged.Paged.TheVariants.{Nothing, Last, More}
-use Rattle.plant_names.specs.Pages.{AreFew, most_names, page_data, page_end, page_names, names_text}
+use Rattle.plant_names.specs.Pages.{HaveNumbers, most_names, page_data, page_end, page_names, names_text}
 use Rattle.panel_session.specs.NamePages.{all_pages, page_count, page_from}
 use Rattle.dle_framing.specs.Frame.{frame}
 use Rattle.plant_config.specs.Plant.{PlantData}
@@ -126,9 +126,9 @@ module _ (command matrix level size : ℕ) where
   abbrev Grows : Option (List (List ℕ)) → ℕ → Paged → Type 0
   Grows names first Nothing = Unit {0}
   Grows names first Last = Unit {0}
-  Grows names first (More next) = (first + 10 ≤ next) × (next < 1024) × HasName names next × (next ≤ first + 32)
+  Grows names first (More next) = (first + 10 ≤ next) × (next < 65536) × HasName names next × (next ≤ first + 32)
 
-  grows : (one : Bool) (first : ℕ) (names : Option (List (List ℕ))) → IfSome names AreFew → Grows names first (page_end one size first names)
+  grows : (one : Bool) (first : ℕ) (names : Option (List (List ℕ))) → IfSome names HaveNumbers → Grows names first (page_end one size first names)
   grows one first None few = tt
   grows one first (Some names) few =
       let most = most_names size in
@@ -177,7 +177,7 @@ module _ (plant : PlantData) (page : NamePage) where
   is_written end is some =
       written (command_of page.names) page.matrix (level_of page.names) page.size page.one page.first (names_of plant page.matrix page.names) (λ none. some (is ∙ none))
 
-  next_page : (next : ℕ) → More next ≡ end_of plant page → IfSome (names_of plant page.matrix page.names) AreFew → (page.first + 10 ≤ next) × (next < 1024) × HasName (names_of plant page.matrix page.names) next × (next ≤ page.first + 32)
+  next_page : (next : ℕ) → More next ≡ end_of plant page → IfSome (names_of plant page.matrix page.names) HaveNumbers → (page.first + 10 ≤ next) × (next < 65536) × HasName (names_of plant page.matrix page.names) next × (next ≤ page.first + 32)
   next_page next is few =
       let GrowsTo : Paged → Type 0 = λ end. Grows (command_of page.names) page.matrix (level_of page.names) page.size (names_of plant page.matrix page.names) page.first end in
       subst GrowsTo (sym is) (grows (command_of page.names) page.matrix (level_of page.names) page.size page.one page.first (names_of plant page.matrix page.names) few)
@@ -210,7 +210,7 @@ module _ (plant : PlantData) (page : NamePage) (output : Output) where
   adds_last output_then is sent = record { frames = frame (data_of plant page) ∷ []; frames_are = ap (map frame) (so_ends Last is); adds = sent; some = λ some none. cc; next = tt; most = tt }
 
   -- or one behind which there are more.
-  pub adds_more : (next : ℕ) (output_then : Output) → More next ≡ end_of plant page → IfSome (names_of plant page.matrix page.names) AreFew → page.size ≤ 2 → output_then ≡ with_frame (frame (data_of plant page)) output
+  pub adds_more : (next : ℕ) (output_then : Output) → More next ≡ end_of plant page → IfSome (names_of plant page.matrix page.names) HaveNumbers → page.size ≤ 2 → output_then ≡ with_frame (frame (data_of plant page)) output
       → AddsNames plant page output (Some (record page { first = next })) output_then
   adds_more next output_then is few size sent =
       let grows = next_page plant page next is few in

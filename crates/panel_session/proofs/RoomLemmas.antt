@@ -11,7 +11,8 @@ use Rattle.plant_config.specs.declared.records.Source.{Source}
 use Rattle.plant_config.specs.IsPlant.{IsLevel, IsPlant}
 use Rattle.plant_config.specs.NamesOfLevel.{source_names, dest_names}
 use Rattle.plant_config.specs.Plant.{PlantData}
-use Rattle.plant_core.specs.Answer.{room_of}
+use Rattle.plant_core.specs.Wide.{is_wide}
+use Rattle.plant_core.specs.Answer.{with_room, room_of}
 use Rattle.plant_core.specs.declared.answer.Answer.{Answer}
 use Rattle.panel_session.specs.NamePagesInside.{names_of}
 use Rattle.panel_session.specs.RoomsInside.{fitting, most_at_once, most_named}
@@ -60,20 +61,23 @@ module _ (plant : PlantData) where
   pub answers-most : room_of plant ≤ most_named plant
   answers-most = go plant.levels 64 64 (omega arith)
     where
-      go : (levels : List Level) (fewer most : ℕ) → fewer ≤ most → fold (λ most (level : Level). max most level.destinations) fewer levels ≤ fold more most levels
+      less : (level : Level) (fewer most : ℕ) → fewer ≤ most → with_room fewer level ≤ more most level
+      less level fewer most within = elim (is_wide level) as (λ b. cond b fewer (max fewer level.destinations) ≤ more most level) [ true ↦ omega (arith, within) | false ↦ omega (arith, within) ]
+
+      go : (levels : List Level) (fewer most : ℕ) → fewer ≤ most → fold with_room fewer levels ≤ fold more most levels
       go [] fewer most within = within
-      go (level ∷ levels) fewer most within = go levels (max fewer level.destinations) (more most level) (omega arith)
+      go (level ∷ levels) fewer most within = go levels (with_room fewer level) (more most level) (less level fewer most within)
 
   -- So there is room for all of them.
   pub fits-all : (answers : List Answer) → length answers ≤ room_of plant → fitting plant answers ≡ answers
   fits-all answers few =
       ap (λ (test : Bool). if test then [] else answers) (le-ltb (most_at_once plant) (length answers) (omega (arith, few)))
 
-  -- A plant has at most 1,024 names at a level.
-  pub names-bounded : IsPlant plant → most_named plant ≤ 1024
+  -- A plant has at most 65,536 names at a level.
+  pub names-bounded : IsPlant plant → most_named plant ≤ 65536
   names-bounded is = go plant.levels 64 is.each_level (omega arith)
     where
-      go : (levels : List Level) (most : ℕ) → All IsLevel levels → most ≤ 1024 → fold more most levels ≤ 1024
+      go : (levels : List Level) (most : ℕ) → All IsLevel levels → most ≤ 65536 → fold more most levels ≤ 65536
       go [] most all within = within
       go (level ∷ levels) most all within =
           go levels (more most level) (All-tail IsLevel level levels all)

@@ -3,7 +3,7 @@
 ghost use Rattle.std.specs.Prelude.{◌≡◌, ◌+◌, ◌≤◌, ◌++◌, IfSome, vec_len, vec_capacity};
 ghost use Rattle.swp08_messages.specs.Text.{InRange};
 ghost use Rattle.plant_config.specs.Plant.{PlantData};
-ghost use Rattle.plant_names.specs.Pages.{max_page_len, AreFew};
+ghost use Rattle.plant_names.specs.Pages.{max_page_len, HaveNumbers};
 ghost use Rattle.panel_session.specs.NamePages.{name_pages, names_asked};
 ghost use Rattle.panel_session.specs.NamePagesInside.{IsNamePage, names_of, data_of, end_of};
 ghost use Rattle.panel_session.specs.NamePagesInside.{pages_left};
@@ -79,7 +79,7 @@ impl NamePage {
         requires size { self.size ≤ 2 }
         requires room { vec_len out.old + max_page_len ≤ vec_capacity out.old }
         ensures end { result ≡ end_of names.now self }
-        ensures few { IfSome (names_of names.now self.matrix self.names) AreFew }
+        ensures numbers { IfSome (names_of names.now self.matrix self.names) HaveNumbers }
         ensures text { out.new.items ≡ out.old.items ++ data_of names.now self }
         ensures room { vec_capacity out.new ≡ vec_capacity out.old }
         ensures most { vec_len out.new ≤ vec_len out.old + max_page_len }

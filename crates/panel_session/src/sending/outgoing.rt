@@ -9,7 +9,7 @@ ghost use Rattle.swp08_messages.specs.Dump.{page_text};
 ghost use Rattle.panel_session.specs.Text.{repeated, nothing_sent};
 ghost use Rattle.panel_session.specs.Text.{with_frame, with_control};
 ghost use Rattle.panel_session.specs.NamePagesInside.{names_of, data_of, end_of};
-ghost use Rattle.plant_names.specs.Pages.{AreFew};
+ghost use Rattle.plant_names.specs.Pages.{HaveNumbers};
 ghost use Rattle.plant_names.specs.declared.paged.Paged.TheVariants.{Nothing};
 ghost use Rattle.panel_session.specs.OutgoingInside.{emptied};
 ghost use Rattle.panel_session.specs.OutgoingKept.{most_message_frame, most_answer_frame};
@@ -182,7 +182,7 @@ impl Outgoing {
         requires size { page.size ≤ 2 }
         requires room { length self.old.output.bytes + most_answer_frame ≤ self.old.room }
         ensures end { result ≡ end_of names.now page }
-        ensures few { IfSome (names_of names.now page.matrix page.names) AreFew }
+        ensures numbers { IfSome (names_of names.now page.matrix page.names) HaveNumbers }
         ensures none { result ≡ Nothing → self.new.output ≡ self.old.output }
         ensures sent { result ≢ Nothing
             → self.new.output ≡ with_frame (frame (data_of names.now page)) self.old.output }

@@ -4,7 +4,7 @@ ghost use Rattle.std.specs.Prelude.{◌≡◌, ◌≤◌, ◌++◌, IfSome, leng
 ghost use Rattle.std.specs.Prelude.{vec_capacity, ◌+◌};
 ghost use Rattle.dle_framing.specs.Frame.{frame};
 ghost use Rattle.swp08_messages.specs.Dump.{page_text};
-ghost use Rattle.plant_names.specs.Pages.{max_page_len, AreFew};
+ghost use Rattle.plant_names.specs.Pages.{max_page_len, HaveNumbers};
 ghost use Rattle.panel_session.specs.NamePagesInside.{names_of, data_of, end_of};
 ghost use Rattle.swp08_messages.specs.Text.{InRange, text};
 ghost use Rattle.panel_session.specs.OutgoingKept.{most_message_frame, answer_bytes};
@@ -15,8 +15,8 @@ use dle_framing::encode_frame;
 use plant_names::{Names, Paged};
 use swp08_messages::Message;
 
-// Appends the frame of a message. Short way: most tell a crosspoint, and have DATA of one length; those of any other stand in
-// place of what was spelled.
+// Appends the frame of a message. Short way: most are a tally or a connected, and have DATA of five bytes; those of any other
+// stand in place of what was spelled.
 #[inline(always)]
 pub(crate) fn spell_frame(message: &Message, spelled: &mut Vec<u8>, out: &mut Vec<u8>)
     requires in_range { InRange message.now }
@@ -27,7 +27,7 @@ pub(crate) fn spell_frame(message: &Message, spelled: &mut Vec<u8>, out: &mut Ve
     ensures room { vec_capacity spelled.new ≡ vec_capacity spelled.old }
     ensures frame_room { vec_capacity out.new ≡ vec_capacity out.old }
 {
-    if let Some(told) = message.told_crosspoint() {
+    if let Some(told) = message.five_byte_text() {
         encode_frame(&told, out);
         return;
     }
@@ -71,7 +71,7 @@ pub(crate) fn spell_names(page: NamePage, names: &Names, spelled: &mut Vec<u8>) 
     requires size { page.size ≤ 2 }
     requires room { max_page_len ≤ vec_capacity spelled.old }
     ensures end { result ≡ end_of names.now page }
-    ensures few { IfSome (names_of names.now page.matrix page.names) AreFew }
+    ensures numbers { IfSome (names_of names.now page.matrix page.names) HaveNumbers }
     ensures text { spelled.new.items ≡ data_of names.now page }
     ensures most { vec_len spelled.new ≤ max_page_len }
     ensures room { vec_capacity spelled.new ≡ vec_capacity spelled.old }

@@ -21,4 +21,4 @@ returns-in-More-clause-adds c =
     let is : More c.in-More.first ≡ end_of c.args.names.now c.args.page = sym c.in-More.is ∙ c.send_names.ensures.end in
     let some : c.send_names.result ≢ Nothing = λ none. let both : More c.in-More.first ≡ Nothing = sym c.in-More.is ∙ none in cc in
     let Adds : NamePage → Type 0 = λ next. AddsNames c.args.names.now c.args.page c.args.self.now.output (Some next) c.send_names.new.self.output in
-    subst Adds (sym c.at.ensures) (adds_more c.args.names.now c.args.page c.args.self.now.output c.in-More.first c.send_names.new.self.output is c.send_names.ensures.few c.requires.size (c.send_names.ensures.sent some))
+    subst Adds (sym c.at.ensures) (adds_more c.args.names.now c.args.page c.args.self.now.output c.in-More.first c.send_names.new.self.output is c.send_names.ensures.numbers c.requires.size (c.send_names.ensures.sent some))
