@@ -13,7 +13,7 @@ use Rattle.plant_config.specs.Plant.{PlantData}
 use Rattle.plant_config.specs.IsPlant.{IsPlant}
 use Rattle.plant_core.specs.State.{State, start}
 use Rattle.plant_core.specs.Step.{step}
-use Rattle.plant_core.specs.Laws.{StartsAreValid, StepsStayValid, StepsKeepThePlant}
+use Rattle.plant_core.specs.Laws.{StartsAreValid, StepsStayValid, StartsAreShort, StepsStayShort, StepsKeepThePlant}
 use Rattle.panel_session.specs.Entry.{PlantEntry}
 use Rattle.trace_audit.specs.declared.verdict.Verdict.{Verdict}
 use Rattle.trace_audit.specs.declared.verdict.Verdict.TheVariants.{Gap, Repeat, Differs}
@@ -66,7 +66,7 @@ record IsReady (plant : PlantData) (lines : List (List ℕ)) (position : ℕ) (h
   alone : (entry : TracedEntry) → entries_at position rest ≡ entry ∷ [] → entries_at position entries ≡ entry ∷ []
   within : All (λ (entry : TracedEntry). entry.position < position_count entries) rest
 
-module _ (keeps : StepsKeepThePlant) (starts : StartsAreValid) (stay : StepsStayValid) (tells : ReplyTells) where
+module _ (keeps : StepsKeepThePlant) (starts : StartsAreValid) (stay : StepsStayValid) (starts_short : StartsAreShort) (stay_short : StepsStayShort) (tells : ReplyTells) where
   ready : (plant : PlantData) (lines : List (List ℕ)) (position : ℕ) (history : List PlantEntry) (rest : List TracedEntry) → IsPlant plant → IsToldBelow plant lines position history (map line_of rest)
       → All (IsTold plant) rest → All (λ (entry : TracedEntry). position ≤ entry.position) rest → IsReady plant lines position history rest
   ready plant lines position history rest is_plant is told_rest least =
@@ -80,7 +80,7 @@ module _ (keeps : StepsKeepThePlant) (starts : StartsAreValid) (stay : StepsStay
       let from = follow-from plant 0 (start plant) traced follow in
       let long : length traced ≡ position = length-traced plant 0 history ∙ is.long in
       let front : All (IsTold plant) traced =
-      traced-told keeps starts stay tells plant 0 (start plant) history refl (starts plant is_plant) (omega (arith, is.is_history.few)) is.is_history.legal is.is_history.numbers in
+      traced-told keeps starts stay starts_short stay_short tells plant 0 (start plant) history refl (starts plant is_plant) (starts_short plant) (omega (arith, is.is_history.few)) is.is_history.legal is.is_history.numbers in
       let each : All (IsTold plant) entries = All-permutation (IsTold plant) all entries so.order (All-append (IsTold plant) traced rest front told_rest) in
       let none_behind : (number : ℕ) → number < length traced → entries_at number rest ≡ [] =
       λ number below. at-none place number rest (All-weaker (λ (entry : TracedEntry). position ≤ entry.position) (λ (entry : TracedEntry). entry.position ≢ number) (λ entry at same. absurd (omega (arith, at, same, below, long))) rest least) in
@@ -139,13 +139,13 @@ other-differs plant state position entry wanted is differ =
       | false ↦ λ other. ap (λ (text : List ℕ). Some (Differs position entry.reply text)) (sym is)
     ] refl
 
-module _ (keeps : StepsKeepThePlant) (starts : StartsAreValid) (stay : StepsStayValid) (tells : ReplyTells) where
+module _ (keeps : StepsKeepThePlant) (starts : StartsAreValid) (stay : StepsStayValid) (starts_short : StartsAreShort) (stay_short : StepsStayShort) (tells : ReplyTells) where
   pub gaps-found : GapsAreFound
   gaps-found plant lines position is_plant gap =
       let of = stand-of plant (λ other. position < other) gap.others gap.behind in
       let rest : List TracedEntry = of.entries in
       let below : IsToldBelow plant lines position gap.history (map line_of rest) = subst (IsToldBelow plant lines position gap.history) of.are gap.below in
-      let is = ready keeps starts stay tells plant lines position gap.history rest is_plant below of.told
+      let is = ready keeps starts stay starts_short stay_short tells plant lines position gap.history rest is_plant below of.told
       (All-weaker (λ (entry : TracedEntry). position < entry.position) (λ (entry : TracedEntry). position ≤ entry.position) (λ entry at. omega (arith, at)) rest of.so) in
       let none : entries_at position rest ≡ [] =
       at-none place position rest (All-weaker (λ (entry : TracedEntry). position < entry.position) (λ (entry : TracedEntry). entry.position ≢ position) (λ entry at same. absurd (omega (arith, at, same))) rest of.so) in
@@ -176,7 +176,7 @@ module _ (keeps : StepsKeepThePlant) (starts : StartsAreValid) (stay : StepsStay
       All-cons (IsTold plant) one (another ∷ of.entries) (told-itself plant repeat.one one repeat.first.1)
       (All-cons (IsTold plant) another of.entries (told-itself plant repeat.another another repeat.second.1) of.told) in
       let least : All At rest = All-cons At one (another ∷ of.entries) (omega arith) (All-cons At another of.entries (omega arith) of.so) in
-      let is = ready keeps starts stay tells plant lines position repeat.history rest is_plant below told least in
+      let is = ready keeps starts stay starts_short stay_short tells plant lines position repeat.history rest is_plant below told least in
       let here : entries_at position rest ≡ one ∷ another ∷ entries_at position of.entries =
       at-here place position one (another ∷ of.entries) is_one ∙ ap (λ (list : List TracedEntry). one ∷ list) (at-here place position another of.entries is_another) in
       fault-found plant lines position repeat.history rest is (Repeat position)
@@ -196,7 +196,7 @@ module _ (keeps : StepsKeepThePlant) (starts : StartsAreValid) (stay : StepsStay
       let told : All (IsTold plant) rest = All-cons (IsTold plant) entry of.entries (told-itself plant other.line entry other.tells) of.told in
       let least : All At rest =
       All-cons At entry of.entries (omega arith) (All-weaker (λ (entry : TracedEntry). position < entry.position) At (λ entry at. omega (arith, at)) of.entries of.so) in
-      let is = ready keeps starts stay tells plant lines position other.history rest is_plant below told least in
+      let is = ready keeps starts stay starts_short stay_short tells plant lines position other.history rest is_plant below told least in
       let none : entries_at position of.entries ≡ [] =
       at-none place position of.entries
       (All-weaker (λ (entry : TracedEntry). position < entry.position) (λ (entry : TracedEntry). entry.position ≢ position) (λ entry at same. absurd (omega (arith, at, same))) of.entries of.so) in

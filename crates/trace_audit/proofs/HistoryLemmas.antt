@@ -7,8 +7,9 @@ use Rattle.std.proofs.lemmas.List.Sorted.{IsPermutation-map, IsPermutation-sym, 
 use Rattle.history_lock.specs.History.{IsLegal, entry_at}
 use Rattle.plant_config.specs.Plant.{PlantData}
 use Rattle.plant_core.specs.State.{State, start, Fits, FitsPlant, IsValid}
+use Rattle.plant_core.specs.Short.{StaysShort}
 use Rattle.plant_core.specs.Step.{step}
-use Rattle.plant_core.specs.Laws.{StartsAreValid, StepsStayValid, StepsKeepThePlant}
+use Rattle.plant_core.specs.Laws.{StartsAreValid, StepsStayValid, StartsAreShort, StepsStayShort, StepsKeepThePlant}
 use Rattle.plant_core.specs.declared.request.Request.{Request}
 use Rattle.panel_session.specs.Entry.{PlantEntry}
 use Rattle.panel_session.specs.TraceLine.{trace_limit, entry_text, reply_text}
@@ -111,7 +112,7 @@ pub record TellsReply (plant : PlantData) (position : ℕ) (request : Request) (
 
 -- Each reply of the plant is of a line that does.
 abbrev pub ReplyTells : Type 0
-ReplyTells = (plant : PlantData) (position : ℕ) (state : State) (request : Request) → state.plant ≡ plant → IsValid state → position ≤ trace_limit → HasTraceNumbers request → Fits state request
+ReplyTells = (plant : PlantData) (position : ℕ) (state : State) (request : Request) → state.plant ≡ plant → IsValid state → StaysShort state → position ≤ trace_limit → HasTraceNumbers request → Fits state request
     → TellsReply plant position request (wanted_reply plant state request)
 
 -- What is confirmed is a history.
@@ -147,16 +148,16 @@ module _ (keeps : StepsKeepThePlant) where
           (history, is_history, order, omega (arith, length-made (start plant) ordered, length_permutation ordered of.entries moved, counted))
 
 -- The entries of a history that fit the plant are told by their lines.
-module _ (keeps : StepsKeepThePlant) (starts : StartsAreValid) (stay : StepsStayValid) (tells : ReplyTells) where
-  pub traced-told : (plant : PlantData) (position : ℕ) (state : State) (history : List PlantEntry) → state.plant ≡ plant → IsValid state → position + length history ≤ trace_limit + 1
+module _ (keeps : StepsKeepThePlant) (starts : StartsAreValid) (stay : StepsStayValid) (starts_short : StartsAreShort) (stay_short : StepsStayShort) (tells : ReplyTells) where
+  pub traced-told : (plant : PlantData) (position : ℕ) (state : State) (history : List PlantEntry) → state.plant ≡ plant → IsValid state → StaysShort state → position + length history ≤ trace_limit + 1
       → IsLegal step Fits state history → All (λ (entry : PlantEntry). HasTraceNumbers entry.request) history → All (IsTold plant) (traced_from plant position history)
-  traced-told plant position state [] is valid within legal numbers = All-nil (IsTold plant)
-  traced-told plant position state (entry ∷ later) is valid within legal numbers =
+  traced-told plant position state [] is valid short within legal numbers = All-nil (IsTold plant)
+  traced-told plant position state (entry ∷ later) is valid short within legal numbers =
       let number : HasTraceNumbers entry.request = All-head (λ (entry : PlantEntry). HasTraceNumbers entry.request) entry later numbers in
       let first : TracedEntry = record { position = position; request = entry.request; reply = reply_text plant entry.request entry.answers } in
       let wanted : reply_text plant entry.request entry.answers ≡ wanted_reply plant state entry.request = ap (reply_text plant entry.request) legal.1 in
       let reply : TellsReply plant position entry.request (reply_text plant entry.request entry.answers) =
-      subst (TellsReply plant position entry.request) (sym wanted) (tells plant position state entry.request is valid (omega arith) number legal.0) in
+      subst (TellsReply plant position entry.request) (sym wanted) (tells plant position state entry.request is valid short (omega arith) number legal.0) in
       All-cons (IsTold plant) first (traced_from plant (position + 1) later)
       (record {
         text = refl;
@@ -166,7 +167,7 @@ module _ (keeps : StepsKeepThePlant) (starts : StartsAreValid) (stay : StepsStay
         fits = subst (λ (plant : PlantData). FitsPlant plant entry.request) is legal.0;
         reply = reply.text;
       })
-      (traced-told plant (position + 1) (step state entry.request).state later (keeps state entry.request ∙ is) (stay state entry.request valid) (omega arith) legal.2
+      (traced-told plant (position + 1) (step state entry.request).state later (keeps state entry.request ∙ is) (stay state entry.request valid) (stay_short state entry.request valid short legal.0) (omega arith) legal.2
       (All-tail (λ (entry : PlantEntry). HasTraceNumbers entry.request) entry later numbers))
 
   -- The lines of a history are confirmed.
@@ -176,7 +177,7 @@ module _ (keeps : StepsKeepThePlant) (starts : StartsAreValid) (stay : StepsStay
       let made : IsPermutation (map line_of traced) lines = subst (λ (texts : List (List ℕ)). IsPermutation texts lines) (lines-traced plant 0 history) order in
       let so = map-moved line_of traced lines made in
       let follow = traced-follow plant 0 (start plant) history is.legal in
-      let each : All (IsTold plant) traced = traced-told plant 0 (start plant) history refl (starts plant is_plant) (omega (arith, is.few)) is.legal is.numbers in
+      let each : All (IsTold plant) traced = traced-told plant 0 (start plant) history refl (starts plant is_plant) (starts_short plant) (omega (arith, is.few)) is.legal is.numbers in
       let moved : All (IsTold plant) so.moved = All-permutation (IsTold plant) traced so.moved so.order each in
       let long : length so.moved ≡ length history = length_permutation traced so.moved so.order ∙ length-traced plant 0 history in
       let numbered : All (λ (entry : TracedEntry). entry.position < length traced) traced = below-from place 0 (length traced) traced (follow-from plant 0 (start plant) traced follow) (omega arith) in

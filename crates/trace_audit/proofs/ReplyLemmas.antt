@@ -16,6 +16,7 @@ use Rattle.plant_core.specs.declared.request.Request.TheVariants.{Told, Poll, Le
 use Rattle.plant_core.specs.Answer.{IsSayable}
 use Rattle.plant_core.specs.Displays.{lamp_limit}
 use Rattle.plant_core.specs.State.{State, IsValid, Fits, FitsPlant}
+use Rattle.plant_core.specs.Short.{StaysShort}
 use Rattle.plant_core.specs.Step.{step}
 use Rattle.plant_core.proofs.AnswerLemmas.{All-sayable}
 use Rattle.plant_core.proofs.CountLemmas.{answer_count, answers_within, room_within}
@@ -60,16 +61,16 @@ frames-reply : (answers : List Answer) → All IsSayable answers → length answ
 frames-reply answers sayable few = let are = frames-sent answers sayable in told-reply (sent (frames_of answers)) (omega (arith, are.few)) are.each
 
 -- What the plant answers is one.
-plant-reply : (plant : PlantData) (state : State) (request : Request) → state.plant ≡ plant → IsValid state → Fits state request → IsReply (wanted_reply plant state request)
-plant-reply plant state (Told panel item message) is valid fits =
-    frames-reply (step state (Told panel item message)).answers (All-sayable state (Told panel item message) valid fits)
+plant-reply : (plant : PlantData) (state : State) (request : Request) → state.plant ≡ plant → IsValid state → StaysShort state → Fits state request → IsReply (wanted_reply plant state request)
+plant-reply plant state (Told panel item message) is valid short fits =
+    frames-reply (step state (Told panel item message)).answers (All-sayable state (Told panel item message) valid short fits)
     (omega (arith, answers_within state.plant (Told panel item message) _ (answer_count state (Told panel item message) fits), room_within state.plant valid.is_plant))
-plant-reply plant state (Poll panel item turn) is valid fits =
-    frames-reply (step state (Poll panel item turn)).answers (All-sayable state (Poll panel item turn) valid fits)
+plant-reply plant state (Poll panel item turn) is valid short fits =
+    frames-reply (step state (Poll panel item turn)).answers (All-sayable state (Poll panel item turn) valid short fits)
     (omega (arith, answers_within state.plant (Poll panel item turn) _ (answer_count state (Poll panel item turn) fits), room_within state.plant valid.is_plant))
-plant-reply plant state (Leave panel) is valid fits =
-    frames-reply (step state (Leave panel)).answers (All-sayable state (Leave panel) valid fits) (omega (arith, answer_count state (Leave panel) fits))
-plant-reply plant state (DisplayPoll screen refresh) is valid fits =
+plant-reply plant state (Leave panel) is valid short fits =
+    frames-reply (step state (Leave panel)).answers (All-sayable state (Leave panel) valid short fits) (omega (arith, answer_count state (Leave panel) fits))
+plant-reply plant state (DisplayPoll screen refresh) is valid short fits =
     shown-reply plant screen (step state (DisplayPoll screen refresh)).answers (subst IsPlant is valid.is_plant) (answer_count state (DisplayPoll screen refresh) fits)
 
 -- The text of a request is short.
@@ -102,7 +103,7 @@ entry-most position request reply number asked told =
     )
 
 pub reply-tells : ReplyTells
-reply-tells plant position state request is valid within numbers fits =
-    let reply = plant-reply plant state request is valid fits in
+reply-tells plant position state request is valid short within numbers fits =
+    let reply = plant-reply plant state request is valid short fits in
     let asked = request-most state.plant request valid.is_plant fits numbers in
     record { within = entry-most position request (wanted_reply plant state request) (number-most position within) asked reply.most; text = reply.text }
