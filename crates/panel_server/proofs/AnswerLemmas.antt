@@ -4,19 +4,22 @@ use Rattle.std.specs.List.{flat_map}
 use Rattle.std.proofs.lemmas.List.{length-append}
 use Rattle.history_lock.specs.Calls.{SeesAnswers, asked_by}
 use Rattle.history_lock.specs.History.{run, IsLegal}
+use Rattle.history_lock.proofs.HistoryLemmas.{legal_front}
 use Rattle.tsl_umd5.specs.Packet.{counted_text, messages_text, packet_text, word}
 use Rattle.plant_config.specs.IsPlant.{IsPlant}
 use Rattle.plant_config.specs.Plant.{PlantData}
 use Rattle.plant_core.specs.Answer.{IsSayable}
 use Rattle.plant_core.specs.Displays.{lamp_limit}
 use Rattle.plant_core.specs.State.{State, IsValid, start, Fits as Takes}
+use Rattle.plant_core.specs.Short.{StaysShort}
 use Rattle.plant_core.specs.Step.{step}
 use Rattle.plant_core.specs.declared.answer.Answer.{Answer}
 use Rattle.plant_core.specs.declared.request.Request.{Request}
 use Rattle.plant_core.specs.declared.request.Request.TheVariants.{DisplayPoll}
 use Rattle.plant_core.proofs.AnswerLemmas.{All-sayable}
 use Rattle.plant_core.proofs.CountLemmas.{answer_count}
-use Rattle.plant_core.proofs.HistoryLemmas.{run-plant, run-valid}
+use Rattle.plant_core.proofs.HistoryLemmas.{run-plant, run-valid, run-short}
+use Rattle.plant_core.proofs.ShortLemmas.{StaysShort-start}
 use Rattle.plant_core.proofs.Validity.{IsValid-start}
 use Rattle.panel_session.specs.DisplayPacket.{AreLamps, packet_of, shown_by}
 use Rattle.panel_session.specs.Entry.{PlantEntry}
@@ -28,10 +31,12 @@ pub legal_behind : (first : State) (front later : List PlantEntry) → IsLegal s
 legal_behind first [] later legal = legal
 legal_behind first (entry ∷ front) later legal = legal_behind (step first entry.request).state front later legal.2
 
--- These are the answers of a plant to a poll of a screen, in some valid state.
+-- These are the answers of a plant to a poll of a screen, in some valid state whose protects, protect notices and groups have
+-- numbers that any command can tell.
 pub record IsAnswerOf (plant : PlantData) (screen : ℕ) (refresh : Bool) (answers : List Answer) : Type 0 where
   pub state : State
   pub valid : IsValid state
+  pub short : StaysShort state
   pub plant_is : state.plant ≡ plant
   pub fits : Takes state (DisplayPoll screen refresh)
   pub answers_are : answers ≡ (step state (DisplayPoll screen refresh)).answers
@@ -43,10 +48,13 @@ answer_of plant seat seat_then screen refresh answers is legal sees =
     let request : Request = DisplayPoll screen refresh in
     let front = seat.seen ++ sees.0 in
     let Legal : List PlantEntry → Type 0 = λ history. IsLegal step Takes (start plant) history in
-    let last = legal_behind (start plant) front (asked_by seat request answers ∷ []) (subst Legal sees.1 legal) in
+    let whole : Legal (front ++ asked_by seat request answers ∷ []) = subst Legal sees.1 legal in
+    let last = legal_behind (start plant) front (asked_by seat request answers ∷ []) whole in
+    let before = legal_front step Takes (start plant) front (asked_by seat request answers ∷ []) whole in
     record {
       state = run step (start plant) front;
       valid = run-valid (start plant) front (IsValid-start plant is);
+      short = run-short (start plant) front (IsValid-start plant is) (StaysShort-start plant) before;
       plant_is = run-plant (start plant) front;
       fits = last.0;
       answers_are = last.1;
@@ -56,7 +64,7 @@ answer_of plant seat seat_then screen refresh answers is legal sees =
 pub answer_sayable : (plant : PlantData) (screen : ℕ) (refresh : Bool) (answers : List Answer) → IsAnswerOf plant screen refresh answers → All IsSayable answers
 answer_sayable plant screen refresh answers is =
     let Sayable : List Answer → Type 0 = λ answers. All IsSayable answers in
-    subst Sayable (sym is.answers_are) (All-sayable is.state (DisplayPoll screen refresh) is.valid is.fits)
+    subst Sayable (sym is.answers_are) (All-sayable is.state (DisplayPoll screen refresh) is.valid is.short is.fits)
 
 -- it isn't long,
 pub answer_few : (plant : PlantData) (screen : ℕ) (refresh : Bool) (answers : List Answer) → IsAnswerOf plant screen refresh answers → length answers ≤ lamp_limit
