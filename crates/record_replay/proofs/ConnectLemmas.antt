@@ -1,5 +1,6 @@
 -- The connect that names ask for, on a plant.
-use Rattle.std.proofs.Common.{◌≡◌, ℕ, ◌+◌, ◌<◌, ◌≤◌, ◌⊎◌, List, [], ◌∷◌, length, Option, Some, None, sym, ◌∙◌, ap, subst, arith}
+use Rattle.std.proofs.Common.{◌≡◌, ℕ, ◌+◌, ◌<◌, ◌≤◌, ◌⊎◌, Bool, true, false, cond, ◌&&◌, List, [], ◌∷◌, length, Option, Some, None, refl, sym, ◌∙◌, ap, subst, arith, ltb-true}
+use Rattle.std.proofs.lemmas.Bool.{and_parts}
 use Rattle.std.specs.Option.{option_map, option_and_then}
 use Rattle.plant_config.specs.declared.records.Level.{Level}
 use Rattle.plant_config.specs.declared.records.Point.{Point}
@@ -13,8 +14,11 @@ use Rattle.plant_names.specs.Lookup.{place_among, dest_named, source_named}
 use Rattle.plant_names.proofs.LevelLemmas.{level_at-none}
 use Rattle.plant_names.proofs.LookupLemmas.{dests_are_named, sources_are_named}
 use Rattle.swp08_messages.specs.declared.message.Message.{Message}
-use Rattle.swp08_messages.specs.declared.message.Message.TheVariants.{Connect}
-use Rattle.record_replay.specs.Take.{dest_number_named, carried, connect_named}
+use Rattle.swp08_messages.specs.declared.message.Message.TheVariants.{Connect, ExtConnect}
+use Rattle.swp08_messages.specs.declared.point.Point as messages
+use Rattle.swp08_messages.specs.Text.{text, IsExtPoint, IsSource, IsExtSource, InRange}
+use Rattle.plant_core.specs.Wide.{is_short_dest, is_short_source}
+use Rattle.record_replay.specs.Take.{dest_number_named, carried, connect_of, connect_named}
 
 module _ (plant : PlantData) (is : IsPlant plant) (matrix level : ℕ) (name : List ℕ) where
   -- What a name leads to is in the plant.
@@ -58,9 +62,31 @@ carried-none plant matrix level [] some none = absurd (omega (arith, some))
 carried-none plant matrix level (byte ∷ name) some none =
     ap (option_map (λ (number : ℕ). Some number)) (ap (option_and_then (source_number_of plant)) none)
 
+-- a source that a connect can tell which isn't extended
+short-IsSource : (source : Option ℕ) → is_short_source source ≡ true → IsSource source
+short-IsSource None short = tt
+short-IsSource (Some number) short = ltb-true number 1023 short
+
+-- The connect of a destination to a source is in its ranges if they are those of an extended one,
+pub connect_in_range : (at : messages.Point) (source : Option ℕ) → IsExtPoint at → IsExtSource source → InRange (connect_of at source)
+connect_in_range at source is of = by (is_short_dest at.dest && is_short_source source) refl
+  where
+    by : (b : Bool) → (is_short_dest at.dest && is_short_source source) ≡ b → InRange (cond b (Connect at source) (ExtConnect at source))
+    by true short =
+        let parts = and_parts (is_short_dest at.dest) (is_short_source source) short in
+        let dest : at.dest < 1024 = ltb-true at.dest 1024 parts.0 in
+        let told = short-IsSource source parts.1 in
+        ((is.matrix, is.level), ((dest, told), (dest, (told, tt))))
+    by false long = (is.matrix, (is.level, (is.dest, (is.dest, (of, (of, tt))))))
+
+-- and its DATA are few.
+pub connect_few : (at : messages.Point) (source : Option ℕ) → length (text (connect_of at source)) ≤ 7
+connect_few at source =
+    elim (is_short_dest at.dest && is_short_source source) as (λ b. length (text (cond b (Connect at source) (ExtConnect at source))) ≤ 7) [ true ↦ omega arith | false ↦ omega arith ]
+
 -- what a destination carries makes a connect of its number
 abbrev with_number : ℕ → ℕ → Option (Option ℕ) → ℕ → Option Message
-with_number matrix level found number = option_map (λ source. Connect (record { matrix = matrix; level = level; dest = number }) source) found
+with_number matrix level found number = option_map (λ source. connect_of (record { matrix = matrix; level = level; dest = number }) source) found
 
 module _ (plant : PlantData) (matrix level : ℕ) (dest source : List ℕ) where
   pub connect-no_dest : dest_number_named plant matrix level dest ≡ None → connect_named plant matrix level dest source ≡ None
@@ -77,7 +103,7 @@ module _ (plant : PlantData) (matrix level : ℕ) (dest source : List ℕ) where
       ∙ ap (λ (found : Option (Option ℕ)). with_number matrix level found number) none
 
   pub connect-some : (number : ℕ) (found : Option ℕ) → dest_number_named plant matrix level dest ≡ Some number → carried plant matrix level source ≡ Some found
-      → connect_named plant matrix level dest source ≡ Some (Connect (record { matrix = matrix; level = level; dest = number }) found)
+      → connect_named plant matrix level dest source ≡ Some (connect_of (record { matrix = matrix; level = level; dest = number }) found)
   connect-some number found is carries =
       ap (option_and_then (with_number matrix level (carried plant matrix level source))) is
       ∙ ap (λ (found : Option (Option ℕ)). with_number matrix level found number) carries

@@ -7,15 +7,15 @@ use Rattle.dle_framing.specs.Numbers.{dle, etx}
 use Rattle.dle_framing.specs.Frame.{frame, body, counted, check_byte, doubled}
 use Rattle.dle_framing.proofs.Runs.{at_byte, doubled-byte}
 use Rattle.swp08_messages.specs.declared.message.Message.{Message}
-use Rattle.swp08_messages.specs.declared.message.Message.TheVariants.{Connect}
 use Rattle.swp08_messages.specs.declared.point.Point.{Point}
 use Rattle.swp08_messages.specs.Text.{text}
 use Rattle.hex.proofs.HexLemmas.{decode_of-ok}
 use Rattle.plant_config.specs.Plant.{PlantData}
 use Rattle.record_replay.specs.Take.{message_frame}
-use Rattle.record_replay.specs.Take.{dest_number_named, carried, connect_named}
+use Rattle.record_replay.specs.Take.{dest_number_named, carried, connect_of, connect_named}
 use Rattle.record_replay.specs.Script.{Work, Read, Leave, Show, space, tab, HexSpells, Sends, IsTakeLine, LineSpells}
 use Rattle.record_replay.specs.ReplayerInside.{is_end, ends_behind, ends_in, need_of}
+use Rattle.record_replay.proofs.ConnectLemmas.{connect_few}
 use Rattle.record_replay.proofs.ItemsFew.{more_most, ends_behind-length}
 
 -- what passes a test is no longer than the text
@@ -44,31 +44,31 @@ body_ends (a ∷ bytes) =
     subst (λ (sent : List ℕ). HasFewEnds (a ∷ bytes) sent) (sym (doubled-byte a bytes other))
     (omega (arith, few.0, behind), omega (arith, few.0, behind, more_most (is_end a) (ends_behind (a == dle) rest))))
 
--- A frame needs no more than the shortest line of a take, even with two bytes more than a connect has.
+-- A frame of so few DATA needs no more than the shortest line of a take.
 frame_need : (bytes : List ℕ) → length bytes ≤ 7 → 2 * suc (ends_in (frame bytes)) ≤ 12
 frame_need bytes within =
     omega (arith, within, (body_ends (body bytes)).0, length-append (counted bytes) (check_byte (counted bytes) ∷ []), length-append bytes (length bytes ∷ []))
 
--- What names ask for is a connect.
+-- What names ask for is a connect, extended or not.
 abbrev IsConnect : Message → Type 0
-IsConnect message = (at : Point) × (source : Option ℕ) × (message ≡ Connect at source)
+IsConnect message = (at : Point) × (source : Option ℕ) × (message ≡ connect_of at source)
 
 is_connect : (plant : PlantData) (matrix level : ℕ) (dest source : List ℕ) (message : Message) → connect_named plant matrix level dest source ≡ Some message → IsConnect message
 is_connect plant matrix level dest source message is =
     made (dest_number_named plant matrix level dest) (carried plant matrix level source) is
   where
     made : (number : Option ℕ) (found : Option (Option ℕ))
-        → (elim number [ Some number ↦ option_map (λ source. Connect (record { matrix = matrix; level = level; dest = number }) source) found | None ↦ None ]) ≡ Some message → IsConnect message
+        → (elim number [ Some number ↦ option_map (λ source. connect_of (record { matrix = matrix; level = level; dest = number }) source) found | None ↦ None ]) ≡ Some message → IsConnect message
     made None found is = cc
     made (Some number) None is = cc
-    made (Some number) (Some source) is = let same : Connect (record { matrix = matrix; level = level; dest = number }) source ≡ message = cc in (record { matrix = matrix; level = level; dest = number }, source, sym same)
+    made (Some number) (Some source) is = let same : connect_of (record { matrix = matrix; level = level; dest = number }) source ≡ message = cc in (record { matrix = matrix; level = level; dest = number }, source, sym same)
 
 takes_need : (plant : PlantData) (line digits piece : List ℕ) → IsTakeLine plant line digits piece → 2 * suc (ends_in piece) ≤ 12
 takes_need plant line digits piece takes =
     let asks = takes.asks in
     let connect = is_connect plant asks.matrix_number asks.level_number takes.dest takes.source takes.message asks.connect in
-    let is : piece ≡ message_frame (Connect connect.0 connect.1) = takes.piece_is ∙ ap message_frame connect.2 in
-    subst (λ (bytes : List ℕ). 2 * suc (ends_in bytes) ≤ 12) (sym is) (frame_need (text (Connect connect.0 connect.1)) (omega arith))
+    let is : piece ≡ message_frame (connect_of connect.0 connect.1) = takes.piece_is ∙ ap message_frame connect.2 in
+    subst (λ (bytes : List ℕ). 2 * suc (ends_in bytes) ≤ 12) (sym is) (frame_need (text (connect_of connect.0 connect.1)) (connect_few connect.0 connect.1))
 
 length-sends : (line digits piece : List ℕ) → Sends line digits piece → 2 * length piece + 3 ≤ length line
 length-sends line digits piece sends =

@@ -6,7 +6,7 @@ use Rattle.std.proofs.lemmas.List.{get_or-set_same, get_or-set_other, length-set
 use Rattle.history_lock.specs.History.{run}
 use Rattle.plant_config.specs.Plant.{PlantData}
 use Rattle.plant_core.specs.Answer.{room_of}
-use Rattle.plant_core.specs.State.{State, Fits}
+use Rattle.plant_core.specs.State.{State, Fits, FitsPlant}
 use Rattle.plant_core.specs.Step.{step}
 use Rattle.plant_core.specs.declared.request.Request.{Request}
 use Rattle.plant_core.specs.declared.request.Request.TheVariants as requests
@@ -18,7 +18,8 @@ use Rattle.panel_session.specs.Session.{StandsFor}
 use Rattle.panel_session.specs.SettledInside.{Settled}
 use Rattle.panel_session.specs.SoFar.{Progress}
 use Rattle.panel_session.specs.Turns.{entries_in}
-use Rattle.plant_core.proofs.HistoryLemmas.{fits-run, run-valid}
+use Rattle.plant_core.proofs.HistoryLemmas.{fits-run, run-valid, run-short}
+use Rattle.plant_core.proofs.ShortLemmas.{StaysShort-step}
 use Rattle.plant_core.proofs.StepValidity.{IsValid-step}
 use Rattle.panel_session.proofs.ServesLemmas.{serves}
 use Rattle.panel_session.proofs.TurnExists.{turn_exists}
@@ -46,7 +47,7 @@ may_turn plant panel piece replayer session stand used has stands within is =
       stands = subst (λ (session : Session). StandsFor plant panel session (stand.pasts panel)) (sym is) (stands.each panel session has);
       begins = (stands.settled.each panel).begins;
       may = may_go_on used (stand.pasts panel) piece (stands.settled.each panel).begins (stands.small panel) within;
-      serves = subst (λ (state : State). Serves step Fits (λ (state : State). room_of state.plant) plant state) (sym stands.state_is) (serves plant stand.state stands.settled.plant_is stands.valid);
+      serves = subst (λ (state : State). Serves step Fits (λ (state : State). room_of state.plant) plant state) (sym stands.state_is) (serves plant stand.state stands.settled.plant_is stands.valid stands.short);
     }
 
 -- and is ready for it.
@@ -75,6 +76,7 @@ turn_done plant panel piece before after session stand used more has stands ran 
         plant_is = ap (λ plant. plant.now) same_plant ∙ stands.plant_is;
         state_is = ran.machine_is ∙ ap (λ (state : State). run step state (entries_in ran.turn)) stands.state_is;
         valid = run-valid stand.state (entries_in ran.turn) stands.valid;
+        short = run-short stand.state (entries_in ran.turn) stands.valid stands.short worked.legal;
         settled = settled-turn plant panel ran.turn more stand stands.settled settled;
         count = ap (length {A = Session}) set ∙ length-set before.sessions.items panel session ∙ stands.count;
         each = λ other default has_other.
@@ -95,17 +97,18 @@ turn_done plant panel piece before after session stand used more has stands ran 
 
 -- One step was made that no session asks for.
 pub step_done : (plant : PlantData) (work : Work) (request : Request) (before after : Replayer) (stand : ReplayState) (used : ℕ) (text : List ℕ) → StandsAt plant before stand used
-    → Advances plant work stand text (behind_step request stand)
+    → FitsPlant plant request → Advances plant work stand text (behind_step request stand)
     → after.state ≡ (step before.state request).state → after.plant ≡ before.plant → after.sessions ≡ before.sessions
     → after.outbox.items ≡ [] → after.outbox.places ≡ before.outbox.places
     → HasDone plant work stand used after text
-step_done plant work request before after stand used text stands works state same_plant same_sessions empty places = record {
+step_done plant work request before after stand used text stands fits works state same_plant same_sessions empty places = record {
   next = behind_step request stand;
   works = works;
   stands = record {
     plant_is = ap (λ plant. plant.now) same_plant ∙ stands.plant_is;
     state_is = state ∙ ap (λ (state : State). (step state request).state) stands.state_is;
     valid = IsValid-step stand.state request stands.valid;
+    short = StaysShort-step stand.state request stands.valid stands.short (fits-run plant stand.state [] request stands.settled.plant_is fits);
     settled = settled-step plant request stand stands.settled;
     count = ap (λ sessions. length sessions.items) same_sessions ∙ stands.count;
     each = λ other default has. subst (λ sessions. StandsFor plant other (slice_index_or sessions.items other default) (stand.pasts other)) (sym same_sessions) (stands.each other default has);

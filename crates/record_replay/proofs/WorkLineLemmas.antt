@@ -20,6 +20,7 @@ stands_later plant replayer stand used later within stands = record {
   plant_is = stands.plant_is;
   state_is = stands.state_is;
   valid = stands.valid;
+  short = stands.short;
   settled = stands.settled;
   count = stands.count;
   each = stands.each;

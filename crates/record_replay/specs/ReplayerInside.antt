@@ -4,6 +4,7 @@ use Rattle.dle_framing.specs.Numbers.{dle, etx, ack_byte, nak_byte}
 use Rattle.plant_config.specs.Plant.{PlantData}
 use Rattle.plant_core.specs.Answer.{room_of}
 use Rattle.plant_core.specs.State.{IsValid}
+use Rattle.plant_core.specs.Short.{StaysShort}
 use Rattle.panel_session.specs.declared.session.Session.{Session}
 use Rattle.panel_session.specs.Session.{StandsFor}
 use Rattle.panel_session.specs.SoFar.{Progress, nothing_yet}
@@ -51,6 +52,7 @@ pub record StandsAt (plant : PlantData) (replayer : Replayer) (stand : ReplaySta
   pub plant_is : replayer.plant.now ≡ plant
   pub state_is : replayer.state ≡ stand.state
   pub valid : IsValid stand.state
+  pub short : StaysShort stand.state
   pub settled : IsSettled plant stand
   pub count : length replayer.sessions.items ≡ length plant.panels
   pub each : StandForPasts plant replayer.sessions.items stand.pasts

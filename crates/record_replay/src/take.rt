@@ -3,9 +3,9 @@
 ghost use Rattle.std.specs.Prelude.{◌≡◌, ◌<◌, IfSome, MatchOption};
 ghost use Rattle.plant_config.specs.Limits.{level_destination_limit};
 ghost use Rattle.plant_config.specs.IsPlant.{IsPlant};
-ghost use Rattle.swp08_messages.specs.Text.{InRange, IsSource};
+ghost use Rattle.swp08_messages.specs.Text.{InRange, IsExtPoint, IsExtSource};
 ghost use Rattle.record_replay.specs.Take.{dest_number_named, source_number_named};
-ghost use Rattle.record_replay.specs.Take.{carried, connect_named};
+ghost use Rattle.record_replay.specs.Take.{carried, connect_of, connect_named};
 ghost use Rattle.record_replay.specs.Script.{AsksConnect};
 ghost use Rattle.record_replay.specs.LineInside.{AreParts, HasNoParts, AsksNothing};
 ghost use Rattle.record_replay.specs.LineInside.{IsTake, IsNoTake};
@@ -16,7 +16,10 @@ use crate::script::TAB;
 use line_text::{SPACE, split_at};
 use plant_config::{PanelNo, Plant};
 use plant_names::Names;
-use swp08_messages::{Message, Point};
+use swp08_messages::{Message, PARKED, Point};
+
+// The destinations of a level that a connect can tell which isn't extended are numbered below this.
+const SHORT_DESTS: u16 = 1024;
 
 // The parts of a take.
 #[derive(Clone, Copy)]
@@ -112,7 +115,26 @@ fn connect_named(
         level,
         dest,
     };
-    Some(Message::Connect { at, source })
+    Some(connect_of(at, source))
+}
+
+// The connect of a destination to a source, an extended one where either asks for it.
+#[tactic(auto, using(crate::proofs::ConnectLemmas::connect_in_range))]
+fn connect_of(at: Point, source: Option<u16>) -> Message
+    requires place { IsExtPoint at }
+    requires source { IsExtSource source }
+    ensures connect { result ≡ connect_of at source }
+    ensures in_range { InRange result }
+{
+    let is_short = match source {
+        Some(number) => number < PARKED,
+        None => true,
+    };
+    if at.dest < SHORT_DESTS && is_short {
+        Message::Connect { at, source }
+    } else {
+        Message::ExtConnect { at, source }
+    }
 }
 
 // The number, in its level, of the destination of this name.
@@ -131,7 +153,7 @@ fn carried(plant: &Plant, names: &Names, matrix: u8, level: u8, name: &[u8]) -> 
     requires plant { IsPlant plant.now }
     requires names { names.now ≡ plant.now }
     ensures carried { result ≡ carried plant.now matrix level name.now }
-    ensures source { IfSome result IsSource }
+    ensures source { IfSome result IsExtSource }
 {
     if name.is_empty() {
         return Some(None);

@@ -9,6 +9,6 @@ pub returns : goal.returns
 returns g c = λ stand used stands within. (
   leave_line c.args.panel,
   c.leave_line.ensures,
-  step_done c.args.self.now.plant.now (Leave c.args.panel) (requests.Leave c.args.panel) c.args.self.now _ stand used (leave_line c.args.panel) stands (refl, refl)
+  step_done c.args.self.now.plant.now (Leave c.args.panel) (requests.Leave c.args.panel) c.args.self.now _ stand used (leave_line c.args.panel) stands c.requires.panel (refl, refl)
       c.step.ensures.state refl refl c.step.ensures.answers c.step.ensures.places,
 )

@@ -31,7 +31,7 @@ returns-clause-does g c = OnTrue_from c.tell_show-told.result _ (λ yes stand us
     × SendsAll g.P.DisplayPort.was_sent g.P.DisplayPort.faults (packets_told plant c.args.screen answers) c.args.port.now c.tell_show-told.new.port in (
       show_line plant c.args.screen (step stand.state poll).answers,
       subst Put told (OnTrue_at yes c.tell_show-told.ensures.told),
-      step_done plant (Show c.args.screen c.args.refresh) poll c.args.self.now _ stand used (show_line plant c.args.screen (step stand.state poll).answers) stands (refl, refl)
+      step_done plant (Show c.args.screen c.args.refresh) poll c.args.self.now _ stand used (show_line plant c.args.screen (step stand.state poll).answers) stands c.requires.screen (refl, refl)
           c.step.ensures.state refl refl c.clear.ensures.items (c.clear.ensures.places ∙ c.step.ensures.places),
     ))
 

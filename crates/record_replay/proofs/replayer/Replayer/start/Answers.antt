@@ -1,5 +1,6 @@
 use Rattle.std.proofs.Common.{refl, arith}
 use Rattle.plant_core.proofs.Validity.{IsValid-start}
+use Rattle.plant_core.proofs.ShortLemmas.{StaysShort-start}
 use Rattle.record_replay.proofs.SmallLemmas.{small_nothing}
 use Rattle.record_replay.proofs.WorksLemmas.{settled-begun}
 use Rattle.record_replay.proofs.replayer.Replayer.start.Goals as goal
@@ -9,6 +10,7 @@ returns c = record {
   plant_is = refl;
   state_is = c.in_ok-start.ensures;
   valid = IsValid-start c.args.plant.now c.in_ok-start_sessions.ensures.plant;
+  short = StaysShort-start c.args.plant.now;
   settled = settled-begun c.args.plant.now;
   count = c.in_ok-start_sessions.ensures.sessions.count;
   each = c.in_ok-start_sessions.ensures.sessions.each;
