@@ -5,14 +5,14 @@ use Rattle.std.specs.List.{All, list_all}
 use Rattle.std.specs.Option.{option_map_or}
 use Rattle.std.proofs.lemmas.Bool.{ne_eqb, le-leb}
 use Rattle.std.proofs.lemmas.List.Elements.{All-head, All-tail}
-use Rattle.clap.specs.Words.{Rule, Shape, Text, built, new_rule, subcommand_of, takes}
+use Rattle.clap.specs.Words.{Rule, Shape, Text, built, new_rule}
 use Rattle.clap.specs.Lexer.{long_of}
 use Rattle.clap.specs.Walk.{Held, Step, Walk, after_step, arg_by_index, finished, long_or_other, nothing_held, settled, short_or_plain, stop_after, subcommand_met, subcommand_or_other, to_positional, trailing, value, walk, walk_from, walked, word_met}
 use Rattle.clap.specs.Simple.{entered, names_of}
-use Rattle.clap.specs.Takes.{bundle_passes, default_passes, entered_passes, flag_word_passes, is_valid, level_passes, other_passes, settle_passes, step_passes, turn_passes, value_passes, walk_passes}
+use Rattle.clap.specs.Takes.{bundle_passes, default_passes, flag_word_passes, is_valid, level_passes, other_passes, settle_passes, step_passes, turn_passes, value_passes, walk_passes}
 use Rattle.clap.proofs.OnLiterals.{clap_on_literals}
-use Rattle.command_words.specs.Words.{Command, Check, Replay, Audit, IsFileName, IsProper, words_of}
-use Rattle.command_words.specs.WordsInside.{check, command_in, program}
+use Rattle.command_words.specs.Words.{IsFileName}
+use Rattle.command_words.specs.WordsInside.{check, program}
 use Rattle.command_words.proofs.DashLemmas.{not_dashes, not_long, not_short, waits, no_subcommand, is_plain}
 
 -- ---- a word that does not begin with a dash is no flag
@@ -36,13 +36,13 @@ word_passes_on s more first rest h differs =
 
 -- ---- so it goes to the next positional
 
-abbrev standing : Bool → Held → ℕ → Walk
+abbrev pub standing : Bool → Held → ℕ → Walk
 standing more h position = record { held = h; waiting = waits more; position = position; is_trailing = false; stopped = None }
 
-abbrev went_on : List Rule → Bool → Held → ℕ → Text → Walk
+abbrev pub went_on : List Rule → Bool → Held → ℕ → Text → Walk
 went_on c more h position word = to_positional c (arg_by_index c position) word (standing more h position) h
 
-abbrev went : List Rule → Held → ℕ → Text → Walk
+abbrev pub went : List Rule → Held → ℕ → Text → Walk
 went c h position word = went_on c false h position word
 
 goes : (c : List Rule) (more : Bool) (h : Held) (position first : ℕ) (rest : Text) → eqb first 45 ≡ false
@@ -59,28 +59,39 @@ turn s more h position first rest differs passes =
 
 -- ---- the subcommands, as built
 
-abbrev leaf : ℕ → Shape
+abbrev pub leaf : ℕ → Shape
 leaf i = slice_index_or (built program).subs i check.top
 
 abbrev ends_well : Shape → Walk → Bool
 ends_well s w = settle_passes s.rules s.args_override_self w.held && (list_all default_passes s.rules && is_valid s (finished s.rules w.held) false)
 
-walks_check : (first : ℕ) (rest : Text) → eqb first 45 ≡ false → walk (leaf 0).rules [] nothing_held ((first ∷ rest) ∷ []) ≡ went (leaf 0).rules nothing_held 1 (first ∷ rest)
+pub walks_check : (first : ℕ) (rest : Text) → eqb first 45 ≡ false → walk (leaf 0).rules [] nothing_held ((first ∷ rest) ∷ []) ≡ went (leaf 0).rules nothing_held 1 (first ∷ rest)
 walks_check first rest differs = goes (leaf 0).rules false nothing_held 1 first rest differs
 
 check_passes : (first : ℕ) (rest : Text) → eqb first 45 ≡ false → walk_passes (leaf 0) [] (walk_from nothing_held) ((first ∷ rest) ∷ []) ≡ true
 unfolding walk_passes
 check_passes first rest differs = ap (λ b. b && true) (turn (leaf 0) false nothing_held 1 first rest differs refl)
 
-check_level : (first : ℕ) (rest : Text) → eqb first 45 ≡ false → level_passes (leaf 0) [] nothing_held ((first ∷ rest) ∷ []) false ≡ true
+pub check_level : (first : ℕ) (rest : Text) → eqb first 45 ≡ false → level_passes (leaf 0) [] nothing_held ((first ∷ rest) ∷ []) false ≡ true
 check_level first rest differs =
     ap₂ ◌&&◌ (check_passes first rest differs) (ap (ends_well (leaf 0)) (walks_check first rest differs))
 
+pub walks_monitor : (first : ℕ) (rest : Text) → eqb first 45 ≡ false → walk (leaf 4).rules [] nothing_held ((first ∷ rest) ∷ []) ≡ went (leaf 4).rules nothing_held 1 (first ∷ rest)
+walks_monitor first rest differs = goes (leaf 4).rules false nothing_held 1 first rest differs
+
+monitor_passes : (first : ℕ) (rest : Text) → eqb first 45 ≡ false → walk_passes (leaf 4) [] (walk_from nothing_held) ((first ∷ rest) ∷ []) ≡ true
+unfolding walk_passes
+monitor_passes first rest differs = ap (λ b. b && true) (turn (leaf 4) false nothing_held 1 first rest differs refl)
+
+pub monitor_level : (first : ℕ) (rest : Text) → eqb first 45 ≡ false → level_passes (leaf 4) [] nothing_held ((first ∷ rest) ∷ []) false ≡ true
+monitor_level first rest differs =
+    ap₂ ◌&&◌ (monitor_passes first rest differs) (ap (ends_well (leaf 4)) (walks_monitor first rest differs))
+
 -- what is held behind the plant's word
-abbrev plant_held : ℕ → Text → Held
+abbrev pub plant_held : ℕ → Text → Held
 plant_held i word = (went (leaf i).rules nothing_held 1 word).held
 
-walks_replay : (first other : ℕ) (rest others : Text) → eqb first 45 ≡ false → eqb other 45 ≡ false
+pub walks_replay : (first other : ℕ) (rest others : Text) → eqb first 45 ≡ false → eqb other 45 ≡ false
     → walk (leaf 1).rules [] nothing_held ((first ∷ rest) ∷ (other ∷ others) ∷ []) ≡ went (leaf 1).rules (plant_held 1 (first ∷ rest)) 2 (other ∷ others)
 walks_replay first other rest others differs both =
     ap (λ (w : Walk). walked (leaf 1).rules [] w (other ∷ others)) (goes (leaf 1).rules false nothing_held 1 first rest differs)
@@ -94,22 +105,49 @@ replay_passes first other rest others differs both =
     (ap (λ (w : Walk). turn_passes (leaf 1) [] w (other ∷ others) && true) (goes (leaf 1).rules false nothing_held 1 first rest differs)
     ∙ ap (λ b. b && true) (turn (leaf 1) false (plant_held 1 (first ∷ rest)) 2 other others both refl))
 
-replay_level : (first other : ℕ) (rest others : Text) → eqb first 45 ≡ false → eqb other 45 ≡ false
+pub replay_level : (first other : ℕ) (rest others : Text) → eqb first 45 ≡ false → eqb other 45 ≡ false
     → level_passes (leaf 1) [] nothing_held ((first ∷ rest) ∷ (other ∷ others) ∷ []) false ≡ true
 replay_level first other rest others differs both =
     ap₂ ◌&&◌ (replay_passes first other rest others differs both) (ap (ends_well (leaf 1)) (walks_replay first other rest others differs both))
 
+-- what is held behind the script's name in the words of a stream
+abbrev pub script_held : Text → Text → Held
+script_held plant script = (went (leaf 3).rules (plant_held 3 plant) 2 script).held
+
+pub walks_stream : (first other last : ℕ) (rest others more : Text) → eqb first 45 ≡ false → eqb other 45 ≡ false → eqb last 45 ≡ false
+    → walk (leaf 3).rules [] nothing_held ((first ∷ rest) ∷ (other ∷ others) ∷ (last ∷ more) ∷ []) ≡ went (leaf 3).rules (script_held (first ∷ rest) (other ∷ others)) 3 (last ∷ more)
+walks_stream first other last rest others more differs both three =
+    ap (λ (w : Walk). fold (walked (leaf 3).rules []) w ((other ∷ others) ∷ (last ∷ more) ∷ [])) (goes (leaf 3).rules false nothing_held 1 first rest differs)
+    ∙ ap (λ (w : Walk). walked (leaf 3).rules [] w (last ∷ more)) (goes (leaf 3).rules false (plant_held 3 (first ∷ rest)) 2 other others both)
+    ∙ goes (leaf 3).rules false (script_held (first ∷ rest) (other ∷ others)) 3 last more three
+
+stream_passes : (first other last : ℕ) (rest others more : Text) → eqb first 45 ≡ false → eqb other 45 ≡ false → eqb last 45 ≡ false
+    → walk_passes (leaf 3) [] (walk_from nothing_held) ((first ∷ rest) ∷ (other ∷ others) ∷ (last ∷ more) ∷ []) ≡ true
+unfolding walk_passes
+stream_passes first other last rest others more differs both three =
+    ap₂ ◌&&◌ (turn (leaf 3) false nothing_held 1 first rest differs refl)
+    (ap (λ (w : Walk). turn_passes (leaf 3) [] w (other ∷ others) && walk_passes (leaf 3) [] (walked (leaf 3).rules [] w (other ∷ others)) ((last ∷ more) ∷ []))
+    (goes (leaf 3).rules false nothing_held 1 first rest differs)
+    ∙ ap₂ ◌&&◌ (turn (leaf 3) false (plant_held 3 (first ∷ rest)) 2 other others both refl)
+    (ap (λ (w : Walk). walk_passes (leaf 3) [] w ((last ∷ more) ∷ [])) (goes (leaf 3).rules false (plant_held 3 (first ∷ rest)) 2 other others both)
+    ∙ ap (λ b. b && true) (turn (leaf 3) false (script_held (first ∷ rest) (other ∷ others)) 3 last more three refl)))
+
+pub stream_level : (first other last : ℕ) (rest others more : Text) → eqb first 45 ≡ false → eqb other 45 ≡ false → eqb last 45 ≡ false
+    → level_passes (leaf 3) [] nothing_held ((first ∷ rest) ∷ (other ∷ others) ∷ (last ∷ more) ∷ []) false ≡ true
+stream_level first other last rest others more differs both three =
+    ap₂ ◌&&◌ (stream_passes first other last rest others more differs both three) (ap (ends_well (leaf 3)) (walks_stream first other last rest others more differs both three))
+
 -- ---- the traces of an audit are gathered, until the words end
 
 -- what is held behind these traces
-abbrev gathered : Text → List Text → Held
+abbrev pub gathered : Text → List Text → Held
 gathered plant traces = record {
   rows = (settled (leaf 2).rules (plant_held 2 plant)).rows;
   pending = Some (codes "trace", traces);
   skip = 0;
 }
 
-abbrev gathering : Text → List Text → Walk
+abbrev pub gathering : Text → List Text → Walk
 gathering plant traces = standing true (gathered plant traces) 2
 
 gathers : (plant : Text) (traces more : List Text) → All IsFileName more → fold (walked (leaf 2).rules []) (gathering plant traces) more ≡ gathering plant (traces ++ more)
@@ -133,7 +171,7 @@ gathers_pass plant traces ((first ∷ rest) ∷ more) names =
     (ap (λ (w : Walk). walk_passes (leaf 2) [] w more) (goes (leaf 2).rules true (gathered plant traces) 2 first rest differs)
     ∙ gathers_pass plant (traces ++ word ∷ []) more (All-tail IsFileName word more names))
 
-walks_audit : (first other : ℕ) (rest others : Text) (more : List Text) → eqb first 45 ≡ false → eqb other 45 ≡ false → All IsFileName more
+pub walks_audit : (first other : ℕ) (rest others : Text) (more : List Text) → eqb first 45 ≡ false → eqb other 45 ≡ false → All IsFileName more
     → walk (leaf 2).rules [] nothing_held ((first ∷ rest) ∷ (other ∷ others) ∷ more) ≡ gathering (first ∷ rest) ((other ∷ others) ∷ more)
 walks_audit first other rest others more differs both names =
     ap (λ (w : Walk). fold (walked (leaf 2).rules []) w ((other ∷ others) ∷ more)) (goes (leaf 2).rules false nothing_held 1 first rest differs)
@@ -163,7 +201,7 @@ audit_settles : (plant trace : Text) (more : List Text) → length (trace ∷ mo
 audit_settles plant trace more few =
     ap₂ ◌&&◌ (le-leb 1 (length (trace ∷ more)) (omega arith)) (ap₂ ◌&&◌ (le-leb (length (trace ∷ more)) 200 few) (all_pass (trace ∷ more)))
 
-audit_level : (first other : ℕ) (rest others : Text) (more : List Text) → eqb first 45 ≡ false → eqb other 45 ≡ false → All IsFileName more
+pub audit_level : (first other : ℕ) (rest others : Text) (more : List Text) → eqb first 45 ≡ false → eqb other 45 ≡ false → All IsFileName more
     → length ((other ∷ others) ∷ more) ≤ 200 → level_passes (leaf 2) [] nothing_held ((first ∷ rest) ∷ (other ∷ others) ∷ more) false ≡ true
 audit_level first other rest others more differs both names few =
     ap₂ ◌&&◌ (audit_passes first other rest others more differs both names)
@@ -172,13 +210,13 @@ audit_level first other rest others more differs both names few =
 
 -- ---- the program stops at the name of a subcommand, and the other words are that one's
 
-abbrev top : Shape
+abbrev pub top : Shape
 top = (built program).top
 
-abbrev stop : List Text → Option (Text × List Text)
+abbrev pub stop : List Text → Option (Text × List Text)
 stop words = stop_after top.rules (names_of (built program)) words
 
-abbrev top_passes : List Text → Bool
+abbrev pub top_passes : List Text → Bool
 top_passes words = level_passes top (names_of (built program)) nothing_held words (is_some (entered (built program) (stop words)))
 
 abbrev stood : Text → List Text → Walk
@@ -194,97 +232,47 @@ unfolding walked walk_passes
 passes name before [] = refl
 passes name before (word ∷ more) = passes name (before ++ word ∷ []) more
 
-at_check : (words : List Text) → stop (codes "check" ∷ words) ≡ Some (codes "check", words)
+pub at_check : (words : List Text) → stop (codes "check" ∷ words) ≡ Some (codes "check", words)
 unfolding clap_on_literals
 at_check words = ap (λ (w : Walk). w.stopped) (passed (codes "check") [] words)
 
-at_replay : (words : List Text) → stop (codes "replay" ∷ words) ≡ Some (codes "replay", words)
+pub at_replay : (words : List Text) → stop (codes "replay" ∷ words) ≡ Some (codes "replay", words)
 unfolding clap_on_literals
 at_replay words = ap (λ (w : Walk). w.stopped) (passed (codes "replay") [] words)
 
-at_audit : (words : List Text) → stop (codes "audit" ∷ words) ≡ Some (codes "audit", words)
+pub at_audit : (words : List Text) → stop (codes "audit" ∷ words) ≡ Some (codes "audit", words)
 unfolding clap_on_literals
 at_audit words = ap (λ (w : Walk). w.stopped) (passed (codes "audit") [] words)
+
+pub at_stream : (words : List Text) → stop (codes "stream" ∷ words) ≡ Some (codes "stream", words)
+unfolding clap_on_literals
+at_stream words = ap (λ (w : Walk). w.stopped) (passed (codes "stream") [] words)
+
+pub at_monitor : (words : List Text) → stop (codes "monitor" ∷ words) ≡ Some (codes "monitor", words)
+unfolding clap_on_literals
+at_monitor words = ap (λ (w : Walk). w.stopped) (passed (codes "monitor") [] words)
 
 -- nothing is held at the stop
 abbrev stops_well : List Text → Walk → Bool
 stops_well words w = settle_passes top.rules top.args_override_self w.held
     && (list_all default_passes top.rules && is_valid top (finished top.rules w.held) (is_some (entered (built program) (stop words))))
 
-top_check : (words : List Text) → top_passes (codes "check" ∷ words) ≡ true
+pub top_check : (words : List Text) → top_passes (codes "check" ∷ words) ≡ true
 unfolding clap_on_literals
 top_check words = ap₂ ◌&&◌ (passes (codes "check") [] words) (ap (stops_well (codes "check" ∷ words)) (passed (codes "check") [] words))
 
-top_replay : (words : List Text) → top_passes (codes "replay" ∷ words) ≡ true
+pub top_replay : (words : List Text) → top_passes (codes "replay" ∷ words) ≡ true
 unfolding clap_on_literals
 top_replay words = ap₂ ◌&&◌ (passes (codes "replay") [] words) (ap (stops_well (codes "replay" ∷ words)) (passed (codes "replay") [] words))
 
-top_audit : (words : List Text) → top_passes (codes "audit" ∷ words) ≡ true
+pub top_audit : (words : List Text) → top_passes (codes "audit" ∷ words) ≡ true
 unfolding clap_on_literals
 top_audit words = ap₂ ◌&&◌ (passes (codes "audit") [] words) (ap (stops_well (codes "audit" ∷ words)) (passed (codes "audit") [] words))
 
--- ---- it takes the words of a command
+pub top_stream : (words : List Text) → top_passes (codes "stream" ∷ words) ≡ true
+unfolding clap_on_literals
+top_stream words = ap₂ ◌&&◌ (passes (codes "stream") [] words) (ap (stops_well (codes "stream" ∷ words)) (passed (codes "stream") [] words))
 
-takes_check : (first : ℕ) (rest : Text) → eqb first 45 ≡ false → takes program (codes "check" ∷ (first ∷ rest) ∷ []) ≡ true
-takes_check first rest differs =
-    let words = (first ∷ rest) ∷ [] in
-    ap₂ ◌&&◌ (ap (entered_passes (built program)) (at_check words) ∙ check_level first rest differs) (top_check words)
-
-takes_replay : (first other : ℕ) (rest others : Text) → eqb first 45 ≡ false → eqb other 45 ≡ false
-    → takes program (codes "replay" ∷ (first ∷ rest) ∷ (other ∷ others) ∷ []) ≡ true
-takes_replay first other rest others differs both =
-    let words = (first ∷ rest) ∷ (other ∷ others) ∷ [] in
-    ap₂ ◌&&◌ (ap (entered_passes (built program)) (at_replay words) ∙ replay_level first other rest others differs both) (top_replay words)
-
-takes_audit : (first other : ℕ) (rest others : Text) (more : List Text) → eqb first 45 ≡ false → eqb other 45 ≡ false → All IsFileName more
-    → length ((other ∷ others) ∷ more) ≤ 200 → takes program (codes "audit" ∷ (first ∷ rest) ∷ (other ∷ others) ∷ more) ≡ true
-takes_audit first other rest others more differs both names few =
-    let words = (first ∷ rest) ∷ (other ∷ others) ∷ more in
-    ap₂ ◌&&◌ (ap (entered_passes (built program)) (at_audit words) ∙ audit_level first other rest others more differs both names few) (top_audit words)
-
-pub taken : (command : Command) → IsProper command → takes program (words_of command) ≡ true
-taken (Check []) proper = absurd proper
-taken (Check (first ∷ rest)) proper = takes_check first rest (ne_eqb first 45 proper)
-taken (Replay [] script) proper = absurd proper.0
-taken (Replay (first ∷ rest) []) proper = absurd proper.1
-taken (Replay (first ∷ rest) (other ∷ others)) proper = takes_replay first other rest others (ne_eqb first 45 proper.0) (ne_eqb other 45 proper.1)
-taken (Audit [] traces) proper = absurd proper.0
-taken (Audit (first ∷ rest) []) proper = let none : 1 ≤ 0 = proper.1.some in absurd (omega (arith, none))
-taken (Audit (first ∷ rest) ([] ∷ more)) proper = absurd (All-head IsFileName [] more proper.1.names)
-taken (Audit (first ∷ rest) ((other ∷ others) ∷ more)) proper =
-    takes_audit first other rest others more (ne_eqb first 45 proper.0) (ne_eqb other 45 (All-head IsFileName (other ∷ others) more proper.1.names))
-    (All-tail IsFileName (other ∷ others) more proper.1.names) proper.1.few
-
--- ---- and gives that command
-
-abbrev found_in : ℕ → Text → Walk → Option Command
-found_in i name w = command_in (Some (name, finished (leaf i).rules w.held))
-
-abbrev entered_at : Option (Text × List Text) → Option Command
-entered_at met = command_in (entered (built program) met)
-
-gives_check : (first : ℕ) (rest : Text) → eqb first 45 ≡ false → command_in (subcommand_of program (codes "check" ∷ (first ∷ rest) ∷ [])) ≡ Some (Check (first ∷ rest))
-gives_check first rest differs = ap entered_at (at_check ((first ∷ rest) ∷ [])) ∙ ap (found_in 0 (codes "check")) (walks_check first rest differs)
-
-gives_replay : (first other : ℕ) (rest others : Text) → eqb first 45 ≡ false → eqb other 45 ≡ false
-    → command_in (subcommand_of program (codes "replay" ∷ (first ∷ rest) ∷ (other ∷ others) ∷ [])) ≡ Some (Replay (first ∷ rest) (other ∷ others))
-gives_replay first other rest others differs both =
-    ap entered_at (at_replay ((first ∷ rest) ∷ (other ∷ others) ∷ [])) ∙ ap (found_in 1 (codes "replay")) (walks_replay first other rest others differs both)
-
-gives_audit : (first other : ℕ) (rest others : Text) (more : List Text) → eqb first 45 ≡ false → eqb other 45 ≡ false → All IsFileName more
-    → command_in (subcommand_of program (codes "audit" ∷ (first ∷ rest) ∷ (other ∷ others) ∷ more)) ≡ Some (Audit (first ∷ rest) ((other ∷ others) ∷ more))
-gives_audit first other rest others more differs both names =
-    ap entered_at (at_audit ((first ∷ rest) ∷ (other ∷ others) ∷ more)) ∙ ap (found_in 2 (codes "audit")) (walks_audit first other rest others more differs both names)
-
-pub gives : (command : Command) → IsProper command → command_in (subcommand_of program (words_of command)) ≡ Some command
-gives (Check []) proper = absurd proper
-gives (Check (first ∷ rest)) proper = gives_check first rest (ne_eqb first 45 proper)
-gives (Replay [] script) proper = absurd proper.0
-gives (Replay (first ∷ rest) []) proper = absurd proper.1
-gives (Replay (first ∷ rest) (other ∷ others)) proper = gives_replay first other rest others (ne_eqb first 45 proper.0) (ne_eqb other 45 proper.1)
-gives (Audit [] traces) proper = absurd proper.0
-gives (Audit (first ∷ rest) []) proper = let none : 1 ≤ 0 = proper.1.some in absurd (omega (arith, none))
-gives (Audit (first ∷ rest) ([] ∷ more)) proper = absurd (All-head IsFileName [] more proper.1.names)
-gives (Audit (first ∷ rest) ((other ∷ others) ∷ more)) proper =
-    gives_audit first other rest others more (ne_eqb first 45 proper.0) (ne_eqb other 45 (All-head IsFileName (other ∷ others) more proper.1.names))
-    (All-tail IsFileName (other ∷ others) more proper.1.names)
+pub top_monitor : (words : List Text) → top_passes (codes "monitor" ∷ words) ≡ true
+unfolding clap_on_literals
+top_monitor words = ap₂ ◌&&◌ (passes (codes "monitor") [] words) (ap (stops_well (codes "monitor" ∷ words)) (passed (codes "monitor") [] words))

@@ -2,6 +2,7 @@ pub mod DashLemmas
 pub mod FormLemmas
 pub mod GetterLemmas
 pub mod ClapLemmas
+pub mod ClapTaken
 pub mod NamesLemmas
 pub mod WordsLemmas
 pub mod DrillWordsLemmas

@@ -5,13 +5,15 @@ use Rattle.std.specs.Borrow.{Bor}
 use Rattle.command_words.specs.declared.words.Command as code
 use Rattle.command_words.specs.declared.words.Command.TheVariants as commands
 use Rattle.command_words.specs.declared.service_words.Service as services
-use Rattle.command_words.specs.Words.{Command, Check, Replay, Audit, Service, texts}
+use Rattle.command_words.specs.Words.{Command, Check, Replay, Audit, Stream, Monitor, Service, texts}
 
 -- what the code calls this command
 abbrev pub asked : code.Command → Command
 asked (commands.Check plant) = Check plant.now
 asked (commands.Replay plant script) = Replay plant.now script.now
 asked (commands.Audit plant traces) = Audit plant.now (texts traces.now)
+asked (commands.Stream plant script made) = Stream plant.now script.now made.now
+asked (commands.Monitor stream) = Monitor stream.now
 
 -- the text of a prefix, where there is one
 abbrev pub prefix_of : Option (Bor (List ℕ)) → Option (List ℕ)

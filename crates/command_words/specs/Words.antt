@@ -10,30 +10,47 @@ use Rattle.command_words.specs.declared.drill_words.Drill.{Drill}
 abbrev pub texts : List (String Global) → List (List ℕ)
 texts words = map string_bytes words
 
--- A command, with its words: `check` has a plant's word, `replay` a plant's word and the name of a script, and `audit` a plant's
--- word and the names of traces.
+-- A command, with its words: `check` has a plant's word, `replay` a plant's word and the name of a script, `audit` a plant's
+-- word and the names of traces, `stream` a plant's word, the name of a script and that of a file that is made, and `monitor` the
+-- name of a recorded stream.
 pub data Command : Type 0 where
   Check : (plant : List ℕ) → Command
   Replay : (plant script : List ℕ) → Command
   Audit : (plant : List ℕ) (traces : List (List ℕ)) → Command
+  Stream : (plant script made : List ℕ) → Command
+  Monitor : (stream : List ℕ) → Command
 
 -- the words that ask for it
 abbrev pub words_of : Command → List (List ℕ)
 words_of (Check plant) = codes "check" ∷ plant ∷ []
 words_of (Replay plant script) = codes "replay" ∷ plant ∷ script ∷ []
 words_of (Audit plant traces) = codes "audit" ∷ plant ∷ traces
+words_of (Stream plant script made) = codes "stream" ∷ plant ∷ script ∷ made ∷ []
+words_of (Monitor stream) = codes "monitor" ∷ stream ∷ []
 
--- the plant's word
+-- the plant's word: `monitor`, which has none, stands on the bench plant, for which no file is opened
 abbrev pub plant_word : Command → List ℕ
 plant_word (Check plant) = plant
 plant_word (Replay plant script) = plant
 plant_word (Audit plant traces) = plant
+plant_word (Stream plant script made) = plant
+plant_word (Monitor stream) = codes "bench"
 
--- the files that it asks for behind its plant's, in order
+-- the files that it reads behind its plant's, in order
 abbrev pub other_files : Command → List (List ℕ)
 other_files (Check plant) = []
 other_files (Replay plant script) = script ∷ []
 other_files (Audit plant traces) = traces
+other_files (Stream plant script made) = script ∷ []
+other_files (Monitor stream) = stream ∷ []
+
+-- the files that it makes
+abbrev pub made_files : Command → List (List ℕ)
+made_files (Check plant) = []
+made_files (Replay plant script) = []
+made_files (Audit plant traces) = []
+made_files (Stream plant script made) = made ∷ []
+made_files (Monitor stream) = []
 
 -- A word that names something isn't empty and doesn't begin with a dash.
 abbrev pub IsFileName : List ℕ → Type 0
@@ -50,11 +67,13 @@ pub record NameTraces (words : List (List ℕ)) : Type 0 where
   pub few : length words ≤ most_traces
   pub names : All IsFileName words
 
--- The words of a command are such as it takes: a plant's word, a script's and those of traces are names.
+-- The words of a command are such as it takes: a plant's word and those of its files are names.
 abbrev pub IsProper : Command → Type 0
 IsProper (Check plant) = IsFileName plant
 IsProper (Replay plant script) = IsFileName plant × IsFileName script
 IsProper (Audit plant traces) = IsFileName plant × NameTraces traces
+IsProper (Stream plant script made) = IsFileName plant × IsFileName script × IsFileName made
+IsProper (Monitor stream) = IsFileName stream
 
 -- The words ask for this command.
 pub record Ask (words : List (List ℕ)) (command : Command) : Type 0 where

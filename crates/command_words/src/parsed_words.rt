@@ -7,6 +7,7 @@ ghost use Rattle.clap.specs.Words.{subcommand_rows_of};
 ghost use Rattle.command_words.specs.Words.{Command as Commands, Ask, texts};
 ghost use Rattle.command_words.specs.Read.{asked};
 ghost use Rattle.command_words.specs.WordsInside.{IsArg, IsForm, audit, check, command_in};
+ghost use Rattle.command_words.specs.WordsInside.{command_of_plant, monitor, stream};
 ghost use Rattle.command_words.specs.WordsInside.{command_with, program, replay, several, word};
 
 use crate::words::{Command, MAX_TRACES};
@@ -24,18 +25,22 @@ pub(crate) fn parse<'a>(alloc: Global, words: &'a [String]) -> Result<ArgMatches
     program.try_get_matches_from(words)
 }
 
-// The three forms, for `clap`. The words are without the program's name.
+// The five forms, for `clap`. The words are without the program's name.
 fn forms<'a>(alloc: Global) -> Result<clap::Command<'a>, AllocError>
     ensures { IfOk result (λ command. app_of command ≡ program) }
 {
     let check = check_form(alloc)?;
     let replay = replay_form(alloc)?;
     let audit = audit_form(alloc)?;
+    let stream = stream_form(alloc)?;
+    let monitor = monitor_form(alloc)?;
     clap::Command::new(alloc, "plantctl")
         .no_binary_name(true)
         .subcommand(check)?
         .subcommand(replay)?
-        .subcommand(audit)
+        .subcommand(audit)?
+        .subcommand(stream)?
+        .subcommand(monitor)
 }
 
 fn check_form<'a>(alloc: Global) -> Result<clap::Command<'a>, AllocError>
@@ -58,6 +63,21 @@ fn audit_form<'a>(alloc: Global) -> Result<clap::Command<'a>, AllocError>
     clap::Command::new(alloc, "audit")
         .arg(word(alloc, "plant"))?
         .arg(several(word(alloc, "trace")))
+}
+
+fn stream_form<'a>(alloc: Global) -> Result<clap::Command<'a>, AllocError>
+    ensures { IfOk result (IsForm stream) }
+{
+    clap::Command::new(alloc, "stream")
+        .arg(word(alloc, "plant"))?
+        .arg(word(alloc, "script"))?
+        .arg(word(alloc, "out"))
+}
+
+fn monitor_form<'a>(alloc: Global) -> Result<clap::Command<'a>, AllocError>
+    ensures { IfOk result (IsForm monitor) }
+{
+    clap::Command::new(alloc, "monitor").arg(word(alloc, "stream"))
 }
 
 // One word.
@@ -93,6 +113,23 @@ fn command_named<'a>(name: &str, found: &ArgMatches<'a>, words: &'a [String]) ->
         → command_with name.now (rows_of (found_of found.now)) ≡ Some command
         → option_map asked result ≡ Some command }
 {
+    if name == "monitor" {
+        let stream = found.get_str("stream")?;
+        return Some(Command::Monitor { stream });
+    }
+    command_of_plant(name, found, words)
+}
+
+// The command of this name that has a plant's word, with the words that `clap` found for it.
+fn command_of_plant<'a>(
+    name: &str,
+    found: &ArgMatches<'a>,
+    words: &'a [String],
+) -> Option<Command<'a>>
+    ensures { (command : Commands) → Ask (texts words.now) command
+        → command_of_plant name.now (rows_of (found_of found.now)) ≡ Some command
+        → option_map asked result ≡ Some command }
+{
     let plant = found.get_str("plant")?;
     match name {
         "check" => Some(Command::Check { plant }),
@@ -104,6 +141,15 @@ fn command_named<'a>(name: &str, found: &ArgMatches<'a>, words: &'a [String]) ->
             let names = found.get_strs("trace")?;
             let traces = last(words, names.len())?;
             Some(Command::Audit { plant, traces })
+        }
+        "stream" => {
+            let script = found.get_str("script")?;
+            let made = found.get_str("out")?;
+            Some(Command::Stream {
+                plant,
+                script,
+                made,
+            })
         }
         _ => None,
     }

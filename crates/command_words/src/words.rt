@@ -36,6 +36,16 @@ pub enum Command<'a> {
         plant: &'a str,
         traces: &'a [String],
     },
+    /// Replay the script of this name on the plant of this word, and make a file of this name with what its displays are told.
+    Stream {
+        plant: &'a str,
+        script: &'a str,
+        made: &'a str,
+    },
+    /// Tell the recorded stream of this name.
+    Monitor {
+        stream: &'a str,
+    },
 }
 
 /// The command over files that words ask for, `None` where they have no form. Memory runs out only where they have one.
@@ -66,6 +76,8 @@ fn have_form(words: &[String]) -> bool
         "check" => ask_check(others),
         "replay" => ask_replay(others),
         "audit" => ask_audit(others),
+        "stream" => ask_stream(others),
+        "monitor" => ask_monitor(others),
         _ => false,
     }
 }
@@ -100,6 +112,26 @@ fn ask_audit(words: &[String]) -> bool
     is_name(plant.as_str()) && name_traces(traces)
 }
 
+// Whether words may stand behind `stream`.
+fn ask_stream(words: &[String]) -> bool
+    ensures { IsTrue result ↔ AskCommand (codes "stream" ∷ texts words.now) }
+{
+    let [plant, script, made] = words else {
+        return false;
+    };
+    is_name(plant.as_str()) && are_both_names(script.as_str(), made.as_str())
+}
+
+// Whether words may stand behind `monitor`.
+fn ask_monitor(words: &[String]) -> bool
+    ensures { IsTrue result ↔ AskCommand (codes "monitor" ∷ texts words.now) }
+{
+    let [stream] = words else {
+        return false;
+    };
+    is_name(stream.as_str())
+}
+
 // Whether words name traces: there are 1 to 200 of them, and each is a name.
 fn name_traces(words: &[String]) -> bool
     ensures { IsTrue result ↔ NameTraces (texts words.now) }
@@ -117,6 +149,13 @@ fn are_names(words: &[String]) -> bool
         }
     }
     true
+}
+
+// Whether each of two words names something.
+fn are_both_names(one: &str, other: &str) -> bool
+    ensures { IsTrue result ↔ (IsFileName one.now × IsFileName other.now) }
+{
+    is_name(one) && is_name(other)
 }
 
 // Whether a word names something: it isn't empty and doesn't begin with a dash.

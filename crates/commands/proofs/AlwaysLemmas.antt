@@ -1,25 +1,21 @@
 -- Which status each cause leads to.
 use Rattle.std.proofs.Common.{◌≡◌, ◌⊎◌, inl, inr, ℕ, ◌≤◌, Bool, true, false, List, length, Ok, Err, refl, sym, ◌∙◌, ap, subst, arith}
-use Rattle.std.specs.Prelude.{MatchBool, map}
+use Rattle.std.specs.Prelude.{MatchBool}
 use Rattle.ctl_io.specs.Faults.{count_after}
 use Rattle.ctl_io.specs.Held.{Held, Unshown, NoFile, Holds}
 use Rattle.plant_config.specs.Plant.{PlantData}
 use Rattle.plant_config.specs.Bench.{bench}
 use Rattle.plant_config.specs.PlantOfText.{plant_of_text}
-use Rattle.record_replay.specs.TiedReplay.{IsTiedReplay}
-use Rattle.record_replay.specs.Laws.{work_of}
-use Rattle.record_replay.proofs.IsReplayLemmas.{none_bad}
 use Rattle.commands.specs.World.{World, FilesUntouched}
-use Rattle.commands.specs.End.{End, Done, NoMemory, Usage, FileMissing, FileFault, PlantRefused, PlantTooLong, LineRefused, ScriptTooLong, Audited, TraceTooLong, status_of, is_file_fault}
-use Rattle.command_words.specs.Words.{Command, Check, Replay, plant_word, Ask}
-use Rattle.commands.specs.OpensPlant.{longest_plant, is_bench, OpensBench, OpensFile, OpensPlant, next_opening}
+use Rattle.commands.specs.End.{End, Done, NoMemory, Usage, FileMissing, FileFault, PlantRefused, PlantTooLong, LineRefused, ScriptTooLong, Audited, TraceTooLong, StreamTooLong, StreamFailed, status_of, is_file_fault}
+use Rattle.command_words.specs.Words.{Command, Check, Stream, plant_word, Ask}
+use Rattle.commands.specs.OpensPlant.{longest_plant, is_bench, OpensBench, OpensFile, OpensPlant}
 use Rattle.commands.specs.Check.{CheckEnds}
-use Rattle.commands.specs.Replay.{IfFits, ReplayEnds}
-use Rattle.commands.specs.Asked.{AskFile, ShowsFile, ShowsPlant, AskHeld, LeadsTo}
-use Rattle.commands.specs.Run.{RunEnds}
-use Rattle.commands.specs.Outcomes.{IsRefusedPlant, IsAccepted, IsRefused, WasKept}
-use Rattle.commands.proofs.AskedLemmas.{same_word, same_name, no_check, no_audit, no_replay, opened_of}
-use Rattle.commands.proofs.CauseLemmas.{Cause, Came, at_words, at_plant, in_check, in_replay, in_audit, came, asked_end, status_or_7}
+use Rattle.commands.specs.Asked.{AskFile, ShowsFile, ShowsPlant, LeadsTo}
+use Rattle.commands.specs.Run.{RunHasCause, RunEnds}
+use Rattle.commands.specs.Outcomes.{IsRefusedPlant, WasKept}
+use Rattle.commands.proofs.AskedLemmas.{file_of, no_check, no_audit, check_no_monitor, opened_of}
+use Rattle.commands.proofs.CauseLemmas.{Came, at_words, at_plant, in_check, in_replay, in_audit, in_stream, in_monitor, came, asked_end, status_or_7}
 use Rattle.command_words.proofs.WordsLemmas.{same_command}
 
 -- Of the end of a run: that it has this status, or that the run was kept from another end.
@@ -50,15 +46,19 @@ missing_file name (LineRefused number) opens = absurd opens
 missing_file name ScriptTooLong opens = absurd opens
 missing_file name (Audited verdict) opens = absurd opens
 missing_file name TraceTooLong opens = absurd opens
+missing_file name StreamTooLong opens = absurd opens
+missing_file name (StreamFailed failed' output') opens = absurd opens
 
 missing_plant : (name : List ℕ) (end : End) → OpensFile name NoFile (Err end) ⊎ ((plant : PlantData) × OpensFile name NoFile (Ok plant)) → status_of end ≡ 3
 missing_plant name end (inl opens) = missing_file name end opens
 missing_plant name end (inr led) = absurd led.1
 
-missing_or : (words : List (List ℕ)) (before now : World) (name : List ℕ) (end : End) → AskFile words name → before.held name 0 ≡ NoFile → Cause words before now end
+missing_or : {status : ℕ} (words : List (List ℕ)) (before now : World) (name : List ℕ) (end : End) → AskFile words name → before.held name 0 ≡ NoFile → RunHasCause words before now end status
     → (status_of end ≡ 3) ⊎ ((status_of end ≡ 1) × FilesUntouched before now)
 missing_or words before now name end asks is (inl at) = inr (ap status_of (asked_end words end asks.command asks.ask at.ends), at.files)
-missing_or words before now name end asks is (inr by) = inl (missing_plant name end (opened_of words before name NoFile end by.command asks is by.ask by.ends))
+missing_or words before now name end asks is (inr (inr by)) =
+    inl (missing_plant name end (inr (by.plant, file_of words before name NoFile (Stream by.word by.name by.made) (Ok by.plant) asks is by.ask by.opens)))
+missing_or words before now name end asks is (inr (inl by)) = inl (missing_plant name end (opened_of words before name NoFile end by.command asks is by.ask by.ends))
 
 pub no_plant : (words : List (List ℕ)) (before now : World) (status : ℕ) (name : List ℕ) → AskFile words name → before.held name 0 ≡ NoFile → RunEnds words before now status
     → (status ≡ 3) ⊎ (status ≡ 7) ⊎ ((status ≡ 1) × FilesUntouched before now)
@@ -85,6 +85,8 @@ refused_file name text before now (LineRefused number) refused count opens = abs
 refused_file name text before now ScriptTooLong refused count opens = absurd opens
 refused_file name text before now (Audited verdict) refused count opens = absurd opens
 refused_file name text before now TraceTooLong refused count opens = absurd opens
+refused_file name text before now StreamTooLong refused count opens = absurd opens
+refused_file name text before now (StreamFailed failed' output') refused count opens = absurd opens
 
 no_plant_of : (text : List ℕ) (plant : PlantData) → IsRefusedPlant text → length text ≤ longest_plant → plant_of_text text ≡ Ok plant → ⊥
 no_plant_of text plant (inl long) within is = omega arith
@@ -95,10 +97,12 @@ refused_or : (name text : List ℕ) (before now : World) (end : End) → IsRefus
 refused_or name text before now end refused count (inl opens) = refused_file name text before now end refused count opens
 refused_or name text before now end refused count (inr led) = absurd (no_plant_of text led.0 refused led.1.0 led.1.1)
 
-refused_at : (words : List (List ℕ)) (before now : World) (name text : List ℕ) (end : End) → AskFile words name → before.held name 0 ≡ Holds text → IsRefusedPlant text
-    → now.file_faults ≡ count_after (is_file_fault end) before.file_faults → Cause words before now end → IsOrKept 4 before now end
+refused_at : {status : ℕ} (words : List (List ℕ)) (before now : World) (name text : List ℕ) (end : End) → AskFile words name → before.held name 0 ≡ Holds text → IsRefusedPlant text
+    → now.file_faults ≡ count_after (is_file_fault end) before.file_faults → RunHasCause words before now end status → IsOrKept 4 before now end
 refused_at words before now name text end asks is refused count (inl at) = inr (inl (ap status_of (asked_end words end asks.command asks.ask at.ends)))
-refused_at words before now name text end asks is refused count (inr by) =
+refused_at words before now name text end asks is refused count (inr (inr by)) =
+    refused_or name text before now end refused count (inr (by.plant, file_of words before name (Holds text) (Stream by.word by.name by.made) (Ok by.plant) asks is by.ask by.opens))
+refused_at words before now name text end asks is refused count (inr (inl by)) =
     refused_or name text before now end refused count (opened_of words before name (Holds text) end by.command asks is by.ask by.ends)
 
 pub refused_plant : (words : List (List ℕ)) (before now : World) (status : ℕ) (name text : List ℕ) → AskFile words name → before.held name 0 ≡ Holds text → IsRefusedPlant text → RunEnds words before now status
@@ -124,6 +128,8 @@ kept_file name (Holds text) plant before now (LineRefused number) shows count op
 kept_file name (Holds text) plant before now ScriptTooLong shows count opens = absurd opens
 kept_file name (Holds text) plant before now (Audited verdict) shows count opens = absurd opens
 kept_file name (Holds text) plant before now TraceTooLong shows count opens = absurd opens
+kept_file name (Holds text) plant before now StreamTooLong shows count opens = absurd opens
+kept_file name (Holds text) plant before now (StreamFailed failed' output') shows count opens = absurd opens
 
 kept_bench : (before now : World) (end : End) → OpensBench (Err end) → WasKept before now (status_of end)
 kept_bench before now NoMemory opens = inl refl
@@ -137,6 +143,8 @@ kept_bench before now (LineRefused number) opens = absurd opens
 kept_bench before now ScriptTooLong opens = absurd opens
 kept_bench before now (Audited verdict) opens = absurd opens
 kept_bench before now TraceTooLong opens = absurd opens
+kept_bench before now StreamTooLong opens = absurd opens
+kept_bench before now (StreamFailed failed' output') opens = absurd opens
 
 kept_by : (bench_word : Bool) (name : List ℕ) (held : Held) (plant : PlantData) (before now : World) (end : End) → MatchBool bench_word (plant ≡ bench) (ShowsFile held plant)
     → now.file_faults ≡ count_after (is_file_fault end) before.file_faults → MatchBool bench_word (OpensBench (Err end)) (OpensFile name held (Err end)) → WasKept before now (status_of end)
@@ -179,6 +187,8 @@ checked plant before now (LineRefused number) ends = absurd ends
 checked plant before now ScriptTooLong ends = absurd ends
 checked plant before now (Audited verdict) ends = absurd ends
 checked plant before now TraceTooLong ends = absurd ends
+checked plant before now StreamTooLong ends = absurd ends
+checked plant before now (StreamFailed failed' output') ends = absurd ends
 
 checked_of : (words : List (List ℕ)) (before now : World) (end : End) (word : List ℕ) (plant : PlantData) → Ask words (Check word) → ShowsPlant word before plant
     → now.file_faults ≡ count_after (is_file_fault end) before.file_faults → Came words before end → IsOrKept 0 before now end
@@ -188,95 +198,10 @@ checked_of words before now end word plant ask shows count (at_plant command ask
 checked_of words before now end word plant ask shows count (in_check plant' by ends) = checked plant' before now end ends
 checked_of words before now end word plant ask shows count (in_replay plant' name held by ends) = no_check words by.word word name by.ask ask
 checked_of words before now end word plant ask shows count (in_audit plant' files by ends) = no_audit words by.word word by.traces by.ask ask
+checked_of words before now end word plant ask shows count (in_stream plant' name held by made read then status ask' ends) = no_check words by.word word name by.ask ask
+checked_of words before now end word plant ask shows count (in_monitor name held by ends) = check_no_monitor words word name ask by.ask
 
 pub check_always : (words : List (List ℕ)) (before now : World) (status : ℕ) (word : List ℕ) (plant : PlantData) → Ask words (Check word) → ShowsPlant word before plant → RunEnds words before now status
     → (status ≡ 0) ⊎ WasKept before now status
 check_always words before now status word plant ask shows run =
     by_end 0 words before now status run (checked_of words before now run.end word plant ask shows run.file_faults (came words before now run.end run.cause))
-
--- a replay
-
--- how a run ends whose words ask to replay a script on a plant that the files show, unless it is kept from that
-pub replayed_of : (words : List (List ℕ)) (before now : World) (end : End) (plant : PlantData) (name : List ℕ) (held : Held) → AskHeld words before plant name held
-    → now.file_faults ≡ count_after (is_file_fault end) before.file_faults → Came words before end → ReplayEnds plant name held end ⊎ WasKept before now (status_of end)
-replayed_of words before now end plant name held asks count (at_words ends) = inr (inl (ap status_of (asked_end words end (Replay asks.word name) asks.ask ends)))
-replayed_of words before now end plant name held asks count (at_plant command ask opens) =
-    inr (kept_at_word words before now end asks.word plant (Replay asks.word name) command refl asks.ask ask asks.shows count opens)
-replayed_of words before now end plant name held asks count (in_check plant' by ends) = no_check words asks.word by.word name asks.ask by.ask
-replayed_of words before now end plant name held asks count (in_replay plant' name' held' by ends) =
-    let word = same_word words by.word asks.word name' name by.ask asks.ask in
-    let script = same_name words by.word asks.word name' name by.ask asks.ask in
-    let same = same_plant before asks.word by.word plant plant' word asks.shows by.leads in
-    let there : held' ≡ held = by.held_is ∙ ap (λ (n : List ℕ). before.held n (next_opening by.word n)) script ∙ ap (λ (w : List ℕ). before.held name (next_opening w name)) word ∙ asks.held_is in
-    inl
-    (subst (λ (h : Held). ReplayEnds plant name h end) there
-    (subst (λ (p : PlantData). ReplayEnds p name held' end) same (subst (λ (n : List ℕ). ReplayEnds plant' n held' end) script ends)))
-replayed_of words before now end plant name held asks count (in_audit plant' files by ends) = no_replay words by.word asks.word by.traces name by.ask asks.ask
-
-missing_script : (plant : PlantData) (name : List ℕ) (before now : World) (end : End) → ReplayEnds plant name NoFile end ⊎ WasKept before now (status_of end) → IsOrKept 3 before now end
-missing_script plant name before now end (inr kept) = inr kept
-missing_script plant name before now (FileMissing missing) (inl ends) = inl refl
-missing_script plant name before now (FileFault failed) (inl ends) = inl refl
-missing_script plant name before now (Done output) (inl ends) = absurd ends
-missing_script plant name before now NoMemory (inl ends) = absurd ends
-missing_script plant name before now Usage (inl ends) = absurd ends
-missing_script plant name before now (PlantRefused fault) (inl ends) = absurd ends
-missing_script plant name before now PlantTooLong (inl ends) = absurd ends
-missing_script plant name before now (LineRefused number) (inl ends) = absurd ends
-missing_script plant name before now ScriptTooLong (inl ends) = absurd ends
-missing_script plant name before now (Audited verdict) (inl ends) = absurd ends
-missing_script plant name before now TraceTooLong (inl ends) = absurd ends
-
-pub no_script : (words : List (List ℕ)) (before now : World) (status : ℕ) (plant : PlantData) (name : List ℕ) → AskHeld words before plant name NoFile → RunEnds words before now status
-    → (status ≡ 3) ⊎ WasKept before now status
-no_script words before now status plant name asks run =
-    by_end 3 words before now status run
-    (missing_script plant name before now run.end (replayed_of words before now run.end plant name NoFile asks run.file_faults (came words before now run.end run.cause)))
-
-accepted_of : (plant : PlantData) (name script : List ℕ) (before now : World) (end : End) → IsAccepted plant script → now.file_faults ≡ count_after (is_file_fault end) before.file_faults
-    → ReplayEnds plant name (Holds script) end ⊎ WasKept before now (status_of end) → IsOrKept 0 before now end
-accepted_of plant name script before now end accepted count (inr kept) = inr kept
-accepted_of plant name script before now (Done output) accepted count (inl ends) = inl refl
-accepted_of plant name script before now NoMemory accepted count (inl ends) = inr (inl refl)
-accepted_of plant name script before now (FileFault failed) accepted count (inl ends) = inr (inr (inl (refl, count)))
-accepted_of plant name script before now (FileMissing missing) accepted count (inl ends) = absurd ends.1
-accepted_of plant name script before now (LineRefused number) accepted count (inl ends) = absurd (none_bad plant script accepted.1.0 number accepted.1.1 ends.1)
-accepted_of plant name script before now ScriptTooLong accepted count (inl ends) = absurd (omega (arith, ends))
-accepted_of plant name script before now (Audited verdict) accepted count (inl ends) = absurd ends
-accepted_of plant name script before now TraceTooLong accepted count (inl ends) = absurd ends
-accepted_of plant name script before now Usage accepted count (inl ends) = absurd ends
-accepted_of plant name script before now (PlantRefused fault) accepted count (inl ends) = absurd ends
-accepted_of plant name script before now PlantTooLong accepted count (inl ends) = absurd ends
-
-pub accepted_always : (words : List (List ℕ)) (before now : World) (status : ℕ) (plant : PlantData) (name script : List ℕ) → AskHeld words before plant name (Holds script) → IsAccepted plant script
-    → RunEnds words before now status → (status ≡ 0) ⊎ WasKept before now status
-accepted_always words before now status plant name script asks accepted run =
-    by_end 0 words before now status run
-    (accepted_of plant name script before now run.end accepted run.file_faults
-    (replayed_of words before now run.end plant name (Holds script) asks run.file_faults (came words before now run.end run.cause)))
-
-refused_script : (plant : PlantData) (script output : List ℕ) → IsRefused plant script → IfFits script (IsTiedReplay plant script output) → ⊥
-refused_script plant script output (inl long) fits = omega (arith, fits.0)
-refused_script plant script output (inr bad) fits = none_bad plant script (map work_of fits.1.actions) bad.0 fits.1.history.spelled bad.1
-
-refused_of : (plant : PlantData) (name script : List ℕ) (before now : World) (end : End) → IsRefused plant script → now.file_faults ≡ count_after (is_file_fault end) before.file_faults
-    → ReplayEnds plant name (Holds script) end ⊎ WasKept before now (status_of end) → IsOrKept 5 before now end
-refused_of plant name script before now end refused count (inr kept) = inr kept
-refused_of plant name script before now (Done output) refused count (inl ends) = absurd (refused_script plant script output refused ends)
-refused_of plant name script before now NoMemory refused count (inl ends) = inr (inl refl)
-refused_of plant name script before now (FileFault failed) refused count (inl ends) = inr (inr (inl (refl, count)))
-refused_of plant name script before now (FileMissing missing) refused count (inl ends) = absurd ends.1
-refused_of plant name script before now (LineRefused number) refused count (inl ends) = inl refl
-refused_of plant name script before now ScriptTooLong refused count (inl ends) = inl refl
-refused_of plant name script before now (Audited verdict) refused count (inl ends) = absurd ends
-refused_of plant name script before now TraceTooLong refused count (inl ends) = absurd ends
-refused_of plant name script before now Usage refused count (inl ends) = absurd ends
-refused_of plant name script before now (PlantRefused fault) refused count (inl ends) = absurd ends
-refused_of plant name script before now PlantTooLong refused count (inl ends) = absurd ends
-
-pub refused_always : (words : List (List ℕ)) (before now : World) (status : ℕ) (plant : PlantData) (name script : List ℕ) → AskHeld words before plant name (Holds script) → IsRefused plant script
-    → RunEnds words before now status → (status ≡ 5) ⊎ WasKept before now status
-refused_always words before now status plant name script asks refused run =
-    by_end 5 words before now status run
-    (refused_of plant name script before now run.end refused run.file_faults
-    (replayed_of words before now run.end plant name (Holds script) asks run.file_faults (came words before now run.end run.cause)))

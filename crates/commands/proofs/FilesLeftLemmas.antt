@@ -2,17 +2,19 @@
 use Rattle.std.proofs.Common.{◌≡◌, ◌≢◌, ◌⊎◌, inl, inr, ℕ, ◌+◌, ◌-◌, Bool, true, false, List, [], ◌∷◌, ◌++◌, refl, sym, ◌∙◌, ap, subst, append_assoc, append-nil, arith}
 use Rattle.std.specs.Prelude.{Contains, if◌then◌else◌}
 use Rattle.std.proofs.lemmas.List.Elements.{Contains-append_left, Contains-append_right, Contains-push, Contains-push_cases}
-use Rattle.ctl_io.specs.Custody.{Custody, FilesCustody, SourceEnd}
+use Rattle.ctl_io.specs.Custody.{Custody, FilesCustody, SourceEnd, SinkEnd}
 use Rattle.ctl_io.specs.Faults.{one_more, count_after}
 use Rattle.ctl_io.specs.Held.{Held, Stays}
 use Rattle.ctl_io.specs.WholeFile.{FileReading, Well, Missing, Failed, CameBack, GivenBack}
 use Rattle.commands.specs.World.{World, Snapshot, snapshot}
-use Rattle.commands.specs.End.{End, Done, NoMemory, Usage, FileMissing, FileFault, PlantRefused, PlantTooLong, LineRefused, ScriptTooLong, Audited, TraceTooLong, status_of, is_file_fault}
-use Rattle.command_words.specs.Words.{Command, plant_word, other_files, Ask}
-use Rattle.commands.specs.OpensPlant.{is_bench, opened_for, files_of}
+use Rattle.commands.specs.End.{End, Done, NoMemory, Usage, FileMissing, FileFault, PlantRefused, PlantTooLong, LineRefused, ScriptTooLong, Audited, TraceTooLong, StreamTooLong, StreamFailed, status_of, is_file_fault}
+use Rattle.command_words.specs.Words.{Command, Stream, plant_word, other_files, made_files, Ask}
+use Rattle.commands.specs.OpensPlant.{is_bench, opened_for, files_of, next_opening}
 use Rattle.commands.specs.Asked.{AskFile, NamesFile}
-use Rattle.commands.specs.Run.{ReadsFile, ReadsWell, LeavesFiles, RunEnds}
-use Rattle.commands.proofs.CauseLemmas.{Cause, is_written}
+use Rattle.commands.specs.Run.{ReadsFile, ReadsWell, LeavesFiles, EndsByCommand, EndsByStream, RunHasCause, RunEnds}
+use Rattle.commands.specs.Statuses.{AskNoStream}
+use Rattle.commands.proofs.StreamLemmas.{LeavesOthers, ends_leave, stream_not_4}
+use Rattle.commands.proofs.CauseLemmas.{is_written}
 use Rattle.commands.proofs.FilesLemmas.{LeftSo, left_so}
 
 -- What is handed out and taken back of sources comes to the same, and sinks stay.
@@ -50,17 +52,40 @@ even_left opened before now (inl well) = even_well opened before now well
 even_left opened before now (inr (reading, name, ends)) =
     even_over before.custody ends.between.custody now.custody (even_well ends.earlier before ends.between ends.well) (even_read reading name ends.between now ends.read)
 
-even : (words : List (List ℕ)) (before now : World) (end : End) → Cause words before now end → IsEven before.custody now.custody
-even words before now end (inl at) = even_same (snapshot before) (snapshot now) at.files
-even words before now end (inr by) =
+even_by : (words : List (List ℕ)) (before now : World) (end : End) → EndsByCommand words before now end → IsEven before.custody now.custody
+even_by words before now end by =
     let opened = opened_for (plant_word by.command) ++ by.files.opened in
     even_left opened (snapshot before) (snapshot now) (left_so end opened (snapshot before) (snapshot now) by.files.left)
 
-pub given_back : (words : List (List ℕ)) (before now : World) (status : ℕ) → RunEnds words before now status → now.custody.sources.out ≡ before.custody.sources.out
-given_back words before now status run = (even words before now run.end run.cause).sources
+-- what a stream leaves of other files than its own, once its plant and its script were read
+stream_leaves : (words : List (List ℕ)) (before now : World) (end : End) (status : ℕ) (by : EndsByStream words before now end status) → LeavesOthers by.made by.read (snapshot now)
+stream_leaves words before now end status by = ends_leave by.plant by.made (before.held by.name (next_opening by.word by.name)) by.read (snapshot now) status end by.ends
 
-pub no_sink : (words : List (List ℕ)) (before now : World) (status : ℕ) → RunEnds words before now status → now.custody.sinks ≡ before.custody.sinks
-no_sink words before now status run = (even words before now run.end run.cause).sinks
+sources_of : {status : ℕ} (words : List (List ℕ)) (before now : World) (end : End) → RunHasCause words before now end status → now.custody.sources.out ≡ before.custody.sources.out
+sources_of words before now end (inl at) = (even_same (snapshot before) (snapshot now) at.files).sources
+sources_of words before now end (inr (inl by)) = (even_by words before now end by).sources
+sources_of {status} words before now end (inr (inr by)) =
+    ap (λ (c : Custody SourceEnd). c.out) (stream_leaves words before now end status by).sources ∙ (even_well (opened_for by.word ++ by.name ∷ []) (snapshot before) by.read by.well).sources
+
+sinks_of : {status : ℕ} (words : List (List ℕ)) (before now : World) (end : End) → RunHasCause words before now end status → now.custody.sinks.out ≡ before.custody.sinks.out
+sinks_of words before now end (inl at) = ap (λ (c : Custody SinkEnd). c.out) (even_same (snapshot before) (snapshot now) at.files).sinks
+sinks_of words before now end (inr (inl by)) = ap (λ (c : Custody SinkEnd). c.out) (even_by words before now end by).sinks
+sinks_of {status} words before now end (inr (inr by)) =
+    (stream_leaves words before now end status by).sinks ∙ ap (λ (c : Custody SinkEnd). c.out) (even_well (opened_for by.word ++ by.name ∷ []) (snapshot before) by.read by.well).sinks
+
+unmade_of : {status : ℕ} (words : List (List ℕ)) (before now : World) (end : End) → AskNoStream words → RunHasCause words before now end status → now.custody.sinks ≡ before.custody.sinks
+unmade_of words before now end none (inl at) = (even_same (snapshot before) (snapshot now) at.files).sinks
+unmade_of words before now end none (inr (inl by)) = (even_by words before now end by).sinks
+unmade_of words before now end none (inr (inr by)) = absurd (none by.word by.name by.made by.ask)
+
+pub given_back : (words : List (List ℕ)) (before now : World) (status : ℕ) → RunEnds words before now status → now.custody.sources.out ≡ before.custody.sources.out
+given_back words before now status run = sources_of words before now run.end run.cause
+
+pub sinks_back : (words : List (List ℕ)) (before now : World) (status : ℕ) → RunEnds words before now status → now.custody.sinks.out ≡ before.custody.sinks.out
+sinks_back words before now status run = sinks_of words before now run.end run.cause
+
+pub no_sink : (words : List (List ℕ)) (before now : World) (status : ℕ) → AskNoStream words → RunEnds words before now status → now.custody.sinks ≡ before.custody.sinks
+no_sink words before now status none run = unmade_of words before now run.end none run.cause
 
 -- what is held
 
@@ -108,11 +133,22 @@ was_asked command name before now end files one =
     append_assoc plant files.opened files.unopened ∙ ap (λ (ns : List (List ℕ)). plant ++ ns) (sym files.front) in
     subst (λ (ns : List (List ℕ)). Contains ns name) all (Contains-append_left (plant ++ files.opened) files.unopened name one)
 
-others_of : (words : List (List ℕ)) (before now : World) (end : End) (name : List ℕ) → Cause words before now end → (NamesFile words name → ⊥) → Stays (before.held name) (now.held name)
+-- a name that isn't a stream's own isn't one that was opened for it, and isn't that of its file
+stream_stays : (words : List (List ℕ)) (before now : World) (end : End) (status : ℕ) (name : List ℕ) (by : EndsByStream words before now end status) → (Contains ((opened_for by.word ++ by.name ∷ []) ++ by.made ∷ []) name → ⊥)
+    → Stays (before.held name) (now.held name)
+stream_stays words before now end status name by other =
+    let opened = opened_for by.word ++ by.name ∷ [] in
+    stays_over (before.held name) (by.read.held name) (now.held name)
+    (well_stays opened name (snapshot before) by.read (λ one. other (Contains-append_left opened (by.made ∷ []) name one)) by.well)
+    ((stream_leaves words before now end status by).others name (λ same. other (Contains-append_right opened (by.made ∷ []) name (contains_first by.made [] name same))))
+
+others_of : {status : ℕ} (words : List (List ℕ)) (before now : World) (end : End) (name : List ℕ) → RunHasCause words before now end status → (NamesFile words name → ⊥) → Stays (before.held name) (now.held name)
 others_of words before now end name (inl at) other = stays_same name (snapshot before) (snapshot now) at.files
-others_of words before now end name (inr by) other =
+others_of words before now end name (inr (inl by)) other =
     command_stays by.command name (snapshot before) (snapshot now) end by.files
-    (λ one. other (by.command, by.ask, was_asked by.command name (snapshot before) (snapshot now) end by.files one))
+    (λ one. other (by.command, by.ask, Contains-append_left (files_of by.command) (made_files by.command) name (was_asked by.command name (snapshot before) (snapshot now) end by.files one)))
+others_of {status} words before now end name (inr (inr by)) other =
+    stream_stays words before now end status name by (λ one. other (Stream by.word by.name by.made, by.ask, one))
 
 pub others_stay : (words : List (List ℕ)) (before now : World) (status : ℕ) (name : List ℕ) → RunEnds words before now status → (NamesFile words name → ⊥) → Stays (before.held name) (now.held name)
 others_stay words before now status name run other = others_of words before now run.end name run.cause other
@@ -129,13 +165,15 @@ only_plant words name command ask one =
     let found = only_word (is_bench (plant_word command)) (plant_word command) name one in
     record { command = command; ask = ask; name_is = found.1; is_file = ap is_bench found.1 ∙ found.0 }
 
-unopened_of : (words : List (List ℕ)) (before now : World) (end : End) (name : List ℕ) → status_of end ≡ 4 → Cause words before now end → (AskFile words name → ⊥) → Stays (before.held name) (now.held name)
+unopened_of : {status : ℕ} (words : List (List ℕ)) (before now : World) (end : End) (name : List ℕ) → status_of end ≡ 4 → RunHasCause words before now end status → (AskFile words name → ⊥) → Stays (before.held name) (now.held name)
 unopened_of words before now end name four (inl at) other = stays_same name (snapshot before) (snapshot now) at.files
-unopened_of words before now end name four (inr by) other =
+unopened_of words before now end name four (inr (inl by)) other =
     let plant = opened_for (plant_word by.command) in
     let none : plant ++ by.files.opened ≡ plant = ap (λ (ns : List (List ℕ)). plant ++ ns) (by.files.refused four) ∙ append-nil plant in
     command_stays by.command name (snapshot before) (snapshot now) end by.files
     (λ one. other (only_plant words name by.command by.ask (subst (λ (ns : List (List ℕ)). Contains ns name) none one)))
+unopened_of {status} words before now end name four (inr (inr by)) other =
+    absurd (stream_not_4 by.plant by.made (before.held by.name (next_opening by.word by.name)) by.read (snapshot now) status end by.ends four)
 
 pub no_script_opened : (words : List (List ℕ)) (before now : World) (name : List ℕ) → RunEnds words before now 4 → (AskFile words name → ⊥) → Stays (before.held name) (now.held name)
 no_script_opened words before now name run other =
@@ -156,6 +194,8 @@ no_file_fault (LineRefused number) other = refl
 no_file_fault ScriptTooLong other = refl
 no_file_fault (Audited verdict) other = refl
 no_file_fault TraceTooLong other = refl
+no_file_fault StreamTooLong other = refl
+no_file_fault (StreamFailed failed' output') other = absurd (other refl)
 
 pub faults_stay : (words : List (List ℕ)) (before now : World) (status : ℕ) → RunEnds words before now status → status ≢ 3 → status ≢ 7 → now.file_faults ≡ before.file_faults
 faults_stay words before now status run not_3 not_7 =

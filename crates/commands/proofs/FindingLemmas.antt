@@ -3,7 +3,7 @@ use Rattle.std.proofs.Common.{ℕ, List, arith}
 use Rattle.trace_audit.specs.declared.verdict.Verdict.{Verdict}
 use Rattle.trace_audit.specs.declared.verdict.Verdict.TheVariants.{Confirmed, BadLine, Gap, Repeat, Differs}
 use Rattle.commands.specs.World.{World}
-use Rattle.commands.specs.End.{End, Done, NoMemory, Usage, FileMissing, FileFault, PlantRefused, PlantTooLong, LineRefused, ScriptTooLong, Audited, TraceTooLong, status_of, end_text}
+use Rattle.commands.specs.End.{End, Done, NoMemory, Usage, FileMissing, FileFault, PlantRefused, PlantTooLong, LineRefused, ScriptTooLong, Audited, TraceTooLong, StreamTooLong, StreamFailed, status_of, end_text}
 use Rattle.commands.specs.Run.{IsWritten, RunEnds}
 use Rattle.commands.specs.Outcomes.{WereAudited, IsFinding}
 use Rattle.commands.proofs.CauseLemmas.{Came, came, is_written}
@@ -31,6 +31,8 @@ found_of words before now PlantTooLong from written = absurd (let h = written.st
 found_of words before now (LineRefused number) from written = absurd (let h = written.status_is in omega arith)
 found_of words before now ScriptTooLong from written = absurd (let h = written.status_is in omega arith)
 found_of words before now TraceTooLong from written = absurd (let h = written.status_is in omega arith)
+found_of words before now StreamTooLong from written = absurd (let h = written.status_is in omega arith)
+found_of words before now (StreamFailed failed' output') from written = absurd (let h = written.status_is in omega arith)
 
 pub found_cause : (words : List (List ℕ)) (before now : World) → RunEnds words before now 6 → (found : Verdict) × IsFinding found × WereAudited words before now found
 found_cause words before now run =

@@ -7,7 +7,7 @@ use Rattle.record_replay.specs.Laws.{Action, Turned, Left, Polled, IsHistory}
 use Rattle.record_replay.specs.TiedReplay.{IsTiedReplay}
 use Rattle.record_replay.specs.ScriptLaws.{HistoriesAreOne, TurnsAnswerItems}
 use Rattle.commands.specs.World.{World}
-use Rattle.commands.specs.End.{End, Done, NoMemory, Usage, FileMissing, FileFault, PlantRefused, PlantTooLong, LineRefused, ScriptTooLong, Audited, TraceTooLong, status_of, end_text}
+use Rattle.commands.specs.End.{End, Done, NoMemory, Usage, FileMissing, FileFault, PlantRefused, PlantTooLong, LineRefused, ScriptTooLong, Audited, TraceTooLong, StreamTooLong, StreamFailed, status_of, end_text}
 use Rattle.commands.specs.Replay.{ReplayEnds}
 use Rattle.commands.specs.Run.{IsWritten}
 use Rattle.commands.specs.Outcomes.{WasKept}
@@ -15,7 +15,7 @@ use Rattle.record_replay.specs.Answered.{AnswersItsPiece}
 use Rattle.commands.specs.History.{ShowsHistory}
 use Rattle.commands.specs.Statuses.{ReplaysShowHistories}
 use Rattle.commands.proofs.CauseLemmas.{came, is_written}
-use Rattle.commands.proofs.AlwaysLemmas.{replayed_of}
+use Rattle.commands.proofs.ReplayedLemmas.{replayed_of}
 
 -- a run that ends with 0 wasn't kept from its end
 not_kept : (before now : World) (status : ℕ) → 0 ≡ status → WasKept before now status → ⊥
@@ -55,6 +55,8 @@ module _ (one : HistoriesAreOne) (answer : TurnsAnswerItems) where
   end_shows plant name script before now ScriptTooLong written (inl ends) = absurd (let h = written.status_is in omega arith)
   end_shows plant name script before now (Audited verdict) written (inl ends) = absurd ends
   end_shows plant name script before now TraceTooLong written (inl ends) = absurd ends
+  end_shows plant name script before now StreamTooLong written (inl ends) = absurd ends
+  end_shows plant name script before now (StreamFailed failed' output') written (inl ends) = absurd ends
 
   pub run_shows : ReplaysShowHistories
   run_shows words before now plant name script asks run =

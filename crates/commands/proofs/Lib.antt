@@ -1,3 +1,5 @@
+pub mod HeldLemmas
+pub mod StreamLemmas
 pub mod VerdictLemmas
 pub mod StopLemmas
 pub mod OpensLemmas
@@ -5,6 +7,9 @@ pub mod TraceFilesLemmas
 pub mod CheckLemmas
 pub mod CommandLemmas
 pub mod ReplayEndsLemmas
+pub mod MonitorEndsLemmas
+pub mod StreamEndsLemmas
+pub mod StreamPortLemmas
 pub mod AuditLemmas
 pub mod CauseLemmas
 pub mod StatusesLemmas
@@ -13,12 +18,15 @@ pub mod FindingLemmas
 pub mod ScriptLemmas
 pub mod AskedLemmas
 pub mod AlwaysLemmas
+pub mod ReplayedLemmas
+pub mod TellingLemmas
 pub mod HistoryLemmas
 pub mod ShownLemmas
 pub mod TracesLemmas
 pub mod RunEndsLemmas
 pub mod FilesLemmas
 pub mod FilesLeftLemmas
+pub mod StreamLawLemmas
 pub mod DrillLemmas
 pub mod TraceSinkLemmas
 pub mod ServeLemmas

@@ -3,7 +3,7 @@ use Rattle.std.proofs.Common.{◌≡◌, ◌≢◌, ℕ, ◌≤◌, inl, inr, Bo
 use Rattle.std.specs.Prelude.{MatchBool, if◌then◌else◌}
 use Rattle.std.specs.Borrow.{Bor}
 use Rattle.std.proofs.lemmas.Bool.{false≢true}
-use Rattle.ctl_io.specs.Held.{Held, Unshown, NoFile, Holds, IfHeld, IsLonger, MayBeHere, MayBeMissing}
+use Rattle.ctl_io.specs.Held.{Held, IfHeld, IsLonger, MayBeHere, MayBeMissing}
 use Rattle.ctl_io.specs.declared.whole_file.FileFault.{FileFault}
 use Rattle.ctl_io.specs.declared.whole_file.FileFault.TheVariants as files
 use Rattle.ctl_io.specs.WholeFile.{Well, Missing, Failed, reading_of}
@@ -17,10 +17,11 @@ use Rattle.commands.specs.declared.stop.Stop.{Stop}
 use Rattle.commands.specs.declared.stop.Stop.TheVariants as stops
 use Rattle.commands.specs.World.{Snapshot}
 use Rattle.commands.specs.Lines.{plant_refused}
-use Rattle.commands.specs.End.{End, Done, NoMemory, Usage, FileMissing, FileFault as FileFailed, PlantRefused, PlantTooLong, LineRefused, ScriptTooLong, Audited, TraceTooLong, status_of, end_text}
+use Rattle.commands.specs.End.{End, Done, NoMemory, Usage, FileMissing, FileFault as FileFailed, PlantRefused, PlantTooLong, LineRefused, ScriptTooLong, Audited, TraceTooLong, StreamTooLong, StreamFailed, status_of, end_text}
 use Rattle.commands.specs.OpensPlant.{longest_plant, Reads, OpensFile, OpensBench, is_bench, OpensPlant, opened_for}
 use Rattle.commands.specs.Run.{ReadsFile}
 use Rattle.commands.specs.StopInside.{StopComesTo, IsStopOf, OpensAs, LeavesPlant, Opens, OpensNamed, stop_of_file, SaysFault}
+use Rattle.commands.proofs.HeldLemmas.{if_held}
 use Rattle.commands.proofs.FilesLemmas.{one_well, one_last}
 use Rattle.commands.proofs.StopLemmas.{says-front}
 
@@ -39,16 +40,15 @@ pub only_false : (P Q : Type 0) (b : Bool) → (P → ⊥) → MatchBool b P Q �
 only_false P Q true never chosen = absurd (never chosen)
 only_false P Q false never chosen = (refl, chosen)
 
+-- a choice by a test that is known to be true
+pub from_true : (P Q : Type 0) (b : Bool) → b ≡ true → MatchBool b P Q → P
+from_true P Q true is chosen = chosen
+from_true P Q false is chosen = absurd (false≢true is)
+
 -- a choice by a test that is known to be false
 pub from_false : (P Q : Type 0) (b : Bool) → b ≡ false → MatchBool b P Q → Q
 from_false P Q true is chosen = absurd (false≢true (sym is))
 from_false P Q false is chosen = chosen
-
--- what holds of what is held, weaker
-pub if_held : {P Q : List ℕ → Type 0} (held : Held) → ((bytes : List ℕ) → P bytes → Q bytes) → IfHeld held P → IfHeld held Q
-if_held Unshown weaker p = tt
-if_held NoFile weaker p = p
-if_held (Holds bytes) weaker p = weaker bytes p
 
 -- a stop with all of its end's text to write comes to that end
 pub silent : (stop : Stop) (end : End) (written : Option (List ℕ)) → IsStopOf stop end → StopComesTo stop end written written
@@ -107,10 +107,11 @@ text_refused fault stops.TraceTooLong name before now text whole within answers 
 text_refused fault (stops.TraceFault name') name before now text whole within answers says well = absurd says
 text_refused fault stops.NetFault name before now text whole within answers says well = absurd says
 text_refused fault stops.LimitsMet name before now text whole within answers says well = absurd says
+text_refused fault stops.StreamTooLong name before now text whole within answers says well = absurd says
 text_refused fault stops.OutputFault name before now text whole within answers says well = absurd says
 
 -- a plant's word leads where the bench plant does
-bench_opens : (word : List ℕ) (held : Held) (opened : Result PlantData End) → is_bench word ≡ true → OpensBench opened → OpensPlant word held opened
+pub bench_opens : (word : List ℕ) (held : Held) (opened : Result PlantData End) → is_bench word ≡ true → OpensBench opened → OpensPlant word held opened
 bench_opens word held opened is opens = match_true (OpensBench opened) (OpensFile word held opened) (is_bench word) is opens
 
 -- the bench plant leaves the files alone
@@ -127,6 +128,8 @@ none_left files (Err (LineRefused number)) opens = absurd opens
 none_left files (Err ScriptTooLong) opens = absurd opens
 none_left files (Err (Audited verdict)) opens = absurd opens
 none_left files (Err TraceTooLong) opens = absurd opens
+none_left files (Err StreamTooLong) opens = absurd opens
+none_left files (Err (StreamFailed failed' output')) opens = absurd opens
 
 bench_is : (word : List ℕ) (files : Snapshot) (opened : Result PlantData End) → is_bench word ≡ true → OpensBench opened → Opens word files files opened
 bench_is word files opened is opens =

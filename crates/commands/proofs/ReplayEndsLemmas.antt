@@ -18,7 +18,7 @@ use Rattle.commands.specs.World.{Snapshot}
 use Rattle.commands.specs.End.{End, Done, NoMemory, FileMissing, FileFault as FileFailed, LineRefused, ScriptTooLong}
 use Rattle.commands.specs.Replay.{longest_script, IfFits}
 use Rattle.commands.specs.Run.{ReadsFile}
-use Rattle.commands.proofs.OpensLemmas.{if_held}
+use Rattle.commands.proofs.HeldLemmas.{if_held}
 use Rattle.commands.specs.StopInside.{stop_of_file, stop_of_replay, StopsFor, Replays}
 use Rattle.commands.proofs.FilesLemmas.{one_well, one_last}
 

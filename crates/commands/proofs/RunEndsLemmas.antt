@@ -4,7 +4,7 @@ use Rattle.ctl_io.specs.Faults.{one_more}
 use Rattle.trace_audit.specs.declared.verdict.Verdict.{Verdict}
 use Rattle.trace_audit.specs.declared.verdict.Verdict.TheVariants.{Confirmed, BadLine, Gap, Repeat, Differs}
 use Rattle.commands.specs.World.{World}
-use Rattle.commands.specs.End.{End, Done, NoMemory, Usage, FileMissing, FileFault, PlantRefused, PlantTooLong, LineRefused, ScriptTooLong, Audited, TraceTooLong, status_of, verdict_status}
+use Rattle.commands.specs.End.{End, Done, NoMemory, Usage, FileMissing, FileFault, PlantRefused, PlantTooLong, LineRefused, ScriptTooLong, Audited, TraceTooLong, StreamTooLong, StreamFailed, status_of, verdict_status}
 use Rattle.commands.specs.Run.{RunEnds}
 use Rattle.commands.specs.Statuses.{IsKnown}
 use Rattle.commands.proofs.CauseLemmas.{is_written, status_or_7}
@@ -30,6 +30,8 @@ eight (LineRefused number) = inr (inr (inr (inr (inr (inl refl)))))
 eight ScriptTooLong = inr (inr (inr (inr (inr (inl refl)))))
 eight (Audited verdict) = of_verdict verdict
 eight TraceTooLong = inr (inr (inr (inr (inr (inl refl)))))
+eight StreamTooLong = inr (inr (inr (inr (inr (inl refl)))))
+eight (StreamFailed failed' output') = inr (inr (inr (inl refl)))
 
 pub eight_statuses : (words : List (List ℕ)) (before now : World) (status : ℕ) → RunEnds words before now status → IsKnown status
 eight_statuses words before now status run = elim (status_or_7 run.end before now status run.output) [
@@ -50,6 +52,8 @@ not_7 (LineRefused number) is = omega arith
 not_7 ScriptTooLong is = omega arith
 not_7 (Audited verdict) is = other_status 7 verdict (λ h. omega arith) (λ h. omega arith) (λ h. omega arith) (sym is)
 not_7 TraceTooLong is = omega arith
+not_7 StreamTooLong is = omega arith
+not_7 (StreamFailed failed' output') is = omega arith
 
 pub output_cause : (words : List (List ℕ)) (before now : World) → RunEnds words before now 7 → now.output_faults ≡ one_more before.output_faults
 output_cause words before now run = elim (status_or_7 run.end before now 7 run.output) [

@@ -20,7 +20,7 @@ use Rattle.panel_server.specs.declared.plant.ServeFault.{ServeFault}
 use Rattle.panel_server.specs.declared.plant.ServeFault.TheVariants as answers
 use Rattle.command_words.specs.Words.{Service}
 use Rattle.commands.specs.World.{World, Snapshot, snapshot}
-use Rattle.commands.specs.End.{End, Done, NoMemory, Usage, FileMissing, FileFault, PlantRefused, PlantTooLong, LineRefused, ScriptTooLong, Audited, TraceTooLong, status_of}
+use Rattle.commands.specs.End.{End, Done, NoMemory, Usage, FileMissing, FileFault, PlantRefused, PlantTooLong, LineRefused, ScriptTooLong, Audited, TraceTooLong, StreamTooLong, StreamFailed, status_of}
 use Rattle.commands.specs.OpensPlant.{OpensPlant, OpensBench, OpensFile, is_bench, opened_for}
 use Rattle.commands.specs.Asked.{ShowsFile, ShowsPlant}
 use Rattle.commands.specs.Run.{ReadsWell, EndsReading, LeavesOpened}
@@ -50,6 +50,8 @@ shown_file name (Holds text) plant (LineRefused number) shows opens = absurd ope
 shown_file name (Holds text) plant ScriptTooLong shows opens = absurd opens
 shown_file name (Holds text) plant (Audited verdict) shows opens = absurd opens
 shown_file name (Holds text) plant TraceTooLong shows opens = absurd opens
+shown_file name (Holds text) plant StreamTooLong shows opens = absurd opens
+shown_file name (Holds text) plant (StreamFailed failed' output') shows opens = absurd opens
 
 shown_bench : (name : List ℕ) (end : End) → OpensBench (Err end) → RanOrFailed name end
 shown_bench name NoMemory opens = inl refl

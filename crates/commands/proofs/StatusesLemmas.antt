@@ -10,15 +10,17 @@ use Rattle.plant_config.specs.Bench.{bench}
 use Rattle.trace_audit.specs.declared.verdict.Verdict.{Verdict}
 use Rattle.trace_audit.specs.declared.verdict.Verdict.TheVariants.{Confirmed, BadLine, Gap, Repeat, Differs}
 use Rattle.commands.specs.World.{World}
-use Rattle.commands.specs.End.{End, Done, NoMemory, Usage, FileMissing, FileFault, PlantRefused, PlantTooLong, LineRefused, ScriptTooLong, Audited, TraceTooLong, status_of, end_text, verdict_line}
+use Rattle.commands.specs.End.{End, Done, NoMemory, Usage, FileMissing, FileFault, PlantRefused, PlantTooLong, LineRefused, ScriptTooLong, Audited, TraceTooLong, StreamTooLong, StreamFailed, status_of, end_text, verdict_line}
 use Rattle.commands.specs.Lines.{no_memory, usage, plant_refused, plant_too_long}
-use Rattle.command_words.specs.Words.{Command, Check, Replay, Audit, plant_word, Ask, HasNoForm}
+use Rattle.command_words.specs.Words.{Command, Check, Audit, Stream, Monitor, plant_word, Ask, HasNoForm}
 use Rattle.commands.specs.OpensPlant.{is_bench, OpensBench, OpensFile, OpensPlant, Reads}
 use Rattle.commands.specs.Asked.{AskFile, PlantMayBeHere}
-use Rattle.commands.specs.Run.{CommandEnds, IsWritten, RunEnds}
-use Rattle.commands.specs.Outcomes.{WasChecked, WasReplayed, WereAudited, RanOutOfMemory, HadPlantFault, WasTooLong}
-use Rattle.commands.proofs.OpensLemmas.{if_held, opened_file}
-use Rattle.commands.proofs.CauseLemmas.{Cause, Came, at_words, at_plant, in_check, in_replay, in_audit, came, formless_end, command_opens, is_written, status_or_7}
+use Rattle.commands.specs.Run.{RunHasCause, CommandEnds, IsWritten, RunEnds}
+use Rattle.commands.specs.Outcomes.{WasChecked, WasReplayed, WereAudited, WasTold, RanOutOfMemory, HadPlantFault, WasTooLong}
+use Rattle.commands.proofs.HeldLemmas.{if_held}
+use Rattle.commands.proofs.OpensLemmas.{opened_file}
+use Rattle.commands.proofs.CauseLemmas.{Came, at_words, at_plant, in_check, in_replay, in_audit, in_stream, in_monitor, came, formless_end, command_opens, is_written, status_or_7}
+use Rattle.commands.proofs.AskedLemmas.{script_command}
 use Rattle.commands.proofs.VerdictLemmas.{other_status}
 
 -- no plant's word leads to an end that neither the bench plant nor a plant file has
@@ -39,12 +41,14 @@ audited_at words before now verdict (at_plant command ask opens) appends =
 audited_at words before now verdict (in_check plant asks ends) appends = absurd ends
 audited_at words before now verdict (in_replay plant name held asks ends) appends = absurd ends
 audited_at words before now verdict (in_audit plant files asks ends) appends = record { plant = plant; files = files; asks = asks; have = ends; appends = appends }
+audited_at words before now verdict (in_stream plant' name' held' by made read then status ask' ends') appends = absurd ends'
+audited_at words before now verdict (in_monitor name held asks ends) appends = absurd ends
 
 -- status 0
 
 -- what a status of 0 tells
 abbrev WasDone : List (List ℕ) → World → World → Type 0
-WasDone words before now = WasChecked words before now ⊎ WasReplayed words before now ⊎ ((count : ℕ) × WereAudited words before now (Confirmed count))
+WasDone words before now = WasChecked words before now ⊎ WasReplayed words before now ⊎ ((count : ℕ) × WereAudited words before now (Confirmed count)) ⊎ WasTold words before now
 
 done_at : (words : List (List ℕ)) (before now : World) (output : List ℕ) → Came words before (Done output) → now.written ≡ appended before.written output → WasDone words before now
 done_at words before now output (at_words ends) appends = absurd ends
@@ -62,9 +66,20 @@ done_at words before now output (in_replay plant name held asks ends) appends = 
   appends = appends;
 }))
 done_at words before now output (in_audit plant files asks ends) appends = absurd ends
+done_at words before now output (in_stream plant name held asks made read then status ask ends) appends = inr (inl (record {
+  plant = plant;
+  name = name;
+  held = held;
+  asks = asks;
+  output = output;
+  within = if_held held (λ bytes h. h.0) ends.shows.streamed;
+  replay = if_held held (λ bytes h. h.1.replay) ends.shows.streamed;
+  appends = appends;
+}))
+done_at words before now output (in_monitor name held asks ends) appends = inr (inr (inr (record { name = name; held = held; asks = asks; output = output; told = ends; appends = appends })))
 
 verdict_done : (words : List (List ℕ)) (before now : World) (verdict : Verdict) → Came words before (Audited verdict) → IsWritten (status_of (Audited verdict)) (end_text (Audited verdict)) before now 0 → WasDone words before now
-verdict_done words before now (Confirmed count) from written = inr (inr (count, audited_at words before now (Confirmed count) from written.appends))
+verdict_done words before now (Confirmed count) from written = inr (inr (inl (count, audited_at words before now (Confirmed count) from written.appends)))
 verdict_done words before now (BadLine number) from written = absurd (let h = written.status_is in omega arith)
 verdict_done words before now (Gap position) from written = absurd (let h = written.status_is in omega arith)
 verdict_done words before now (Repeat position) from written = absurd (let h = written.status_is in omega arith)
@@ -82,9 +97,11 @@ done_of words before now (LineRefused number) from written = absurd (let h = wri
 done_of words before now ScriptTooLong from written = absurd (let h = written.status_is in omega arith)
 done_of words before now (Audited verdict) from written = verdict_done words before now verdict from written
 done_of words before now TraceTooLong from written = absurd (let h = written.status_is in omega arith)
+done_of words before now StreamTooLong from written = absurd (let h = written.status_is in omega arith)
+done_of words before now (StreamFailed failed' output') from written = absurd (let h = written.status_is in omega arith)
 
 pub done : (words : List (List ℕ)) (before now : World) → RunEnds words before now 0
-    → WasChecked words before now ⊎ WasReplayed words before now ⊎ ((count : ℕ) × WereAudited words before now (Confirmed count))
+    → WasChecked words before now ⊎ WasReplayed words before now ⊎ ((count : ℕ) × WereAudited words before now (Confirmed count)) ⊎ WasTold words before now
 done words before now run =
     done_of words before now run.end (came words before now run.end run.cause) (is_written run.end before now 0 (λ h. omega arith) run.output)
 
@@ -108,11 +125,13 @@ memory_there command before ends = elim (command_opens command before NoMemory e
   | inr leads ↦ led (plant_word command) (before.held (plant_word command) 0) leads.0 leads.1
 ]
 
-memory_at : (words : List (List ℕ)) (before now : World) → Cause words before now NoMemory → now.written ≡ appended before.written no_memory → RanOutOfMemory words before now
+memory_at : {status : ℕ} (words : List (List ℕ)) (before now : World) → RunHasCause words before now NoMemory status → now.written ≡ appended before.written no_memory → RanOutOfMemory words before now
 memory_at words before now (inl at) appends = record { command = at.ends.0; ask = at.ends.1; there = inl at.files; appends = appends }
-memory_at words before now (inr by) appends = record { command = by.command; ask = by.ask; there = inr (memory_there by.command before by.ends); appends = appends }
+memory_at words before now (inr (inr by)) appends =
+    record { command = Stream by.word by.name by.made; ask = by.ask; there = inr (led by.word (before.held by.word 0) by.plant by.opens); appends = appends }
+memory_at words before now (inr (inl by)) appends = record { command = by.command; ask = by.ask; there = inr (memory_there by.command before by.ends); appends = appends }
 
-memory_of : (words : List (List ℕ)) (before now : World) (end : End) → Cause words before now end → IsWritten (status_of end) (end_text end) before now 1 → RanOutOfMemory words before now
+memory_of : {status : ℕ} (words : List (List ℕ)) (before now : World) (end : End) → RunHasCause words before now end status → IsWritten (status_of end) (end_text end) before now 1 → RanOutOfMemory words before now
 memory_of words before now NoMemory from written = memory_at words before now from written.appends
 memory_of words before now (Done output) from written = absurd (let h = written.status_is in omega arith)
 memory_of words before now Usage from written = absurd (let h = written.status_is in omega arith)
@@ -124,6 +143,8 @@ memory_of words before now (LineRefused number) from written = absurd (let h = w
 memory_of words before now ScriptTooLong from written = absurd (let h = written.status_is in omega arith)
 memory_of words before now (Audited verdict) from written = absurd (other_status 1 verdict (λ h. omega arith) (λ h. omega arith) (λ h. omega arith) written.status_is)
 memory_of words before now TraceTooLong from written = absurd (let h = written.status_is in omega arith)
+memory_of words before now StreamTooLong from written = absurd (let h = written.status_is in omega arith)
+memory_of words before now (StreamFailed failed' output') from written = absurd (let h = written.status_is in omega arith)
 
 pub ran_out : (words : List (List ℕ)) (before now : World) → RunEnds words before now 1 → RanOutOfMemory words before now
 ran_out words before now run =
@@ -143,6 +164,8 @@ usage_of (LineRefused number) is = absurd (omega arith)
 usage_of ScriptTooLong is = absurd (omega arith)
 usage_of (Audited verdict) is = absurd (other_status 2 verdict (λ h. omega arith) (λ h. omega arith) (λ h. omega arith) is)
 usage_of TraceTooLong is = absurd (omega arith)
+usage_of StreamTooLong is = absurd (omega arith)
+usage_of (StreamFailed failed' output') is = absurd (omega arith)
 
 usage_at : (words : List (List ℕ)) (before : World) → Came words before Usage → HasNoForm words
 usage_at words before (at_words none) = none
@@ -150,6 +173,8 @@ usage_at words before (at_plant command ask opens) = absurd (nowhere (plant_word
 usage_at words before (in_check plant asks ends) = absurd ends
 usage_at words before (in_replay plant name held asks ends) = absurd ends
 usage_at words before (in_audit plant files asks ends) = absurd ends
+usage_at words before (in_stream plant' name' held' by made read then status ask' ends') = absurd ends'
+usage_at words before (in_monitor name held asks ends) = absurd ends
 
 pub usage_no_form : (words : List (List ℕ)) (before now : World) → RunEnds words before now 2 → HasNoForm words
 usage_no_form words before now run =
@@ -166,8 +191,12 @@ no_form_end : (words : List (List ℕ)) (before : World) (end : End) → HasNoFo
 no_form_end words before end none (at_words ends) = formless_end words end none ends
 no_form_end words before end none (at_plant command ask opens) = absurd (none command ask)
 no_form_end words before end none (in_check plant asks ends) = absurd (none (Check asks.word) asks.ask)
-no_form_end words before end none (in_replay plant name held asks ends) = absurd (none (Replay asks.word name) asks.ask)
+no_form_end words before end none (in_replay plant name held asks ends) =
+    let command = script_command words asks.word name asks.ask in
+    absurd (none command.0 command.1)
+no_form_end words before end none (in_stream plant name held asks made read then status ask ends) = absurd (none (Stream asks.word name made) ask)
 no_form_end words before end none (in_audit plant files asks ends) = absurd (none (Audit asks.word asks.traces) asks.ask)
+no_form_end words before end none (in_monitor name held asks ends) = absurd (none (Monitor name) asks.ask)
 
 pub usage_always : (words : List (List ℕ)) (before now : World) (status : ℕ) → HasNoForm words → RunEnds words before now status → (status ≡ 2) ⊎ (status ≡ 7)
 usage_always words before now status none run = elim (status_or_7 run.end before now status run.output) [
@@ -186,6 +215,8 @@ plant_fault_at words before now fault (at_plant command ask opens) appends =
 plant_fault_at words before now fault (in_check plant asks ends) appends = absurd ends
 plant_fault_at words before now fault (in_replay plant script held asks ends) appends = absurd ends
 plant_fault_at words before now fault (in_audit plant files asks ends) appends = absurd ends
+plant_fault_at words before now fault (in_stream plant' name' held' by made read then status ask' ends') appends = absurd ends'
+plant_fault_at words before now fault (in_monitor name held asks ends) appends = absurd ends
 
 too_long_at : (words : List (List ℕ)) (before now : World) → Came words before PlantTooLong → now.written ≡ appended before.written plant_too_long → WasTooLong words before now
 too_long_at words before now (at_words ends) appends = absurd ends
@@ -195,6 +226,8 @@ too_long_at words before now (at_plant command ask opens) appends =
 too_long_at words before now (in_check plant asks ends) appends = absurd ends
 too_long_at words before now (in_replay plant script held asks ends) appends = absurd ends
 too_long_at words before now (in_audit plant files asks ends) appends = absurd ends
+too_long_at words before now (in_stream plant' name' held' by made read then status ask' ends') appends = absurd ends'
+too_long_at words before now (in_monitor name held asks ends) appends = absurd ends
 
 plant_of : (words : List (List ℕ)) (before now : World) (end : End) → Came words before end → IsWritten (status_of end) (end_text end) before now 4
     → HadPlantFault words before now ⊎ WasTooLong words before now
@@ -209,6 +242,8 @@ plant_of words before now (LineRefused number) from written = absurd (let h = wr
 plant_of words before now ScriptTooLong from written = absurd (let h = written.status_is in omega arith)
 plant_of words before now (Audited verdict) from written = absurd (other_status 4 verdict (λ h. omega arith) (λ h. omega arith) (λ h. omega arith) written.status_is)
 plant_of words before now TraceTooLong from written = absurd (let h = written.status_is in omega arith)
+plant_of words before now StreamTooLong from written = absurd (let h = written.status_is in omega arith)
+plant_of words before now (StreamFailed failed' output') from written = absurd (let h = written.status_is in omega arith)
 
 pub plant_cause : (words : List (List ℕ)) (before now : World) → RunEnds words before now 4 → HadPlantFault words before now ⊎ WasTooLong words before now
 plant_cause words before now run =

@@ -11,11 +11,13 @@ use Rattle.ctl_io.specs.Sink.{appended, AppendsPart}
 use Rattle.ctl_io.proofs.SinkLemmas.{appended-nil, appended-appended}
 use Rattle.commands.specs.declared.stop.Stop.{Stop}
 use Rattle.commands.specs.declared.stop.Stop.TheVariants as stops
-use Rattle.commands.specs.World.{World}
+use Rattle.commands.specs.World.{World, snapshot}
 use Rattle.commands.specs.Lines.{line, plant_refused}
 use Rattle.commands.specs.End.{End, end_text, status_of}
-use Rattle.commands.specs.Run.{EndsAtWords, EndsByCommand, IsWritten, IsCutShort, RunEnds}
-use Rattle.commands.specs.StopInside.{line_of, stop_status, is_by_output, stopped_by_output, IsFrontOf, StopSays, Says, Reports, RunStops}
+use Rattle.commands.specs.OpensPlant.{next_opening}
+use Rattle.commands.specs.Run.{RunHasCause, IsWritten, IsCutShort, RunEnds}
+use Rattle.commands.specs.StopInside.{line_of, stop_status, is_by_output, stopped_by_output, IsFrontOf, StopSays, Says, Reports, RunStops, number_of_end}
+use Rattle.commands.proofs.StreamLemmas.{ends_later}
 
 -- a shorter front of what comes behind a front is a shorter front
 pub front-part : (front line : List ℕ) (before mid now : Option (List ℕ)) → mid ≡ appended before front → AppendsPart line mid now → AppendsPart (front ++ line) before now
@@ -71,16 +73,33 @@ says-front stops.TraceTooLong status text before now other is = is
 says-front (stops.TraceFault name) status text before now other is = is
 says-front stops.NetFault status text before now other is = is
 says-front stops.LimitsMet status text before now other is = is
+says-front stops.StreamTooLong status text before now other is = is
 says-front stops.OutputFault status text before now other is = absurd (false≢true (sym other))
 
 -- The output and the files of a run, as it came to its report and as the report left them.
 abbrev moved : World → Option (List ℕ) → ℕ → World
 moved mid written faults = record mid { written = written; output_faults = faults }
 
-moved-cause : (words : List (List ℕ)) (before mid : World) (end : End) (written : Option (List ℕ)) (faults : ℕ) → EndsAtWords words before mid end ⊎ EndsByCommand words before mid end
-    → EndsAtWords words before (moved mid written faults) end ⊎ EndsByCommand words before (moved mid written faults) end
-moved-cause words before mid end written faults (inl at) = inl (record { ends = at.ends; files = at.files })
-moved-cause words before mid end written faults (inr by) = inr (record { command = by.command; ask = by.ask; ends = by.ends; files = by.files })
+moved-cause : (words : List (List ℕ)) (before mid : World) (end : End) (written : Option (List ℕ)) (faults status later : ℕ) → (later ≡ 0 → status ≡ 0) → RunHasCause words before mid end status
+    → RunHasCause words before (moved mid written faults) end later
+moved-cause words before mid end written faults status later only (inl at) = inl (record { ends = at.ends; files = at.files })
+moved-cause words before mid end written faults status later only (inr (inl by)) = inr (inl (record { command = by.command; ask = by.ask; ends = by.ends; files = by.files }))
+moved-cause words before mid end written faults status later only (inr (inr by)) = inr (inr (record {
+  word = by.word;
+  name = by.name;
+  made = by.made;
+  ask = by.ask;
+  plant = by.plant;
+  opens = by.opens;
+  read = by.read;
+  well = by.well;
+  ends = ends_later by.plant by.made (before.held by.name (next_opening by.word by.name)) by.read (snapshot mid) status later end only by.ends;
+}))
+
+-- a status of 0 behind the report was so before it
+zero_only : {T : Type 0} (result : Result T Stop) (status : ℕ) (before now : Option (List ℕ)) (faults_before faults_now : ℕ) → Reports result status before now faults_before faults_now → status ≡ 0 → number_of_end result ≡ 0
+zero_only result status before now faults_before faults_now (inl reported) none = sym reported.0 ∙ none
+zero_only result status before now faults_before faults_now (inr failed) none = absurd (let seven = failed.0 in omega (arith, seven, none))
 
 -- What the output of a run came to, by the status and the text that are wanted.
 abbrev pub IsOutput : ℕ → List ℕ → Option (List ℕ) → ℕ → Option (List ℕ) → ℕ → ℕ → Type 0
@@ -120,6 +139,7 @@ output_of (Err stops.TraceTooLong) wanted text before mid now fb fm fn status co
 output_of (Err (stops.TraceFault name)) wanted text before mid now fb fm fn status comes kept reports = left_line (stops.TraceFault name) wanted text before mid now fb fm fn status comes kept reports
 output_of (Err stops.NetFault) wanted text before mid now fb fm fn status comes kept reports = left_line stops.NetFault wanted text before mid now fb fm fn status comes kept reports
 output_of (Err stops.LimitsMet) wanted text before mid now fb fm fn status comes kept reports = left_line stops.LimitsMet wanted text before mid now fb fm fn status comes kept reports
+output_of (Err stops.StreamTooLong) wanted text before mid now fb fm fn status comes kept reports = left_line stops.StreamTooLong wanted text before mid now fb fm fn status comes kept reports
 output_of (Err stops.OutputFault) wanted text before mid now fb fm fn status comes kept (inl reported) =
     inr (reported.0, subst (AppendsPart text before) (sym (reported.1 ∙ appended-nil mid)) comes, reported.2 ∙ kept)
 output_of (Err stops.OutputFault) wanted text before mid now fb fm fn status comes kept (inr failed) = no-part mid now failed.1
@@ -134,10 +154,11 @@ pub run_ends : {T : Type 0} (result : Result T Stop) (words : List (List ℕ)) (
     → Reports result status mid.written written mid.output_faults faults → RunEnds words before (record mid { written = written; output_faults = faults }) status
 run_ends result words before mid status written faults stops reports = record {
   end = stops.end;
-  cause = moved-cause words before mid stops.end written faults stops.cause;
+  cause =
+      moved-cause words before mid stops.end written faults (number_of_end result) status (zero_only result status mid.written written mid.output_faults faults reports) stops.cause;
   output =
       is_output (status_of stops.end) (end_text stops.end) before (moved mid written faults) status (
       output_of result (status_of stops.end) (end_text stops.end) before.written mid.written written before.output_faults mid.output_faults faults status stops.comes stops.output_faults reports
       );
-  file_faults = stops.file_faults ∙ ap (λ (f : Bool). count_after f before.file_faults) (sym stops.fault);
+  file_faults = stops.file_faults;
 }

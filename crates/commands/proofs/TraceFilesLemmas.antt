@@ -10,7 +10,7 @@ use Rattle.ctl_io.specs.Held.{Held, IfHeld, CountsOn, OtherOpeningsStay}
 use Rattle.line_text.specs.Lines.{lines}
 use Rattle.commands.specs.OpensPlant.{is_bench, next_opening, opened_for}
 use Rattle.commands.specs.Audit.{TraceFile, times_opened, trace_file, trace_files, IfAllHeld, total_length, all_lines}
-use Rattle.commands.proofs.OpensLemmas.{if_held}
+use Rattle.commands.proofs.HeldLemmas.{if_held}
 
 -- a name was opened as often as in the one list and in the other
 pub times-append : (name : List ℕ) (one other : List (List ℕ)) → times_opened name (one ++ other) ≡ times_opened name one + times_opened name other

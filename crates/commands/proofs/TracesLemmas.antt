@@ -9,15 +9,15 @@ use Rattle.trace_audit.specs.declared.verdict.Verdict.{Verdict}
 use Rattle.trace_audit.specs.Verdict.{IsVerdict}
 use Rattle.trace_audit.proofs.OneVerdict.{one_verdict}
 use Rattle.commands.specs.World.{World}
-use Rattle.commands.specs.End.{End, Done, NoMemory, Usage, FileMissing, FileFault, PlantRefused, PlantTooLong, LineRefused, ScriptTooLong, Audited, TraceTooLong, status_of, is_file_fault, verdict_status}
+use Rattle.commands.specs.End.{End, Done, NoMemory, Usage, FileMissing, FileFault, PlantRefused, PlantTooLong, LineRefused, ScriptTooLong, Audited, TraceTooLong, StreamTooLong, StreamFailed, status_of, is_file_fault, verdict_status}
 use Rattle.command_words.specs.Words.{Audit}
 use Rattle.commands.specs.OpensPlant.{opened_for}
 use Rattle.commands.specs.Audit.{longest_traces, TraceFile, trace_files, IfAllHeld, total_length, all_lines, AreTooLong, AuditEnds, HoldTexts}
 use Rattle.commands.specs.Asked.{AskTraces}
 use Rattle.commands.specs.Run.{RunEnds}
 use Rattle.commands.specs.Outcomes.{WasKept}
-use Rattle.commands.proofs.AskedLemmas.{same_audited, no_audit, no_replay}
-use Rattle.commands.proofs.CauseLemmas.{Came, at_words, at_plant, in_check, in_replay, in_audit, came, asked_end}
+use Rattle.commands.proofs.AskedLemmas.{same_audited, no_audit, no_replay, audit_no_monitor}
+use Rattle.commands.proofs.CauseLemmas.{Came, at_words, at_plant, in_check, in_replay, in_audit, in_stream, in_monitor, came, asked_end}
 use Rattle.commands.proofs.TraceFilesLemmas.{if_all}
 use Rattle.commands.proofs.AlwaysLemmas.{IsOrKept, by_end, kept_at_word, same_plant}
 use Rattle.commands.proofs.ShownLemmas.{FilesAreRight, shown}
@@ -36,6 +36,8 @@ audited_of words before now end plant files asks count (in_audit plant' files' b
     let found : files' ≡ files =
     by.files_are ∙ ap (λ (w : List ℕ). trace_files before.held (opened_for w) by.traces) same.0 ∙ ap (λ (ts : List (List ℕ)). trace_files before.held (opened_for asks.word) ts) same.1 ∙ asks.files_are in
     inl (subst (λ (p : PlantData). AuditEnds p files end) plants (subst (λ (fs : List TraceFile). AuditEnds plant' fs end) found ends))
+audited_of words before now end plant files asks count (in_stream plant' name held by made read then status ask' ends) = no_replay words asks.word by.word asks.traces name asks.ask by.ask
+audited_of words before now end plant files asks count (in_monitor name held by ends) = audit_no_monitor words asks.word name asks.traces asks.ask by.ask
 
 -- what holds of texts that traces hold
 of_texts : (files : List TraceFile) (texts : List (List ℕ)) (P : List (List ℕ) → Type 0) → HoldTexts files texts → IfAllHeld files P → P texts
@@ -125,6 +127,8 @@ verdict_of plant files texts verdict before now (Audited other) plant_is hold fe
 verdict_of plant files texts verdict before now TraceTooLong plant_is hold few is count (inl ends) =
     let long = long_with files texts ends.reached.earlier ends.reached.later ends.file 0 hold ends.reached.place (counted_from_0 (ends.reached.earlier ++ ends.file ∷ []) ends.too_long) in
     absurd (omega (arith, long, few))
+verdict_of plant files texts verdict before now StreamTooLong plant_is hold few is count (inl ends) = absurd ends
+verdict_of plant files texts verdict before now (StreamFailed failed' output') plant_is hold few is count (inl ends) = absurd ends
 verdict_of plant files texts verdict before now (Done output) plant_is hold few is count (inl ends) = absurd ends
 verdict_of plant files texts verdict before now Usage plant_is hold few is count (inl ends) = absurd ends
 verdict_of plant files texts verdict before now (PlantRefused fault) plant_is hold few is count (inl ends) = absurd ends
@@ -150,6 +154,8 @@ long_of plant files texts before now (Audited verdict) hold long count (inl ends
     let so = of_texts files texts (λ ts. (total_length ts ≤ longest_traces) × IsVerdict plant (all_lines ts) verdict) hold ends in
     absurd (omega (arith, so.0, long))
 long_of plant files texts before now TraceTooLong hold long count (inl ends) = inl refl
+long_of plant files texts before now StreamTooLong hold long count (inl ends) = absurd ends
+long_of plant files texts before now (StreamFailed failed' output') hold long count (inl ends) = absurd ends
 long_of plant files texts before now (Done output) hold long count (inl ends) = absurd ends
 long_of plant files texts before now Usage hold long count (inl ends) = absurd ends
 long_of plant files texts before now (PlantRefused fault) hold long count (inl ends) = absurd ends
@@ -177,6 +183,8 @@ missing_of plant earlier later file texts before now TraceTooLong hold few none 
     absurd
     (not_long earlier later file texts ends.reached.earlier ends.reached.later ends.file 0 hold none ends.reached.place (omega (arith, few))
     (counted_from_0 (ends.reached.earlier ++ ends.file ∷ []) ends.too_long))
+missing_of plant earlier later file texts before now StreamTooLong hold few none (inl ends) = absurd ends
+missing_of plant earlier later file texts before now (StreamFailed failed' output') hold few none (inl ends) = absurd ends
 missing_of plant earlier later file texts before now (Done output) hold few none (inl ends) = absurd ends
 missing_of plant earlier later file texts before now Usage hold few none (inl ends) = absurd ends
 missing_of plant earlier later file texts before now (PlantRefused fault) hold few none (inl ends) = absurd ends

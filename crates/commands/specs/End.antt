@@ -1,14 +1,14 @@
 -- How a run may end, with its exit status and its text.
-use Rattle.std.specs.Prelude.{ℕ, Bool, true, false, List}
+use Rattle.std.specs.Prelude.{ℕ, Bool, true, false, List, ◌++◌}
 use Rattle.plant_file.specs.declared.fault.PlantFault.{PlantFault}
 use Rattle.plant_file.specs.FaultText.{fault_text}
 use Rattle.trace_audit.specs.declared.verdict.Verdict.{Verdict}
 use Rattle.trace_audit.specs.declared.verdict.Verdict.TheVariants.{Confirmed, BadLine, Gap, Repeat, Differs}
 use Rattle.commands.specs.Lines.{usage, no_memory, file_missing, file_fault, plant_refused, plant_too_long, line_refused, script_too_long}
-use Rattle.commands.specs.Lines.{confirmed, trace_line_refused, trace_too_long, gap_at, repeat_at, differs_at}
+use Rattle.commands.specs.Lines.{confirmed, trace_line_refused, trace_too_long, stream_too_long, gap_at, repeat_at, differs_at}
 
 -- An end, with what its text names: the output of what was done, the name of a file, a plant file's fault, the number of a
--- line, the verdict of an audit.
+-- line, the verdict of an audit. Where a stream's file fails, some of the output may stand in front of the line that names it.
 pub data End : Type 0 where
   Done : (output : List ℕ) → End
   NoMemory : End
@@ -21,6 +21,8 @@ pub data End : Type 0 where
   ScriptTooLong : End
   Audited : (verdict : Verdict) → End
   TraceTooLong : End
+  StreamTooLong : End
+  StreamFailed : (name output : List ℕ) → End
 
 -- the exit status of an audit with this verdict: the traces are confirmed, a line of theirs is refused, or something was found
 abbrev pub verdict_status : Verdict → ℕ
@@ -51,6 +53,8 @@ status_of (LineRefused number) = 5
 status_of ScriptTooLong = 5
 status_of (Audited verdict) = verdict_status verdict
 status_of TraceTooLong = 5
+status_of StreamTooLong = 5
+status_of (StreamFailed name output) = 3
 
 -- the status of every end whose text could not be written
 abbrev pub unwritten_status : ℕ
@@ -69,8 +73,11 @@ end_text (LineRefused number) = line_refused number
 end_text ScriptTooLong = script_too_long
 end_text (Audited verdict) = verdict_line verdict
 end_text TraceTooLong = trace_too_long
+end_text StreamTooLong = stream_too_long
+end_text (StreamFailed name output) = output ++ file_fault name
 
 -- whether the files had a fault
 abbrev pub is_file_fault : End → Bool
 is_file_fault (FileFault name) = true
+is_file_fault (StreamFailed name output) = true
 is_file_fault other = false

@@ -4,10 +4,12 @@ pub mod End
 pub mod OpensPlant
 pub mod Check
 pub mod Replay
+pub mod Monitor
 pub mod Audit
 pub mod Drill
-pub mod Run
 pub mod Traces
+pub mod Stream
+pub mod Run
 pub mod Serve
 pub mod Program
 pub mod Asked
@@ -18,4 +20,5 @@ pub mod ProgramStatuses
 pub mod StopInside
 pub mod AuditInside
 pub mod DrillInside
+pub mod StreamInside
 pub mod ServeInside

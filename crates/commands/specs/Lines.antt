@@ -7,7 +7,7 @@ abbrev pub line : List ℕ → List ℕ
 line text = text ++ 10 ∷ []
 
 abbrev pub usage : List ℕ
-usage = line (codes "usage: plantctl check PLANT, replay PLANT SCRIPT, audit PLANT TRACE.., serve PLANT [PREFIX], drill NUMBER PANELS MESSAGES")
+usage = line (codes "usage: plantctl check PLANT, replay PLANT SCRIPT, audit PLANT TRACE.., serve PLANT [PREFIX], drill NUMBER PANELS MESSAGES, stream PLANT SCRIPT OUT, monitor FILE")
 
 abbrev pub no_memory : List ℕ
 no_memory = line (codes "no memory")
@@ -38,6 +38,9 @@ trace_line_refused number = line (codes "trace line " ++ decimal number ++ codes
 
 abbrev pub trace_too_long : List ℕ
 trace_too_long = line (codes "trace too long")
+
+abbrev pub stream_too_long : List ℕ
+stream_too_long = line (codes "stream too long")
 
 abbrev pub gap_at : ℕ → List ℕ
 gap_at position = line (codes "gap at " ++ decimal position)

@@ -12,16 +12,18 @@ use Rattle.record_replay.specs.Script.{Work, lines, worked, LinesSpell, IsFirstB
 use Rattle.record_replay.specs.TiedReplay.{IsTiedReplay}
 use Rattle.trace_audit.specs.declared.verdict.Verdict.{Verdict}
 use Rattle.trace_audit.specs.declared.verdict.Verdict.TheVariants.{Confirmed, BadLine, Gap, Repeat, Differs}
-use Rattle.commands.specs.World.{World, snapshot, FilesUntouched}
-use Rattle.commands.specs.Lines.{no_memory, file_missing, file_fault, plant_refused, plant_too_long, line_refused, script_too_long, trace_too_long}
-use Rattle.commands.specs.End.{verdict_line}
-use Rattle.command_words.specs.Words.{Command, plant_word, Ask}
+use Rattle.commands.specs.World.{World, Snapshot, snapshot, FilesUntouched}
+use Rattle.commands.specs.Lines.{no_memory, file_missing, file_fault, plant_refused, plant_too_long, line_refused, script_too_long, trace_too_long, stream_too_long}
+use Rattle.commands.specs.End.{StreamFailed, verdict_line}
+use Rattle.command_words.specs.Words.{Command, Stream, plant_word, Ask}
 use Rattle.commands.specs.OpensPlant.{longest_plant, Reads, files_of}
 use Rattle.commands.specs.Check.{check_text}
 use Rattle.commands.specs.Replay.{longest_script}
 use Rattle.commands.specs.Audit.{TraceFile, EndsTooLong, HaveVerdict}
+use Rattle.commands.specs.Monitor.{longest_stream, IsMonitored}
+use Rattle.commands.specs.Stream.{GivesFile, StreamDone, StreamEnds}
 use Rattle.commands.specs.Run.{EndsReading}
-use Rattle.commands.specs.Asked.{AskFile, AskCheck, AskReplay, AskAudit, PlantMayBeHere, WantsFile}
+use Rattle.commands.specs.Asked.{AskFile, AskCheck, AskReplay, AskAudit, AskMonitor, PlantMayBeHere, WantsFile}
 
 -- The plant was checked: exactly its ten lines were appended.
 pub record WasChecked (words : List (List ℕ)) (before now : World) : Type 0 where
@@ -80,6 +82,34 @@ pub record HadFileFault (words : List (List ℕ)) (before now : World) : Type 0 
   pub fault : now.file_faults ≡ one_more before.file_faults
   pub appends : now.written ≡ appended before.written (file_fault name)
 
+-- The file of a stream failed, which the files' count of faults shows: it could not be made, or a write failed, and the line
+-- that names it stands behind the output so far.
+pub record HadStreamFault (words : List (List ℕ)) (before now : World) : Type 0 where
+  pub plant : PlantData
+  pub name : List ℕ
+  pub held : Held
+  pub asks : AskReplay words before plant name held
+  pub made : List ℕ
+  pub ask : Ask words (Stream asks.word name made)
+  pub output : List ℕ
+  pub read : Snapshot
+  pub ends : StreamEnds plant made held read (snapshot now) 3 (StreamFailed made output)
+  pub fault : now.file_faults ≡ one_more before.file_faults
+  pub appends : now.written ≡ appended before.written (output ++ file_fault made)
+
+-- A stream was made: its file was given just the texts of the packets that the displays are told in the script's replay, in
+-- order, and no write failed.
+pub record WasStreamed (words : List (List ℕ)) (before now : World) (made : List ℕ)
+    : Type 0 where
+  pub plant : PlantData
+  pub name : List ℕ
+  pub held : Held
+  pub asks : AskReplay words before plant name held
+  pub output : List ℕ
+  pub read : Snapshot
+  pub gives : GivesFile made (StreamDone plant held output 0) read (snapshot now)
+  pub appends : now.written ≡ appended before.written output
+
 -- The plant file has this fault, its first, and the line says it.
 pub record HadPlantFault (words : List (List ℕ)) (before now : World) : Type 0 where
   pub name : List ℕ
@@ -132,6 +162,23 @@ pub record RefusedTraces (words : List (List ℕ)) (before now : World) : Type 0
   pub asks : AskAudit words before plant files
   pub too_long : EndsTooLong files
   pub appends : now.written ≡ appended before.written trace_too_long
+
+-- The recorded stream was told: it isn't too long, and exactly the lines of its items were appended.
+pub record WasTold (words : List (List ℕ)) (before now : World) : Type 0 where
+  pub name : List ℕ
+  pub held : Held
+  pub asks : AskMonitor words before name held
+  pub output : List ℕ
+  pub told : IfHeld held (λ stream. IsMonitored stream output)
+  pub appends : now.written ≡ appended before.written output
+
+-- The recorded stream was refused for its length.
+pub record RefusedStream (words : List (List ℕ)) (before now : World) : Type 0 where
+  pub name : List ℕ
+  pub held : Held
+  pub asks : AskMonitor words before name held
+  pub too_long : IsLonger longest_stream held
+  pub appends : now.written ≡ appended before.written stream_too_long
 
 -- An audit found something: a gap, a repeat or a difference.
 abbrev pub IsFinding : Verdict → Type 0

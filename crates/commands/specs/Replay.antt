@@ -28,3 +28,12 @@ ReplayEnds plant name held (LineRefused number) =
     IfHeld held (λ script. IfFits script (IsFirstBad plant script number))
 ReplayEnds plant name held ScriptTooLong = IfHeld held (λ script. longest_script < length script)
 ReplayEnds plant name held other = ⊥
+
+-- A replay that is to make a stream ends before it asks for the stream's file: its script, which the files hold so, isn't there
+-- to be worked, or memory runs out.
+abbrev pub UnreadEnds : List ℕ → Held → End → Type 0
+UnreadEnds name held NoMemory = IfHeld held (λ script. Unit {0})
+UnreadEnds name held (FileMissing missing) = (missing ≡ name) × MayBeMissing held
+UnreadEnds name held (FileFault failed) = failed ≡ name
+UnreadEnds name held ScriptTooLong = IfHeld held (λ script. longest_script < length script)
+UnreadEnds name held other = ⊥

@@ -1,5 +1,5 @@
 -- How a run ends: its cause, what it wrote, and what it left of the files.
-use Rattle.std.specs.Prelude.{◌≡◌, ◌⊎◌, ℕ, List, [], ◌∷◌, ◌++◌, Option, Result}
+use Rattle.std.specs.Prelude.{◌≡◌, ◌⊎◌, ℕ, List, [], ◌∷◌, ◌++◌, Option, Result, Ok}
 use Rattle.ctl_io.specs.Faults.{one_more, count_after}
 use Rattle.ctl_io.specs.Sink.{appended, AppendsPart}
 use Rattle.ctl_io.specs.Held.{OtherOpeningsStay}
@@ -8,13 +8,17 @@ use Rattle.plant_config.specs.Plant.{PlantData}
 use Rattle.commands.specs.World.{World, Snapshot, snapshot, FilesUntouched}
 use Rattle.commands.specs.Lines.{no_memory}
 use Rattle.commands.specs.End.{End, NoMemory, Usage, FileMissing, FileFault, status_of, unwritten_status, end_text, is_file_fault}
-use Rattle.command_words.specs.Words.{Command, Check, Replay, Audit, plant_word, other_files, Ask, AskCommand, HasNoForm}
+use Rattle.command_words.specs.Words.{Command, Check, Replay, Audit, Stream, Monitor, plant_word, other_files, Ask, AskCommand, HasNoForm}
 use Rattle.commands.specs.OpensPlant.{OpensPlant, ThenEnds, next_opening, opened_for}
 use Rattle.commands.specs.Check.{CheckEnds}
-use Rattle.commands.specs.Replay.{ReplayEnds}
+use Rattle.commands.specs.Replay.{ReplayEnds, UnreadEnds}
 use Rattle.commands.specs.Audit.{trace_files, OpensWithin, AuditEnds}
+use Rattle.commands.specs.Monitor.{MonitorEnds}
+use Rattle.commands.specs.Stream.{StreamEnds}
 
--- A command ends so, in a world that is so before it: its plant's word leads to a plant with which it goes on, or to the end.
+-- A command ends so before it makes a file, in a world that is so before it: its plant's word leads to a plant with which it
+-- goes on, or to the end. `monitor` has no plant, and `stream` ends so only where its script isn't there to be worked, or memory
+-- runs out.
 abbrev pub CommandEnds : Command → World → End → Type 0
 CommandEnds (Check word) before end =
     (opened : Result PlantData End) × OpensPlant word (before.held word 0) opened
@@ -29,6 +33,11 @@ CommandEnds (Audit word traces) before end =
     × OpensPlant word (before.held word 0) opened
     × ThenEnds (λ plant. AuditEnds plant (trace_files before.held (opened_for word) traces))
     opened end
+CommandEnds (Stream word name made) before end =
+    (opened : Result PlantData End)
+    × OpensPlant word (before.held word 0) opened
+    × ThenEnds (λ plant. UnreadEnds name (before.held name (next_opening word name))) opened end
+CommandEnds (Monitor name) before end = MonitorEnds name (before.held name 0) end
 
 -- The file of this name was read so, and what the files hold of other names stays.
 pub record ReadsFile (reading : FileReading) (name : List ℕ) (before now : Snapshot)
@@ -88,6 +97,26 @@ pub record EndsByCommand (words : List (List ℕ)) (before now : World) (end : E
   pub ends : CommandEnds command before end
   pub files : LeavesFiles command (snapshot before) (snapshot now) end
 
+-- The words ask for a replay with a stream, whose plant and script were read, and which ends so with this status.
+pub record EndsByStream (words : List (List ℕ)) (before now : World) (end : End) (status : ℕ)
+    : Type 0 where
+  pub word : List ℕ
+  pub name : List ℕ
+  pub made : List ℕ
+  pub ask : Ask words (Stream word name made)
+  pub plant : PlantData
+  pub opens : OpensPlant word (before.held word 0) (Ok plant)
+  pub read : Snapshot
+  pub well : ReadsWell (opened_for word ++ name ∷ []) (snapshot before) read
+  pub ends : StreamEnds plant made (before.held name (next_opening word name)) read
+      (snapshot now) status end
+
+-- Why a run with these words ends so, with this status: its words, a command that made no file, or a stream.
+abbrev pub RunHasCause : List (List ℕ) → World → World → End → ℕ → Type 0
+RunHasCause words before now end status =
+    EndsAtWords words before now end ⊎ EndsByCommand words before now end ⊎
+    EndsByStream words before now end status
+
 -- This text was appended, and the status is the one that is wanted.
 pub record IsWritten (wanted : ℕ) (text : List ℕ) (before now : World) (status : ℕ) : Type 0 where
   pub status_is : status ≡ wanted
@@ -111,7 +140,7 @@ EndsUnworded status before now faults_before faults_now =
 -- A run with these words ended with this status, between these two moments.
 pub record RunEnds (words : List (List ℕ)) (before now : World) (status : ℕ) : Type 0 where
   pub end : End
-  pub cause : EndsAtWords words before now end ⊎ EndsByCommand words before now end
+  pub cause : RunHasCause words before now end status
   pub output : IsWritten (status_of end) (end_text end) before now status
       ⊎ IsCutShort (end_text end) before now status
   pub file_faults : now.file_faults ≡ count_after (is_file_fault end) before.file_faults

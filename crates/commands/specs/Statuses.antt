@@ -1,5 +1,5 @@
 -- What the exit statuses tell of a run. Each is a law over the ends of runs.
-use Rattle.std.specs.Prelude.{◌≡◌, ◌≢◌, ◌⊎◌, ℕ, ◌<◌, ◌≤◌, List, ◌∷◌, ◌++◌}
+use Rattle.std.specs.Prelude.{◌≡◌, ◌≢◌, ◌⊎◌, ℕ, ◌<◌, ◌≤◌, List, ◌∷◌, ◌++◌, length}
 use Rattle.ctl_io.specs.Faults.{one_more}
 use Rattle.ctl_io.specs.Sink.{appended}
 use Rattle.ctl_io.specs.Held.{NoFile, Holds, Stays}
@@ -10,11 +10,13 @@ use Rattle.trace_audit.specs.Verdict.{IsVerdict}
 use Rattle.commands.specs.World.{World, FilesUntouched}
 use Rattle.commands.specs.Lines.{usage}
 use Rattle.commands.specs.End.{verdict_status}
-use Rattle.command_words.specs.Words.{Check, Ask, HasNoForm}
+use Rattle.command_words.specs.Words.{Check, Stream, Monitor, Ask, HasNoForm}
 use Rattle.commands.specs.Audit.{longest_traces, TraceFile, total_length, all_lines, HoldTexts}
+use Rattle.commands.specs.Monitor.{longest_stream}
 use Rattle.commands.specs.Asked.{AskFile, AskHeld, AskTraces, ShowsPlant, NamesFile}
 use Rattle.commands.specs.Run.{RunEnds}
-use Rattle.commands.specs.Outcomes.{WasChecked, WasReplayed, RanOutOfMemory, WasMissing, HadFileFault, HadPlantFault, WasTooLong, RefusedLine}
+use Rattle.commands.specs.Outcomes.{WasChecked, WasReplayed, RanOutOfMemory, WasMissing, HadFileFault, HadStreamFault, WasStreamed, HadPlantFault, WasTooLong, RefusedLine}
+use Rattle.commands.specs.Outcomes.{WasTold, RefusedStream}
 use Rattle.commands.specs.Outcomes.{RefusedLength, WereAudited, RefusedTraces, IsFinding, IsRefusedPlant, IsAccepted, IsRefused, WasKept}
 use Rattle.commands.specs.History.{ShowsHistory}
 
@@ -28,11 +30,12 @@ abbrev pub StatusesAreKnown : Type 0
 StatusesAreKnown = (words : List (List ℕ)) (before now : World) (status : ℕ)
     → RunEnds words before now status → IsKnown status
 
--- A run that ends with 0 has checked its plant, replayed its script, or confirmed its traces.
+-- A run that ends with 0 has checked its plant, replayed its script, confirmed its traces, or told its recorded stream.
 abbrev pub ZeroHasDone : Type 0
 ZeroHasDone = (words : List (List ℕ)) (before now : World) → RunEnds words before now 0
     → WasChecked words before now ⊎ WasReplayed words before now ⊎
-    ((count : ℕ) × WereAudited words before now (Confirmed count))
+    ((count : ℕ) × WereAudited words before now (Confirmed count)) ⊎
+    WasTold words before now
 
 -- A run that ends with 0, and was to replay a script that the files show, has shown a history of the plant.
 abbrev pub ReplaysShowHistories : Type 0
@@ -40,6 +43,12 @@ ReplaysShowHistories =
     (words : List (List ℕ)) (before now : World) (plant : PlantData) (name script : List ℕ)
     → AskHeld words before plant name (Holds script)
     → RunEnds words before now 0 → ShowsHistory plant script before now
+
+-- A run that ends with 0, and was to make a stream, has made it: the file was given just the packets of the replay.
+abbrev pub StreamsAreMade : Type 0
+StreamsAreMade = (words : List (List ℕ)) (before now : World) (word name made : List ℕ)
+    → Ask words (Stream word name made) → RunEnds words before now 0
+    → WasStreamed words before now made
 
 -- A run that ends with 1 ran out of memory.
 abbrev pub OneRanOutOfMemory : Type 0
@@ -61,10 +70,11 @@ abbrev pub NoFormEndsWithTwo : Type 0
 NoFormEndsWithTwo = (words : List (List ℕ)) (before now : World) (status : ℕ)
     → HasNoForm words → RunEnds words before now status → (status ≡ 2) ⊎ (status ≡ 7)
 
--- Where a run ends with 3, a file that was asked for is missing, or the files had a fault.
+-- Where a run ends with 3, a file that was asked for is missing, or the files had a fault, or the file of a stream failed.
 abbrev pub ThreeHasCause : Type 0
 ThreeHasCause = (words : List (List ℕ)) (before now : World)
-    → RunEnds words before now 3 → WasMissing words before now ⊎ HadFileFault words before now
+    → RunEnds words before now 3 → WasMissing words before now ⊎ HadFileFault words before now ⊎
+    HadStreamFault words before now
 
 -- A plant file that is missing leads to 3, or to 7 where the line could not be written, or to 1 where memory ran out before any
 -- file was opened.
@@ -109,12 +119,13 @@ FourOpensNoScript = (words : List (List ℕ)) (before now : World) (name : List 
     → RunEnds words before now 4 → (AskFile words name → ⊥)
     → Stays (before.held name) (now.held name)
 
--- Where a run ends with 5, its script was refused for a line or for its length, or its traces were.
+-- Where a run ends with 5, its script was refused for a line or for its length, or its traces were, or its recorded stream was
+-- for its length.
 abbrev pub FiveHasCause : Type 0
 FiveHasCause = (words : List (List ℕ)) (before now : World) → RunEnds words before now 5
     → RefusedLine words before now ⊎ RefusedLength words before now ⊎
     ((number : ℕ) × WereAudited words before now (BadLine number)) ⊎
-    RefusedTraces words before now
+    RefusedTraces words before now ⊎ RefusedStream words before now
 
 -- A script that is refused leads to 5, unless the run is kept from its end.
 abbrev pub RefusedEndsWithFive : Type 0
@@ -138,6 +149,29 @@ PlantEndsWithZero =
     (words : List (List ℕ)) (before now : World) (status : ℕ) (word : List ℕ) (plant : PlantData)
     → Ask words (Check word) → ShowsPlant word before plant
     → RunEnds words before now status → (status ≡ 0) ⊎ WasKept before now status
+
+-- A recorded stream that isn't too long leads to 0, unless the run is kept from its end.
+abbrev pub StreamEndsWithZero : Type 0
+StreamEndsWithZero =
+    (words : List (List ℕ)) (before now : World) (status : ℕ) (name stream : List ℕ)
+    → Ask words (Monitor name) → before.held name 0 ≡ Holds stream
+    → length stream ≤ longest_stream
+    → RunEnds words before now status → (status ≡ 0) ⊎ WasKept before now status
+
+-- A recorded stream that is missing leads to 3, unless the run is kept from its end.
+abbrev pub NoStreamEndsWithThree : Type 0
+NoStreamEndsWithThree =
+    (words : List (List ℕ)) (before now : World) (status : ℕ) (name : List ℕ)
+    → Ask words (Monitor name) → before.held name 0 ≡ NoFile
+    → RunEnds words before now status → (status ≡ 3) ⊎ WasKept before now status
+
+-- A recorded stream that is too long leads to 5, unless the run is kept from its end.
+abbrev pub LongStreamEndsWithFive : Type 0
+LongStreamEndsWithFive =
+    (words : List (List ℕ)) (before now : World) (status : ℕ) (name stream : List ℕ)
+    → Ask words (Monitor name) → before.held name 0 ≡ Holds stream
+    → longest_stream < length stream
+    → RunEnds words before now status → (status ≡ 5) ⊎ WasKept before now status
 
 -- Traces that are too long together lead to 5, unless the run is kept from its end.
 abbrev pub LongTracesEndWithFive : Type 0
@@ -179,10 +213,19 @@ abbrev pub SourcesComeBack : Type 0
 SourcesComeBack = (words : List (List ℕ)) (before now : World) (status : ℕ)
     → RunEnds words before now status → now.custody.sources.out ≡ before.custody.sources.out
 
--- No run has a sink handed out or gives one back.
+-- As many sinks are out after a run as before it.
+abbrev pub SinksComeBack : Type 0
+SinksComeBack = (words : List (List ℕ)) (before now : World) (status : ℕ)
+    → RunEnds words before now status → now.custody.sinks.out ≡ before.custody.sinks.out
+
+-- The words ask for no stream.
+abbrev pub AskNoStream : List (List ℕ) → Type 0
+AskNoStream words = (word name made : List ℕ) → Ask words (Stream word name made) → ⊥
+
+-- No run but one that makes a stream has a sink handed out or gives one back.
 abbrev pub NoSinkIsMade : Type 0
 NoSinkIsMade = (words : List (List ℕ)) (before now : World) (status : ℕ)
-    → RunEnds words before now status
+    → AskNoStream words → RunEnds words before now status
     → now.custody.sinks ≡ before.custody.sinks
 
 -- What the files hold of a name that the words don't name stays.

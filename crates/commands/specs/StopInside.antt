@@ -12,17 +12,22 @@ use Rattle.plant_file.specs.FaultText.{fault_text}
 use Rattle.plant_config.specs.Plant.{PlantData}
 use Rattle.record_replay.specs.declared.replay.ReplayFault.{ReplayFault}
 use Rattle.record_replay.specs.declared.replay.ReplayFault.TheVariants as replays
+use Rattle.record_replay.specs.declared.monitor.MonitorFault.{MonitorFault}
+use Rattle.record_replay.specs.declared.monitor.MonitorFault.TheVariants as monitors
+use Rattle.record_replay.specs.declared.streamed.StreamedFault.{StreamedFault}
+use Rattle.record_replay.specs.declared.streamed.StreamedFault.TheVariants as streams
 use Rattle.commands.specs.declared.stop.Stop.{Stop}
 use Rattle.commands.specs.declared.stop.Stop.TheVariants as stops
 use Rattle.commands.specs.declared.stop.Status.{Status}
 use Rattle.commands.specs.declared.stop.Status.TheVariants as statuses
-use Rattle.commands.specs.Lines.{usage, no_memory, file_missing, file_fault, plant_refused, plant_too_long, line_refused, script_too_long, trace_too_long, net_fault, limits_met}
+use Rattle.commands.specs.Lines.{usage, no_memory, file_missing, file_fault, plant_refused, plant_too_long, line_refused, script_too_long, trace_too_long, stream_too_long, net_fault, limits_met}
 use Rattle.commands.specs.End.{End, status_of, unwritten_status, end_text, is_file_fault, verdict_status, verdict_line}
 use Rattle.commands.specs.World.{World, Snapshot, snapshot}
 use Rattle.command_words.specs.Words.{Command}
 use Rattle.commands.specs.OpensPlant.{OpensPlant, OpensFile, next_opening, opened_for}
 use Rattle.commands.specs.Replay.{ReplayEnds}
-use Rattle.commands.specs.Run.{ReadsWell, LeavesOpened, CommandEnds, LeavesFiles, EndsAtWords, EndsByCommand}
+use Rattle.commands.specs.Monitor.{MonitorEnds}
+use Rattle.commands.specs.Run.{ReadsWell, LeavesOpened, CommandEnds, LeavesFiles, RunHasCause}
 
 -- the number of a status
 abbrev pub number_of : Status → ℕ
@@ -56,6 +61,7 @@ line_of stops.TraceTooLong = trace_too_long
 line_of (stops.TraceFault name) = file_fault (string_bytes name)
 line_of stops.NetFault = net_fault
 line_of stops.LimitsMet = limits_met
+line_of stops.StreamTooLong = stream_too_long
 line_of stops.OutputFault = []
 
 -- the status of a stop
@@ -73,6 +79,7 @@ stop_status stops.TraceTooLong = 5
 stop_status (stops.TraceFault name) = 3
 stop_status stops.NetFault = 8
 stop_status stops.LimitsMet = 9
+stop_status stops.StreamTooLong = 5
 stop_status stops.OutputFault = 7
 
 -- Whether a write failed, and whether the files did, before the report.
@@ -178,6 +185,11 @@ abbrev pub Replays : PlantData → List ℕ → Snapshot → Snapshot → End �
 Replays plant name before now end = ReplayEnds plant name (before.held name 0) end
     × LeavesOpened end (name ∷ []) before now
 
+-- The telling of this recorded stream ends so, and leaves the files so.
+abbrev pub Tells : List ℕ → Snapshot → Snapshot → End → Type 0
+Tells name before now end = MonitorEnds name (before.held name 0) end
+    × LeavesOpened end (name ∷ []) before now
+
 -- Once a plant's word has led to a plant, each opening of a name finds this.
 abbrev pub AreNext : List ℕ → (List ℕ → ℕ → Held) → (List ℕ → ℕ → Held)
     → Type 0
@@ -195,6 +207,18 @@ abbrev pub stop_of_replay : ReplayFault → Stop
 stop_of_replay replays.NoMemory = stops.NoMemory
 stop_of_replay (replays.BadLine number) = stops.LineRefused number
 stop_of_replay replays.OutputFault = stops.OutputFault
+
+-- the stop for a fault of the telling of a stream
+abbrev pub stop_of_monitor : MonitorFault → Stop
+stop_of_monitor monitors.NoMemory = stops.NoMemory
+stop_of_monitor monitors.OutputFault = stops.OutputFault
+
+-- the stop for a fault of a replay with a stream in the file of this name
+abbrev pub stop_of_stream : StreamedFault → Bor (List ℕ) → Stop
+stop_of_stream streams.NoMemory made = stops.NoMemory
+stop_of_stream (streams.BadLine number) made = stops.LineRefused number
+stop_of_stream streams.OutputFault made = stops.OutputFault
+stop_of_stream streams.PortFault made = stops.FileFault made
 
 -- A stop says this fault of a plant file's text, or that memory ran out.
 abbrev pub SaysFault : PlantFault → Stop → Type 0
@@ -219,9 +243,8 @@ pub record CommandStops {T : Type 0} (command : Command) (before now : World)
 pub record RunStops {T : Type 0} (words : List (List ℕ)) (before now : World)
     (result : Result T Stop) : Type 0 where
   pub end : End
-  pub cause : EndsAtWords words before now end ⊎ EndsByCommand words before now end
+  pub cause : RunHasCause words before now end (number_of_end result)
   pub comes : ComesTo result end before.written now.written
-  pub fault : is_file_fault end ≡ stopped_by_files result
-  pub file_faults : now.file_faults ≡ count_after (stopped_by_files result) before.file_faults
+  pub file_faults : now.file_faults ≡ count_after (is_file_fault end) before.file_faults
   pub output_faults : now.output_faults
       ≡ count_after (stopped_by_output result) before.output_faults

@@ -9,9 +9,12 @@ ghost use Rattle.commands.specs.Statuses.{FourHasCause, RefusedPlantEndsWithFour
 ghost use Rattle.commands.specs.Statuses.{FourOpensNoScript};
 ghost use Rattle.commands.specs.Statuses.{FiveHasCause, RefusedEndsWithFive, AcceptedEndsWithZero};
 ghost use Rattle.commands.specs.Statuses.{PlantEndsWithZero, LongTracesEndWithFive};
+ghost use Rattle.commands.specs.Statuses.{StreamEndsWithZero, NoStreamEndsWithThree};
+ghost use Rattle.commands.specs.Statuses.{LongStreamEndsWithFive};
 ghost use Rattle.commands.specs.Statuses.{SixHasCause, VerdictsEndRuns};
 ghost use Rattle.commands.specs.Statuses.{SevenHasCause, OthersWriteAll};
-ghost use Rattle.commands.specs.Statuses.{SourcesComeBack, NoSinkIsMade, OtherNamesStay};
+ghost use Rattle.commands.specs.Statuses.{SourcesComeBack, SinksComeBack, NoSinkIsMade};
+ghost use Rattle.commands.specs.Statuses.{OtherNamesStay, StreamsAreMade};
 ghost use Rattle.commands.specs.Statuses.{FileFaultsStay, FileFaultsRiseOnce};
 
 use plant_rules::a_plant_file_is_right;
@@ -22,11 +25,14 @@ pub fn statuses()
     ensures { StatusesAreKnown }
 {}
 
-/// Status 0: exactly the plant's ten lines, the script's replay text, or the line that confirms the traces was appended,
-/// and in the history behind a replay text no tie ever carries two sources. Status 1: memory ran out.
+/// Status 0: exactly the plant's ten lines, the script's replay text, the line that confirms the traces, or the lines of
+/// the stream's items were appended, and in the history behind a replay text no tie ever carries two sources. Status 1:
+/// memory ran out.
 pub fn done()
     ensures done { ZeroHasDone }
     ensures checked { PlantEndsWithZero }
+    ensures told { StreamEndsWithZero }
+    ensures streamed { StreamsAreMade }
     ensures no_memory { OneRanOutOfMemory }
 {}
 
@@ -48,13 +54,14 @@ pub fn usage_told()
 {}
 
 /// Status 3: a file that the words ask for is missing, or the files had a fault. A missing plant file always ends
-/// so, unless the line could not be written or memory ran out before any file was opened, and a missing script or trace,
-/// unless memory runs out or the output fails.
+/// so, unless the line could not be written or memory ran out before any file was opened, and a missing script, trace or
+/// stream, unless memory runs out or the output fails.
 pub fn file_refused()
     ensures cause { ThreeHasCause }
     ensures no_plant { NoPlantEndsWithThree }
     ensures no_script { NoScriptEndsWithThree }
     ensures no_trace { NoTraceEndsWithThree }
+    ensures no_stream { NoStreamEndsWithThree }
 {}
 
 /// Status 4: the plant file's first fault, or its length. Such a file ends the run before the script or a trace is opened.
@@ -65,13 +72,14 @@ pub fn plant_refused()
 {}
 
 /// Status 5: the first line without a form, of a script or of all traces, or the length of the script or of the traces
-/// together. A script that is refused is never replayed, and one that is accepted is never refused; traces that are too
-/// long are never audited.
+/// together, or of a recorded stream. A script that is refused is never replayed, and one that is accepted is never
+/// refused; traces that are too long are never audited, and a stream that is too long is never told.
 pub fn script_refused()
     ensures cause { FiveHasCause }
     ensures refused { RefusedEndsWithFive }
     ensures accepted { AcceptedEndsWithZero }
     ensures long { LongTracesEndWithFive }
+    ensures long_stream { LongStreamEndsWithFive }
 {}
 
 /// Status 6: the audit found a gap, a repeat or a difference. Traces that aren't too long lead to the status of their
@@ -94,6 +102,7 @@ pub fn output_fault()
 /// risen by one.
 pub fn files_stay()
     ensures given_back { SourcesComeBack }
+    ensures sinks_back { SinksComeBack }
     ensures no_sink { NoSinkIsMade }
     ensures others { OtherNamesStay }
     ensures stay { FileFaultsStay }

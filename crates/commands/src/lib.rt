@@ -6,7 +6,9 @@
 mod audit;
 mod check;
 mod drill_command;
+mod file_port;
 mod laws;
+mod monitor;
 mod parts;
 mod plant;
 mod program;
@@ -15,6 +17,7 @@ mod quiet;
 mod replay;
 mod serve;
 mod stop;
+mod stream;
 mod told;
 mod trace_files;
 mod verdict;

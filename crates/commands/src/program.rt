@@ -19,7 +19,7 @@ use std::thread::Threads;
 
 /// Does what the words ask, and answers the exit status.
 ///
-/// The words have five forms: the three of `run_quiet`, to which it hands what these ask, and two more.
+/// The words have seven forms: the five of `run_quiet`, to which it hands what these ask, and two more.
 /// `drill NUMBER PANELS MESSAGES` works the drill of a number from 0 to 4294967295, with 1 to 16 panels and up to 200,000
 /// messages, at least one for each panel, and says what it came to. `serve PLANT [PREFIX]` serves the panels and the displays
 /// of a plant over the net until all panels had their sessions, and says how many sessions and entries of the history there

@@ -7,19 +7,20 @@ ghost use Rattle.ctl_io.specs.Sink.{appended, AppendsPart};
 ghost use Rattle.record_replay.specs.declared.replay.ReplayFault.TheVariants as faults;
 ghost use Rattle.commands.specs.declared.stop.Stop.TheVariants.{NoMemory};
 ghost use Rattle.commands.specs.StopInside.{number_of, line_of, stop_status};
-ghost use Rattle.commands.specs.StopInside.{stop_of_file, stop_of_replay};
+ghost use Rattle.commands.specs.StopInside.{stop_of_file, stop_of_replay, stop_of_stream};
+ghost use Rattle.commands.specs.StopInside.{stop_of_monitor};
 ghost use Rattle.commands.specs.StopInside.{SaysFault, Reports};
 
 use crate::parts::{write_number, write_parts};
 use crate::verdict::{status_of, write_verdict};
 use ctl_io::{FileFault, Sink, write_all};
 use plant_config::PlantFault;
-use record_replay::ReplayFault;
+use record_replay::{MonitorFault, ReplayFault, StreamedFault};
 use std::alloc::{AllocError, Global};
 use trace_audit::Verdict;
 
 const USAGE: &[u8] =
-    b"usage: plantctl check PLANT, replay PLANT SCRIPT, audit PLANT TRACE.., serve PLANT [PREFIX], drill NUMBER PANELS MESSAGES\n";
+    b"usage: plantctl check PLANT, replay PLANT SCRIPT, audit PLANT TRACE.., serve PLANT [PREFIX], drill NUMBER PANELS MESSAGES, stream PLANT SCRIPT OUT, monitor FILE\n";
 
 /// An exit status.
 #[derive(Clone, Copy, Debug, PartialEq, Eq)]
@@ -32,7 +33,7 @@ pub(crate) enum Status {
     File = 3,
     /// The plant file has a fault or is too long.
     Plant = 4,
-    /// A line of a script or a trace has no form, or the script or the traces are too long.
+    /// A line of a script or a trace has no form, or the script, the traces or the stream are too long.
     Script = 5,
     /// The audit found a gap, a repeat or a difference.
     Finding = 6,
@@ -78,6 +79,8 @@ pub(crate) enum Stop<'a> {
     NetFault,
     /// A session, or the worker of the displays, ended by a limit.
     LimitsMet,
+    /// The recorded stream is too long.
+    StreamTooLong,
     /// A write of the output failed.
     OutputFault,
 }
@@ -102,6 +105,17 @@ impl From<ReplayFault> for Stop<'_> {
     }
 }
 
+impl From<MonitorFault> for Stop<'_> {
+    ghost from_gives = { λ fault stop. stop ≡ stop_of_monitor fault };
+
+    fn from(fault: MonitorFault) -> Self {
+        match fault {
+            MonitorFault::NoMemory => Stop::NoMemory,
+            MonitorFault::OutputFault => Stop::OutputFault,
+        }
+    }
+}
+
 impl<'a> Stop<'a> {
     // The stop for a fault of the file of this name, which is `too_long` where the file is that.
     pub(crate) fn of_file(fault: FileFault, name: &'a str, too_long: Stop<'a>) -> Stop<'a>
@@ -112,6 +126,18 @@ impl<'a> Stop<'a> {
             FileFault::Missing => Stop::FileMissing(name),
             FileFault::Failed => Stop::FileFault(name),
             FileFault::TooLong => too_long,
+        }
+    }
+
+    // The stop for a fault of a replay with a stream in the file of this name.
+    pub(crate) fn of_stream(fault: StreamedFault, made: &'a str) -> Stop<'a>
+        ensures { result ≡ stop_of_stream fault made.entry }
+    {
+        match fault {
+            StreamedFault::NoMemory => Stop::NoMemory,
+            StreamedFault::BadLine(number) => Stop::LineRefused(number),
+            StreamedFault::OutputFault => Stop::OutputFault,
+            StreamedFault::PortFault => Stop::FileFault(made),
         }
     }
 
@@ -137,7 +163,8 @@ impl<'a> Stop<'a> {
             Stop::Usage => Status::Usage,
             Stop::FileMissing(_) | Stop::FileFault(_) | Stop::TraceFault(_) => Status::File,
             Stop::PlantRefused(_) | Stop::PlantTooLong => Status::Plant,
-            Stop::LineRefused(_) | Stop::ScriptTooLong | Stop::TraceTooLong => Status::Script,
+            Stop::LineRefused(_) | Stop::ScriptTooLong => Status::Script,
+            Stop::TraceTooLong | Stop::StreamTooLong => Status::Script,
             Stop::Found(verdict) => status_of(verdict),
             Stop::NetFault => Status::Net,
             Stop::LimitsMet => Status::Limits,
@@ -173,6 +200,7 @@ impl<'a> Stop<'a> {
             }
             Stop::NetFault => write_all(out, b"net fault\n"),
             Stop::LimitsMet => write_all(out, b"session limits met\n"),
+            Stop::StreamTooLong => write_all(out, b"stream too long\n"),
             Stop::OutputFault => true,
         }
     }

@@ -3,7 +3,7 @@ use Rattle.std.proofs.lemmas.Result.{IfErr-weaker, IfOk-weaker, MatchResult-from
 use Rattle.clap.specs.Words.{is_simple, kind_of, subcommand_of, subcommand_rows_of, takes}
 use Rattle.clap.specs.declared.error.kind.ErrorKind.TheVariants.{OutOfMemory}
 use Rattle.command_words.specs.WordsInside.{command_in}
-use Rattle.command_words.proofs.ClapLemmas.{gives, taken}
+use Rattle.command_words.proofs.ClapTaken.{gives, taken}
 use Rattle.command_words.proofs.parsed_words.parse.Goals as goal
 
 pub returns : goal.returns

@@ -6,7 +6,7 @@ use Rattle.command_words.specs.Words.{texts}
 use Rattle.commands.specs.Audit.{trace_files}
 use Rattle.commands.specs.StopInside.{stop_of_file}
 use Rattle.commands.specs.AuditInside.{AreJoined, ReadsAll, StopsReading}
-use Rattle.commands.proofs.OpensLemmas.{if_held}
+use Rattle.commands.proofs.HeldLemmas.{if_held}
 use Rattle.command_words.proofs.NamesLemmas.{texts-at, texts-more}
 use Rattle.commands.proofs.AuditLemmas.{HasRead, read_more, read_all, read_no_memory, read_stop, if_err}
 use Rattle.commands.proofs.audit.read_traces.Goals as goal

@@ -1,8 +1,11 @@
-use Rattle.commands.proofs.FilesLeftLemmas.{given_back, no_sink, others_stay, faults_stay, faults_rise}
+use Rattle.commands.proofs.FilesLeftLemmas.{given_back, sinks_back, no_sink, others_stay, faults_stay, faults_rise}
 use Rattle.commands.proofs.laws.files_stay.Goals as goal
 
 pub returns-clause-given_back : goal.returns-clause-given_back
 returns-clause-given_back c = given_back
+
+pub returns-clause-sinks_back : goal.returns-clause-sinks_back
+returns-clause-sinks_back c = sinks_back
 
 pub returns-clause-no_sink : goal.returns-clause-no_sink
 returns-clause-no_sink c = no_sink

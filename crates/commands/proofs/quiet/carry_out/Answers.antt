@@ -16,7 +16,6 @@ returns-in-Ok-None g c =
         files = refl;
       });
       comes = record { status_is = refl; front = []; text_is = refl; appends = sym (appended-nil _) };
-      fault = refl;
       file_faults = refl;
       output_faults = refl;
     }
@@ -26,7 +25,6 @@ returns-in-Err g c = record {
   end = NoMemory;
   cause = inl (record { ends = c.in-Err.ensures.no_memory; files = refl });
   comes = record { status_is = refl; front = []; text_is = refl; appends = sym (appended-nil _) };
-  fault = refl;
   file_faults = refl;
   output_faults = refl;
 }

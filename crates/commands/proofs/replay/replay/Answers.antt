@@ -1,7 +1,7 @@
 use Rattle.std.proofs.Common.{refl}
 use Rattle.commands.specs.StopInside.{stop_of_replay}
 use Rattle.commands.specs.declared.stop.Stop.TheVariants as stops
-use Rattle.commands.proofs.OpensLemmas.{if_held}
+use Rattle.commands.proofs.HeldLemmas.{if_held}
 use Rattle.commands.proofs.ReplayEndsLemmas.{err_stop, memory_stop, file_stop, done_stop, replay_stop}
 use Rattle.commands.proofs.replay.replay.Goals as goal
 

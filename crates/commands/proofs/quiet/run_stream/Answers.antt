@@ -1,0 +1,16 @@
+use Rattle.std.proofs.Common.{Err, refl}
+use Rattle.commands.specs.World.{snapshot_of}
+use Rattle.command_words.specs.Words.{Stream}
+use Rattle.commands.proofs.CommandLemmas.{at_plant, run_stopped, stream_went}
+use Rattle.commands.proofs.quiet.run_stream.Goals as goal
+
+pub returns-in-Err : goal.returns-in-Err
+returns-in-Err g c = λ words ask.
+    let command = Stream c.args.word.now c.args.script.now c.args.made.now in
+    let opens = c.in-Err.ensures.opens in
+    run_stopped words command _ _ _ ask (at_plant command _ _ c.in-Err.stop opens (Err opens.0, opens.1.0, refl) refl c.in-Err.ensures.count refl)
+
+pub returns : goal.returns
+returns g c = λ words ask.
+    stream_went words c.args.word.now c.args.script.now c.args.made.now _ _ (snapshot_of g.F.Files.held g.F.Files.custody g.F.Files.faults c.open_plant.new.files) c.in-Ok.plant c.stream.result
+    ask c.in-Ok.ensures.opens c.in-Ok.ensures.next c.stream.ensures.ends c.in-Ok.ensures.count c.stream.ensures.output_count
