@@ -111,13 +111,13 @@ fn are_answered<R: Wait + Abort>(
     ensures second { (second.new.lock ≡ second.old.lock)
         × (second.new.number ≡ second.old.number) }
 {
-    assert_eq!(rt; lock.call(rt, first, &(), out), Ok(0));
-    assert_eq!(rt; out.items(), [0].as_slice());
+    assert!(rt; lock.call(rt, first, &(), out) == Ok(0));
+    assert!(rt; out.items() == [0].as_slice());
     out.clear();
-    assert_eq!(rt; lock.call(rt, second, &(), out), Ok(1));
+    assert!(rt; lock.call(rt, second, &(), out) == Ok(1));
     out.clear();
-    assert_eq!(rt; lock.try_call(first, &(), out), Ok(2));
-    assert_eq!(rt; out.items(), [2].as_slice());
+    assert!(rt; lock.try_call(first, &(), out) == Ok(2));
+    assert!(rt; out.items() == [2].as_slice());
     let note = lock.note(first);
     lock.meet(second, note);
 }
@@ -126,18 +126,40 @@ fn are_answered<R: Wait + Abort>(
 fn two_seats_call_and_try(rt: HostRuntime) -> Result<(), Fail> {
     let (lock, mut first, mut second) = counted(rt.alloc(), 0)?;
     let mut out = OutBox::new(rt.alloc(), lock.room())?;
-    assert_eq!(rt; lock.seats(), 2);
+    assert!(rt; lock.seats() == 2);
     are_answered(&rt, &lock, &mut first, &mut second, &mut out);
     let Closed {
         machine,
         entries,
         past: _,
     } = closed(rt.alloc(), lock, first, second)?;
-    assert_eq!(rt; (entries, machine.count), (3, 3));
+    assert!(rt; entries == 3 && machine.count == 3);
     Ok(())
 }
 
-/// Asks so often, by a call or by a try, and answers how often it was answered with a number above the last.
+/// Asks once, by a call or by a try, and answers the number that it is answered with.
+fn ask<R: Wait>(
+    rt: &R,
+    lock: &HistoryLock<Counter>,
+    seat: &mut Seat<Counter>,
+    out: &mut OutBox<u64>,
+    waits: bool,
+) -> Option<u64>
+    requires lock { seat.old.lock ≡ lock.now.id }
+    requires places { 1 ≤ out.old.places }
+    ensures seat { (seat.new.lock ≡ seat.old.lock) × (seat.new.number ≡ seat.old.number) }
+    ensures places { out.new.places ≡ out.old.places }
+{
+    out.clear();
+    let answer = if waits {
+        lock.call(rt, seat, &(), out).ok()
+    } else {
+        lock.try_call(seat, &(), out).ok()
+    };
+    answer.filter(|number| out.items() == [*number].as_slice())
+}
+
+/// Asks so often, and answers how often it was answered with a number above the last.
 fn asks<R: Wait>(
     rt: &R,
     alloc: Global,
@@ -155,16 +177,8 @@ fn asks<R: Wait>(
     let mut answered = 0u64;
     let mut least = 0;
     for _ in 0..count {
-        out.clear();
-        let number = if waits {
-            lock.call(rt, &mut seat, &(), &mut out).ok()
-        } else {
-            lock.try_call(&mut seat, &(), &mut out).ok()
-        };
-        if let Some(number) = number {
-            if number >= least && out.items() == [number].as_slice() {
-                answered = answered.saturating_add(1);
-            }
+        if let Some(number) = ask(rt, lock, &mut seat, &mut out, waits) {
+            answered = answered.saturating_add(u64::from(number >= least));
             least = number.saturating_add(1);
         }
     }
@@ -201,21 +215,18 @@ fn by_two<R: Threads + Wait + Sync>(
 }
 
 #[test]
-fn two_threads_call_a_thousand_times_each(rt: HostRuntime) -> Result<(), Fail> {
-    assert_eq!(rt; by_two(&rt, rt.alloc(), 1000, 0, true)?, (2000, 2000, 2000));
-    Ok(())
-}
-
-#[test]
-fn whoever_sleeps_is_woken(rt: HostRuntime) -> Result<(), Fail> {
-    assert_eq!(rt; by_two(&rt, rt.alloc(), 50, 30_000, true)?, (100, 100, 100));
+fn two_threads_call_and_whoever_sleeps_is_woken(rt: HostRuntime) -> Result<(), Fail> {
+    // How often each calls, how long a call takes, and how often all together are answered.
+    for (count, pause, all) in [(1000, 0, 2000), (50, 30_000, 100)] {
+        let answered = by_two(&rt, rt.alloc(), count, pause, true)?;
+        assert!(rt; answered == (all, all, all));
+    }
     Ok(())
 }
 
 #[test]
 fn two_threads_try_and_give_up(rt: HostRuntime) -> Result<(), Fail> {
     let (entries, count, answered) = by_two(&rt, rt.alloc(), 500, 0, false)?;
-    assert!(rt; entries > 0);
-    assert_eq!(rt; (count, answered), (entries, entries));
+    assert!(rt; entries > 0 && count == entries && answered == entries);
     Ok(())
 }

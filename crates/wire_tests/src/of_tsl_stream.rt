@@ -5,8 +5,8 @@ mod port;
 use std::process::Abort;
 use std::slice::Iter;
 use std::test::Fail;
-use tsl_stream::{MAX_STREAM, StreamItem, StreamReader, write_stream};
-use tsl_umd5::{Lamp, MAX_PACKET, Shown, TslFault, add_display, begin_packet};
+use tsl_stream::{StreamItem, StreamReader};
+use tsl_umd5::TslFault;
 
 // Streams, and the items of each.
 const STREAMS: &[(&[u8], &[StreamItem<'static>])] = &[
@@ -77,24 +77,17 @@ fn feed_piece(
     }
 }
 
+// The heads of a packet of 2,048 bytes, and of its stream, in which the first byte is doubled.
+const HEADS: (&[u8], &[u8]) = (
+    b"\xFE\x07\x00\x00\x07\x00\x01\x00\xC0\x00\xF4\x07",
+    b"\xFE\x02\xFE\xFE\x07\x00\x00\x07\x00\x01\x00\xC0\x00\xF4\x07",
+);
+
 #[test]
 fn the_longest_packet_has_2048_bytes(rt: HostRuntime) -> Result<(), Fail> {
-    let text = vec![in rt.alloc(); b'x'; 2036]?;
-    let long = Shown {
-        index: 1,
-        right: Lamp::Off,
-        middle: Lamp::Green,
-        left: Lamp::Amber,
-        brightness: 0,
-        text: text.as_slice(),
-    };
-    let mut packet = Vec::with_capacity(rt.alloc(), MAX_PACKET)?;
-    begin_packet(7, &mut packet);
-    assert!(rt; long.fits());
-    add_display(0, &long, &mut packet);
-    let mut stream = Vec::with_capacity(rt.alloc(), MAX_STREAM)?;
-    write_stream(&packet, &mut stream);
-    assert!(rt; packet.len() == MAX_PACKET);
+    let (mut packet, mut stream) = (HEADS.0.to_vec(rt.alloc())?, HEADS.1.to_vec(rt.alloc())?);
+    packet.resize(2048, b'x')?;
+    stream.resize(2051, b'x')?;
     reads(&rt, &stream, b"", &[StreamItem::Packet(packet.as_slice())]);
     Ok(())
 }

@@ -9,19 +9,19 @@ fn lines_are_joined_and_read(rt: HostRuntime) -> Result<(), Fail> {
     // The first text lacks the LF of its last line.
     let mut text = Vec::from_slice(alloc, b"7\n0012")?;
     join_lines(&mut text, Vec::from_slice(alloc, b"none\n")?)?;
-    assert_eq!(rt; text.as_slice(), b"7\n0012\nnone\n".as_slice());
+    assert!(rt; text.as_slice() == b"7\n0012\nnone\n".as_slice());
 
     let (first, behind) = split_line(text.as_slice());
-    assert_eq!(rt; read_decimal(first), Some(7));
+    assert!(rt; read_decimal(first) == Some(7));
     let (second, behind) = split_line(behind);
-    assert_eq!(rt; read_decimal(second), Some(12));
+    assert!(rt; read_decimal(second) == Some(12));
     let (third, behind) = split_line(behind);
-    assert_eq!(rt; read_decimal(third), None);
+    assert!(rt; read_decimal(third) == None);
     assert!(rt; behind.is_empty());
 
     let mut line = Vec::with_capacity(alloc, MAX_DIGITS + 2 * third.len())?;
     append_decimal(12, &mut line);
     append_hex(third, &mut line);
-    assert_eq!(rt; line.as_slice(), b"126E6F6E65".as_slice());
+    assert!(rt; line.as_slice() == b"126E6F6E65".as_slice());
     Ok(())
 }

@@ -43,6 +43,6 @@ fn all_rise<R: Threads + Sync>(rt: &R, counts: &mut [Count])
 fn counts_rise(rt: HostRuntime) -> Result<(), Fail> {
     let mut counts = [Count::from(3), Count::from(8)];
     all_rise(&rt, &mut counts);
-    assert_eq!(rt; (counts[0].now, counts[1].now), (4, 9));
+    assert!(rt; (counts[0].now, counts[1].now) == (4, 9));
     Ok(())
 }

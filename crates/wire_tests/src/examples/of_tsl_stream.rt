@@ -22,14 +22,14 @@ fn a_packet_in_two_pieces(rt: HostRuntime) -> Result<(), Fail> {
     let mut packet = Vec::with_capacity(rt.alloc(), MAX_PACKET)?;
     begin_packet(0, &mut packet);
     add_display(0, &CAMERA, &mut packet);
-    assert_eq!(rt; packet.as_slice(), PACKET);
+    assert!(rt; packet.as_slice() == PACKET);
     let mut text = Vec::with_capacity(rt.alloc(), MAX_STREAM)?;
     write_stream(&packet, &mut text);
-    assert_eq!(rt; text.as_slice(), SPELLED);
+    assert!(rt; text.as_slice() == SPELLED);
 
     let mut reader = StreamReader::new();
-    assert_eq!(rt; reader.feed(&SPELLED[..9]), (9, None));
+    assert!(rt; reader.feed(&SPELLED[..9]) == (9, None));
     let item = StreamItem::Packet(PACKET);
-    assert_eq!(rt; reader.feed(&SPELLED[9..]), (10, Some(item)));
+    assert!(rt; reader.feed(&SPELLED[9..]) == (10, Some(item)));
     Ok(())
 }

@@ -27,7 +27,7 @@ fn a_packet_of_two_displays(rt: HostRuntime) -> Result<(), Fail> {
     add_display(0, &studio, &mut out);
 
     let mut packet = read_packet(&out)?;
-    assert_eq!(rt; packet.screen(), 7);
+    assert!(rt; packet.screen() == 7);
     assert!(rt; packet.next() == Some(camera));
     assert!(rt; packet.next() == Some(studio));
     assert!(rt; packet.next().is_none());

@@ -32,34 +32,46 @@ fn hints<F: Files>(name: &str, files: &mut F) -> Option<(usize, usize)> {
     }
 }
 
-// The three bytes of the file are read at their length, and refused below it.
-fn are_read<F: Files>(rt: &impl Abort, alloc: Global, files: &mut F) {
-    let whole = read_file(alloc, files, "text", 3).ok();
-    assert_eq!(rt;
-        whole.as_ref().map(|whole| whole.as_slice()),
-        Some(b"abc".as_slice())
-    );
-    assert_eq!(rt;
-        read_file(alloc, files, "text", 2).err(),
-        Some(FileFault::TooLong)
-    );
+// Whether the file of this name is read as three bytes, or why it isn't.
+fn is_read<F: Files>(
+    alloc: Global,
+    files: &mut F,
+    name: &str,
+    limit: usize,
+) -> Result<bool, FileFault> {
+    match read_file(alloc, files, name, limit) {
+        Ok(whole) => Ok(whole.as_slice() == b"abc".as_slice()),
+        Err(fault) => Err(fault),
+    }
+}
+
+// A name, the most bytes that are read, and what comes of it.
+type Reading = (&'static str, usize, Result<bool, FileFault>);
+
+// A folder is opened and can't be read.
+const BEFORE: [Reading; 2] = [
+    ("text", 3, Err(FileFault::Missing)),
+    (".", 3, Err(FileFault::Failed)),
+];
+
+const AFTER: [Reading; 2] = [("text", 3, Ok(true)), ("text", 2, Err(FileFault::TooLong))];
+
+fn are_read<F: Files>(rt: &impl Abort, alloc: Global, files: &mut F, rows: &[Reading]) {
+    for (name, limit, answer) in rows {
+        assert!(rt; is_read(alloc, files, name, *limit) == *answer, "{name}");
+    }
 }
 
 #[test]
 fn real_files_are_written_and_read(rt: HostRuntime) -> Result<(), Fail> {
-    let alloc = rt.alloc();
     let mut files = StdFiles::new(rt.clone()?);
-    // A folder is opened and can't be read.
-    for (name, fault) in [("text", FileFault::Missing), (".", FileFault::Failed)] {
-        assert_eq!(rt; read_file(alloc, &mut files, name, 3).err(), Some(fault));
-    }
+    are_read(&rt, rt.alloc(), &mut files, &BEFORE);
     // No file can be made in a folder that is missing.
-    for (name, all) in [("missing/text", false), ("text", true)] {
-        assert_eq!(rt; write_text(name, &mut files), all);
-    }
-    assert_eq!(rt; hints("text", &mut files), Some((3, 1)));
-    are_read(&rt, alloc, &mut files);
-    assert_eq!(rt; files.faults(), 2);
+    assert!(rt; !write_text("missing/text", &mut files));
+    assert!(rt; write_text("text", &mut files));
+    assert!(rt; hints("text", &mut files) == Some((3, 1)));
+    are_read(&rt, rt.alloc(), &mut files, &AFTER);
+    assert!(rt; files.faults() == 2);
     fs::remove_file(&rt, "text")?;
     Ok(())
 }

@@ -123,50 +123,53 @@ fn unsupported<T>() -> io::Result<T> {
     Err(io::Error::from(ErrorKind::Unsupported))
 }
 
-#[test]
-fn an_interrupted_read_is_made_again(rt: HostRuntime) -> Result<(), Fail> {
-    let mut source = FileSource::new(Halting::new(7));
+// What two reads of a source give, and the bytes of the second.
+fn reads<S: Source>(source: &mut S) -> (Read, Read, [u8; 2]) {
     let mut into = [0; 2];
-    for _ in 0..2 {
-        assert_eq!(rt; source.read(&mut into), Read::Got(2));
-    }
-    assert_eq!(rt; into, [7, 7]);
-    assert_eq!(rt; source.faults(), 0);
-    Ok(())
+    let first = source.read(&mut into);
+    let second = source.read(&mut into);
+    (first, second, into)
+}
+
+// What two writes of two bytes to a sink take.
+fn writes<K: Sink>(sink: &mut K) -> (Write, Write) {
+    let first = sink.write(b"ab");
+    (first, sink.write(b"ab"))
 }
 
 #[test]
-fn an_interrupted_write_is_made_again(rt: HostRuntime) -> Result<(), Fail> {
+fn an_interrupted_read_or_write_is_made_again(rt: HostRuntime) {
+    let mut source = FileSource::new(Halting::new(7));
+    assert!(rt; reads(&mut source) == (Read::Got(2), Read::Got(2), [7, 7]));
     let mut sink = FileSink::new(Halting::new(7));
+    assert!(rt; writes(&mut sink) == (Write::Took(2), Write::Took(2)));
     let mut out = StdOut::new(Halting::new(7));
-    for _ in 0..2 {
-        assert_eq!(rt; sink.write(b"ab"), Write::Took(2));
-        assert_eq!(rt; out.write(b"ab"), Write::Took(2));
-    }
-    assert_eq!(rt; sink.faults(), 0);
-    assert_eq!(rt; out.faults(), 0);
-    Ok(())
+    assert!(rt; writes(&mut out) == (Write::Took(2), Write::Took(2)));
 }
 
-#[test]
-fn an_interrupted_opening_is_made_again(rt: HostRuntime) -> Result<(), Fail> {
-    let mut files = StdFiles::new(Halting::new(rt.clone()?));
-    let made = match files.sink("interrupted") {
+// Makes a file and opens it again. Whether it could.
+fn is_made_and_found<F: Files>(name: &str, files: &mut F) -> bool {
+    let made = match files.sink(name) {
         Made::Here(sink) => {
             files.close_sink(sink);
             true
         }
         Made::Failed => false,
     };
-    let found = match files.source("interrupted") {
+    match files.source(name) {
         Found::Here(source) => {
             files.close_source(source);
-            true
+            made
         }
         Found::Missing | Found::Failed => false,
-    };
-    assert!(rt; made && found);
-    assert_eq!(rt; files.faults(), 0);
+    }
+}
+
+#[test]
+fn an_interrupted_opening_is_made_again(rt: HostRuntime) -> Result<(), Fail> {
+    let mut files = StdFiles::new(Halting::new(rt.clone()?));
+    assert!(rt; is_made_and_found("interrupted", &mut files));
+    assert!(rt; files.faults() == 0);
     std::fs::remove_file(&rt, "interrupted")?;
     Ok(())
 }

@@ -7,6 +7,7 @@ use ctl_io::Bytes;
 use ctl_net::{Acceptor, Link, LinkEvent, LinkRead, MemAcceptor, MemLink, Next, TcpAcceptor};
 use std::alloc::{AllocError, Global};
 use std::net::{TcpListener, TcpStream};
+use std::process::Abort;
 use std::test::Fail;
 use std::time::Duration;
 
@@ -35,15 +36,25 @@ fn link_of(alloc: Global, bytes: &[u8]) -> Result<MemLink, AllocError>
     )
 }
 
+// An acceptor with two links, of which the second asking fails.
+fn two_links(alloc: Global) -> Result<MemAcceptor, AllocError> {
+    let links = vec![in alloc; link_of(alloc, b"a")?, link_of(alloc, b"bc")?]?;
+    MemAcceptor::new(alloc, links, 2, vec![in alloc; 1]?)
+}
+
+// What the next links give first is this.
+fn give<A: Acceptor>(rt: &impl Abort, acceptor: &mut A, reads: &[Option<LinkRead>]) {
+    for read in reads {
+        assert!(rt; first_read(acceptor) == *read);
+    }
+}
+
 #[test]
 fn links_are_handed_out_in_their_order(rt: HostRuntime) -> Result<(), Fail> {
-    let alloc = rt.alloc();
-    let links = vec![in alloc; link_of(alloc, b"a")?, link_of(alloc, b"bc")?]?;
-    let mut acceptor = MemAcceptor::new(alloc, links, 2, vec![in alloc; 1]?)?;
-    for read in [Some(LinkRead::Got(1)), None, Some(LinkRead::Got(2)), None] {
-        assert_eq!(rt; first_read(&mut acceptor), read);
-    }
-    assert_eq!(rt; acceptor.back().len(), 2);
+    let mut acceptor = two_links(rt.alloc())?;
+    let reads = [Some(LinkRead::Got(1)), None, Some(LinkRead::Got(2)), None];
+    give(&rt, &mut acceptor, &reads);
+    assert!(rt; acceptor.back().len() == 2);
     Ok(())
 }
 
@@ -53,9 +64,7 @@ fn a_listener_serves_so_many_sessions(rt: HostRuntime) -> Result<(), Fail> {
     let at = listener.local_addr()?;
     let mut acceptor = TcpAcceptor::new(listener, 1, Duration::from_millis(20));
     let panel = TcpStream::connect(&rt, at)?;
-    for read in [Some(LinkRead::Idle), None] {
-        assert_eq!(rt; first_read(&mut acceptor), read);
-    }
+    give(&rt, &mut acceptor, &[Some(LinkRead::Idle), None]);
     drop(panel);
     Ok(())
 }

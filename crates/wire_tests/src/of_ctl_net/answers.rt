@@ -5,7 +5,6 @@ ghost use Rattle.std.specs.Prelude.{◌≤◌, IfOk};
 use ctl_io::{Sink, Write};
 use ctl_net::{Link, LinkRead, TcpLink};
 use std::io::{self, ErrorKind};
-use std::test::Fail;
 
 // A connection with these answers to its reads and writes, each a count of bytes or an error, and an end after them.
 #[derive(Drop)]
@@ -44,32 +43,41 @@ impl io::Write for Answering<'_> {
     }
 }
 
+// What a link answers to a read, and to a write, where the system interrupts it first.
+fn read_of(answer: Result<usize, ErrorKind>) -> LinkRead {
+    let answers = [Err(ErrorKind::Interrupted), answer];
+    TcpLink::over(Answering { answers: &answers }).read(&mut [0; 4])
+}
+
+fn written_of(answer: Result<usize, ErrorKind>) -> Write {
+    let answers = [Err(ErrorKind::Interrupted), answer];
+    TcpLink::over(Answering { answers: &answers }).write(b"abc")
+}
+
+const READS: [(Result<usize, ErrorKind>, LinkRead); 5] = [
+    (Ok(2), LinkRead::Got(2)),
+    (Ok(0), LinkRead::End),
+    (Err(ErrorKind::WouldBlock), LinkRead::Idle),
+    (Err(ErrorKind::TimedOut), LinkRead::Idle),
+    (Err(ErrorKind::ConnectionReset), LinkRead::Failed),
+];
+
+const WRITES: [(Result<usize, ErrorKind>, Write); 3] = [
+    (Ok(2), Write::Took(2)),
+    (Ok(0), Write::Failed),
+    (Err(ErrorKind::BrokenPipe), Write::Failed),
+];
+
 #[test]
-fn a_read_is_answered_by_its_kind(rt: HostRuntime) -> Result<(), Fail> {
-    for (answer, read) in [
-        (Ok(2), LinkRead::Got(2)),
-        (Ok(0), LinkRead::End),
-        (Err(ErrorKind::WouldBlock), LinkRead::Idle),
-        (Err(ErrorKind::TimedOut), LinkRead::Idle),
-        (Err(ErrorKind::ConnectionReset), LinkRead::Failed),
-    ] {
-        let answers = [Err(ErrorKind::Interrupted), answer];
-        let mut link = TcpLink::over(Answering { answers: &answers });
-        assert_eq!(rt; link.read(&mut [0; 4]), read);
+fn a_read_is_answered_by_its_kind(rt: HostRuntime) {
+    for (answer, read) in READS {
+        assert!(rt; read_of(answer) == read);
     }
-    Ok(())
 }
 
 #[test]
-fn a_write_is_answered_by_its_kind(rt: HostRuntime) -> Result<(), Fail> {
-    for (answer, written) in [
-        (Ok(2), Write::Took(2)),
-        (Ok(0), Write::Failed),
-        (Err(ErrorKind::BrokenPipe), Write::Failed),
-    ] {
-        let answers = [Err(ErrorKind::Interrupted), answer];
-        let mut link = TcpLink::over(Answering { answers: &answers });
-        assert_eq!(rt; link.write(b"abc"), written);
+fn a_write_is_answered_by_its_kind(rt: HostRuntime) {
+    for (answer, written) in WRITES {
+        assert!(rt; written_of(answer) == written);
     }
-    Ok(())
 }

@@ -15,11 +15,11 @@ fn a_port_in_memory_keeps_its_packets(rt: HostRuntime) -> Result<(), Fail> {
         (b"g".as_slice(), Sent::Failed),
     ] {
         port.pause();
-        assert_eq!(rt; port.take(packet), sent);
+        assert!(rt; port.take(packet) == sent);
     }
-    assert_eq!(rt; port.bytes(), b"abdef".as_slice());
-    assert_eq!(rt; port.lengths(), [2, 3].as_slice());
-    assert_eq!(rt; port.faults(), 2);
+    assert!(rt; port.bytes() == b"abdef".as_slice());
+    assert!(rt; port.lengths() == [2, 3].as_slice());
+    assert!(rt; port.faults() == 2);
     Ok(())
 }
 
@@ -31,11 +31,11 @@ fn a_packet_goes_as_one_datagram(rt: HostRuntime) -> Result<(), Fail> {
     let mut port = UdpPort::new(rt.clone()?, socket);
     let mut into = [0; 8];
     for packet in [b"abc".as_slice(), b"de".as_slice()] {
-        assert_eq!(rt; port.send(packet), Sent::Done);
-        assert_eq!(rt; display.recv(&mut into)?, packet.len());
+        assert!(rt; port.send(packet) == Sent::Done);
+        assert!(rt; display.recv(&mut into)? == packet.len());
         port.pause();
     }
-    assert_eq!(rt; into, *b"dec\0\0\0\0\0");
-    assert_eq!(rt; port.faults(), 0);
+    assert!(rt; into == *b"dec\0\0\0\0\0");
+    assert!(rt; port.faults() == 0);
     Ok(())
 }

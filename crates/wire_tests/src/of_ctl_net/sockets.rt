@@ -14,16 +14,13 @@ fn a_connection_is_read_until_it_ends(rt: HostRuntime) -> Result<(), Fail> {
     let (stream, _) = listener.accept()?;
     let mut link = TcpLink::new(stream, Duration::from_millis(20))?;
     let mut into = [0; 8];
-    assert_eq!(rt; link.read(&mut into), LinkRead::Idle);
-    assert_eq!(rt; panel.write(b"ab")?, 2);
-    assert_eq!(rt; link.read(&mut into), LinkRead::Got(2));
-    assert_eq!(rt; link.write(b"cde"), Write::Took(3));
-    assert_eq!(rt; panel.read(&mut into)?, 3);
+    assert!(rt; link.read(&mut into) == LinkRead::Idle);
+    assert!(rt; panel.write(b"ab")? == 2);
+    assert!(rt; link.read(&mut into) == LinkRead::Got(2));
+    assert!(rt; link.write(b"cde") == Write::Took(3));
+    assert!(rt; panel.read(&mut into)? == 3);
     drop(panel);
-    assert_eq!(rt; link.read(&mut into), LinkRead::End);
-    assert_eq!(rt;
-        (link.idles(), link.read_faults(), link.write_faults()),
-        (1, 0, 0)
-    );
+    assert!(rt; link.read(&mut into) == LinkRead::End);
+    assert!(rt; (link.idles(), link.read_faults(), link.write_faults()) == (1, 0, 0));
     Ok(())
 }
