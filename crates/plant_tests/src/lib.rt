@@ -6,8 +6,6 @@
 #[cfg(test)]
 mod examples;
 #[cfg(test)]
-mod of_change_boards;
-#[cfg(test)]
 mod of_plant_config;
 #[cfg(test)]
 mod of_plant_core;
@@ -16,10 +14,4 @@ mod of_plant_file;
 #[cfg(test)]
 mod of_plant_names;
 #[cfg(test)]
-mod of_protects;
-#[cfg(test)]
-mod of_salvo_groups;
-#[cfg(test)]
 mod of_tally;
-#[cfg(test)]
-mod of_tie_pools;

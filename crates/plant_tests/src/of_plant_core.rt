@@ -3,26 +3,30 @@
 ghost use Rattle.std.specs.Prelude.{◌≤◌};
 ghost use Rattle.plant_core.specs.Answer.{room_of};
 
+mod day;
 mod displays;
 mod long_runs;
 mod rows;
-mod shared;
 
 pub(crate) use displays::STUDIO;
 use history_lock::{Machine, OutBox};
 use plant_config::{PanelNo, Plant};
 use plant_core::{Answer, PlantState, Request};
-use rows::{BENCH, POOL, PROTECTING, SALVOS, TRUNK};
+pub(crate) use rows::WIDEST;
+use rows::{BENCH, EXTENDED, KEPT, LAST, POOL, PROTECTING, SALVOS, TRUNK, WIDE};
 use std::alloc::{AllocError, Global};
 use std::process::Abort;
 use std::test::Fail;
 use swp08_messages::{GoStatus, Message, Point, Validity};
 
 /// What a panel does about a place.
-#[derive(Clone, Copy, Debug)]
+#[derive(Clone, Copy)]
 enum Act {
     Asks,
     Connects(Option<u16>),
+    /// The same by the extended commands.
+    AsksExt,
+    ConnectsExt(Option<u16>),
     AsksOwner,
     Protects,
     Lifts,
@@ -39,11 +43,13 @@ enum Act {
 }
 
 /// How that is answered, by a message of the same place.
-#[derive(Clone, Copy, Debug)]
+#[derive(Clone, Copy)]
 enum Reply {
     Nothing,
     Tally(Option<u16>),
     Connected(Option<u16>),
+    ExtTally(Option<u16>),
+    ExtConnected(Option<u16>),
     Owner(Option<u16>),
     Protected(u16),
     Lifted,
@@ -69,6 +75,8 @@ fn request_of(panel: u32, at: Point, act: Act) -> Request {
         Act::Leaves => return Request::Leave { panel },
         Act::Asks => Message::Interrogate { at },
         Act::Connects(source) => Message::Connect { at, source },
+        Act::AsksExt => Message::ExtInterrogate { at },
+        Act::ConnectsExt(source) => Message::ExtConnect { at, source },
         Act::AsksOwner => Message::ProtectAsk { at },
         Act::Protects => Message::ProtectConnect { at, device: 77 },
         Act::Lifts => Message::ProtectDisconnect { at, device: 77 },
@@ -97,6 +105,8 @@ fn message_of(at: Point, reply: Reply) -> Option<Message> {
         Reply::Nothing => return None,
         Reply::Tally(source) => Message::Tally { at, source },
         Reply::Connected(source) => Message::Connected { at, source },
+        Reply::ExtTally(source) => Message::ExtTally { at, source },
+        Reply::ExtConnected(source) => Message::ExtConnected { at, source },
         Reply::Owner(owner) => Message::ProtectTally {
             at,
             owned: owner.is_some(),
@@ -167,6 +177,14 @@ fn are_answered(rt: &impl Abort, state: &mut PlantState, out: &mut OutBox<Answer
     }
 }
 
+// The plant of a text, the bench plant where there is none.
+fn plant_of(alloc: Global, text: Option<&str>) -> Result<Plant, Fail> {
+    match text {
+        Some(text) => Ok(Plant::from_toml(alloc, text.as_bytes())?),
+        None => Ok(Plant::bench(alloc)?),
+    }
+}
+
 // The rows are answered from the start of a plant on.
 fn is_worked(
     rt: &impl Abort,
@@ -180,20 +198,29 @@ fn is_worked(
     Ok(())
 }
 
+// The plants by their texts, none for the bench plant, and what is answered on each from its start.
+const TABLES: [(Option<&str>, &[Row]); 7] = [
+    (None, &BENCH),
+    (None, &PROTECTING),
+    (None, &SALVOS),
+    (Some(POOL), &TRUNK),
+    (Some(WIDE), &EXTENDED),
+    (Some(WIDEST), &LAST),
+    (Some(STUDIO), &KEPT),
+];
+
 #[test]
 fn tables_are_answered(rt: HostRuntime) -> Result<(), Fail> {
-    let bench = Plant::bench(rt.alloc())?;
-    is_worked(&rt, rt.alloc(), &bench, &BENCH)?;
-    is_worked(&rt, rt.alloc(), &bench, &PROTECTING)?;
-    is_worked(&rt, rt.alloc(), &bench, &SALVOS)?;
-    let pool = Plant::from_toml(rt.alloc(), POOL)?;
-    is_worked(&rt, rt.alloc(), &pool, &TRUNK)?;
+    for (text, rows) in TABLES {
+        let plant = plant_of(rt.alloc(), text)?;
+        is_worked(&rt, rt.alloc(), &plant, rows)?;
+    }
     Ok(())
 }
 
 // A plant of one level with this many destinations and one source.
-const WIDE: &[u8] = br#"
-title = "Wide"
+const LARGE: &[u8] = br#"
+title = "Large"
 [[level]]
 matrix = 0
 level = 0
@@ -220,7 +247,7 @@ fn fill(rt: &impl Abort, state: &mut PlantState, out: &mut OutBox<Answer>, count
     }
 }
 
-// A dump of the wide plant tells all its destinations.
+// A dump of that plant tells all its destinations.
 fn is_dumped(rt: &impl Abort, state: &mut PlantState, out: &mut OutBox<Answer>)
     requires { room_of state.old.plant ≤ out.old.places }
 {
@@ -230,21 +257,21 @@ fn is_dumped(rt: &impl Abort, state: &mut PlantState, out: &mut OutBox<Answer>)
         dest: 0,
     };
     ask(rt, state, out, &request_of(0, at, Act::Dumps));
-    assert_eq!(rt; out.items().len(), 257);
+    assert!(rt; out.items().len() == 257);
     let last = Answer::Dumped {
         matrix: 0,
         level: 0,
         dest: 256,
         source: None,
     };
-    assert_eq!(rt; out.items().last(), Some(&last));
+    assert!(rt; out.items().last() == Some(&last));
 }
 
 #[test]
-fn a_wide_plant_fills_a_group_and_a_dump(rt: HostRuntime) -> Result<(), Fail> {
-    let plant = Plant::from_toml(rt.alloc(), WIDE)?;
+fn a_large_plant_fills_a_group_and_a_dump(rt: HostRuntime) -> Result<(), Fail> {
+    let plant = Plant::from_toml(rt.alloc(), LARGE)?;
     let mut state = PlantState::start(rt.alloc(), &plant)?;
-    assert_eq!(rt; state.room(), 257);
+    assert!(rt; state.room() == 257);
     let mut out = OutBox::new(rt.alloc(), state.room())?;
     fill(&rt, &mut state, &mut out, 256);
     are_answered(&rt, &mut state, &mut out, &rows::FULL);

@@ -1,4 +1,4 @@
-//! A plant file, and one edit of it for each fault, with the fault's line.
+//! A plant file, and edits of it: one for each fault, with the fault's line, and those at the limits.
 
 use plant_file::PlantFault;
 use plant_rules::read;
@@ -63,8 +63,8 @@ device = 5
 port = 9000
 "#;
 
-// What stands once in that file, what stands in its place, and the line of the fault.
-const REFUSALS: [(&str, &str, &str); 8] = [
+// What stands once in that file, what stands in its place, and the line of the fault, or the title where there is none.
+const EDITS: [(&str, &str, &str); 19] = [
     ("idle_ms", "idle_ms = 1\nidle_ms", "NotToml"),
     ("title", "titel", "Missing at top 0 title"),
     ("250", "1.0", "WrongType at server 0 idle_ms"),
@@ -85,6 +85,60 @@ const REFUSALS: [(&str, &str, &str); 8] = [
         "from = 0\nto = 1",
         "NoPool at remote 0 from",
     ),
+    // All ties may be kept, and no more; the limit of the key itself comes first.
+    ("ties = 2", "ties = 2\nreserve = 2", "House"),
+    (
+        "ties = 2",
+        "ties = 1\nreserve = 2",
+        "OutOfRange at pool 0 reserve: 2 not in 0 to 1",
+    ),
+    (
+        "ties = 2",
+        "ties = 2\nreserve = 1025",
+        "OutOfRange at pool 0 reserve: 1025 not in 0 to 1024",
+    ),
+    // The most sources and destinations, of a level and of all together.
+    (
+        "sources = 4\ndestinations = 4",
+        "sources = 65536\ndestinations = 4",
+        "OutOfRange at level 0 sources: 65536 not in 1 to 65535",
+    ),
+    (
+        "sources = 4\ndestinations = 4",
+        "sources = 4\ndestinations = 65537",
+        "OutOfRange at level 0 destinations: 65537 not in 1 to 65536",
+    ),
+    (
+        "sources = 4\ndestinations = 4",
+        "sources = 65531\ndestinations = 65532",
+        "House",
+    ),
+    (
+        "sources = 4\ndestinations = 4",
+        "sources = 65532\ndestinations = 65532",
+        "OutOfRange at level 0 sources: 65537 not in 1 to 65536",
+    ),
+    // The last numbers that a key takes.
+    (
+        "from_source = 2",
+        "from_source = 65534",
+        "NoSuchThing at remote 0 from_source",
+    ),
+    (
+        "from_source = 2",
+        "from_source = 65535",
+        "OutOfRange at remote 0 from_source: 65535 not in 0 to 65534",
+    ),
+    (
+        "destination = 3",
+        "destination = 65535",
+        "NoSuchThing at preview 0 destination",
+    ),
+    (
+        "destination = 3",
+        "destination = 65536",
+        "OutOfRange at preview 0 destination: 65536 not in 0 to 65535",
+    ),
 ];
 
 // The line of a text's fault, or its title where it has none.
@@ -97,12 +151,12 @@ fn line_of(alloc: Global, text: &str) -> Result<String, AllocError> {
 }
 
 #[test]
-fn each_edit_is_refused_with_its_line(rt: HostRuntime) -> Result<(), Fail> {
+fn each_edit_is_read_or_refused_with_its_line(rt: HostRuntime) -> Result<(), Fail> {
     let alloc = rt.alloc();
-    assert_eq!(rt; line_of(alloc, PLANT)?.as_str(), "House");
-    for (old, new, line) in REFUSALS {
+    assert!(rt; line_of(alloc, PLANT)?.as_str() == "House");
+    for (old, new, line) in EDITS {
         let text = PLANT.replace(alloc, old, new)?;
-        assert_eq!(rt; line_of(alloc, &text)?.as_str(), line);
+        assert!(rt; line_of(alloc, &text)?.as_str() == line);
     }
     Ok(())
 }

@@ -1,18 +1,32 @@
-//! The destinations of the bench plant: by name, and a page of one name.
+//! The destinations of the bench plant: by name, and a page of one name. The names of the widest level.
 
-use plant_config::{DestId, Plant};
+use crate::of_plant_core::WIDEST;
+use plant_config::{DestId, Plant, SourceId};
 use plant_names::{Names, Paged};
 use std::test::Fail;
 
 #[test]
 fn destinations_by_name_and_by_page(rt: HostRuntime) -> Result<(), Fail> {
     let names = Names::new(rt.alloc(), &Plant::bench(rt.alloc())?)?;
-    assert_eq!(rt; names.find_dest(0, 0, b"D31"), Some(DestId::of(31)));
-    assert_eq!(rt; names.find_dest(0, 0, b"D31 "), None);
+    assert!(rt; names.find_dest(0, 0, b"D31") == Some(DestId::of(31)));
+    assert!(rt; names.find_dest(0, 0, b"D31 ") == None);
 
     let mut out = Vec::with_capacity(rt.alloc(), 134)?;
-    assert_eq!(rt; names.dest_page(1, 0, 0, true, &mut out), Paged::Nothing);
-    assert_eq!(rt; names.dest_page(0, 0, 5, true, &mut out), Paged::Last);
-    assert_eq!(rt; out.as_slice(), b"\x6B\0\0\0\x05\x01D5  ".as_slice());
+    assert!(rt; names.dest_page(1, 0, 0, true, &mut out) == Paged::Nothing);
+    assert!(rt; names.dest_page(0, 0, 5, true, &mut out) == Paged::Last);
+    assert!(rt; out.as_slice() == b"\x6B\0\0\0\x05\x01D5  ".as_slice());
+    Ok(())
+}
+
+#[test]
+fn the_widest_level_has_names(rt: HostRuntime) -> Result<(), Fail> {
+    let plant = Plant::from_toml(rt.alloc(), WIDEST.as_bytes())?;
+    let names = Names::new(rt.alloc(), &plant)?;
+    for _turn in 0..4_000_000_u32 {
+        let found = names.find_source(0, 0, b"S32767");
+        assert!(rt; found == Some(SourceId::of(32_767)));
+    }
+    assert!(rt; names.find_source(0, 0, b"S65535") == None);
+    assert!(rt; names.find_dest(0, 0, b"D65535") == Some(DestId::of(65_535)));
     Ok(())
 }

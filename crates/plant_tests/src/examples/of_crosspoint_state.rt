@@ -11,7 +11,7 @@ fn a_destination_carries_what_it_was_given(rt: HostRuntime) -> Result<(), Fail> 
     let mut crosspoints = Crosspoints::new(rt.alloc(), &plant)?;
     let (fourth, seventh) = (DestId::of(4), DestId::of(7));
     let camera = SourceId::of(20);
-    assert_eq!(rt; crosspoints.source_at(fourth), None);
+    assert!(rt; crosspoints.source_at(fourth) == None);
 
     let spot = Some(Spot {
         source: camera,
@@ -26,10 +26,10 @@ fn a_destination_carries_what_it_was_given(rt: HostRuntime) -> Result<(), Fail> 
     assert!(rt; crosspoints.is_idle(&again));
 
     crosspoints.set(&plant, fourth, None);
-    assert_eq!(rt; crosspoints.at(fourth), None);
-    assert_eq!(rt; crosspoints.at(seventh), spot);
-    assert_eq!(rt; crosspoints.source_at(seventh), Some(camera));
-    assert_eq!(rt; crosspoints.taps().head_of(4), None);
-    assert_eq!(rt; crosspoints.taps().head_of(7), Some(20));
+    assert!(rt; crosspoints.at(fourth) == None);
+    assert!(rt; crosspoints.at(seventh) == spot);
+    assert!(rt; crosspoints.source_at(seventh) == Some(camera));
+    assert!(rt; crosspoints.taps().head_of(4) == None);
+    assert!(rt; crosspoints.taps().head_of(7) == Some(20));
     Ok(())
 }

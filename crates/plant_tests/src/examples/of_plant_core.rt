@@ -24,7 +24,7 @@ fn is_answered(
     assert!(rt; state.fits(request));
     out.clear();
     state.step(request, out);
-    assert_eq!(rt; out.items(), answers);
+    assert!(rt; out.items() == answers);
 }
 
 #[test]

@@ -10,23 +10,14 @@ fn a_name_and_a_page(rt: HostRuntime) -> Result<(), Fail> {
     let names = Names::new(rt.alloc(), &plant)?;
 
     // The bench plant has the sources S0 to S31 at matrix 0, level 0.
-    assert_eq!(rt; names.find_source(0, 0, b"S5"), Some(SourceId::of(5)));
-    assert_eq!(rt; names.find_source(0, 0, b"S32"), None);
+    assert!(rt; names.find_source(0, 0, b"S5") == Some(SourceId::of(5)));
+    assert!(rt; names.find_source(0, 0, b"S32") == None);
 
     // Names of 8 bytes come 16 at a time, and behind source 30 there is one more.
     let mut out = Vec::with_capacity(rt.alloc(), 134)?;
-    assert_eq!(rt;
-        names.source_page(0, 0, 1, 0, false, &mut out),
-        Paged::More(16)
-    );
+    assert!(rt; names.source_page(0, 0, 1, 0, false, &mut out) == Paged::More(16));
     out.clear();
-    assert_eq!(rt;
-        names.source_page(0, 0, 1, 30, false, &mut out),
-        Paged::Last
-    );
-    assert_eq!(rt;
-        out.as_slice(),
-        b"\x6A\0\x01\0\x1E\x02S30     S31     ".as_slice()
-    );
+    assert!(rt; names.source_page(0, 0, 1, 30, false, &mut out) == Paged::Last);
+    assert!(rt; out.as_slice() == b"\x6A\0\x01\0\x1E\x02S30     S31     ".as_slice());
     Ok(())
 }

@@ -27,10 +27,10 @@ fn line_of(alloc: Global, text: &str) -> Result<String, Fail> {
 #[test]
 fn a_port_twice_is_refused(rt: HostRuntime) -> Result<(), Fail> {
     let alloc = rt.alloc();
-    assert_eq!(rt; line_of(alloc, STUDIO)?.as_str(), "Studio");
+    assert!(rt; line_of(alloc, STUDIO)?.as_str() == "Studio");
 
     let two = "[[panel]]\ndevice = 2\nport = 9001\n[[panel]]";
     let text = STUDIO.replace(alloc, "[[panel]]", two)?;
-    assert_eq!(rt; line_of(alloc, &text)?.as_str(), "Twice at panel 1 port");
+    assert!(rt; line_of(alloc, &text)?.as_str() == "Twice at panel 1 port");
     Ok(())
 }

@@ -45,7 +45,7 @@ fn take(
     ensures valid { HaveValidTies plant.now points.new.entries }
 {
     let changes = [Change { dest, source }];
-    let planned = ties.plan(plant, points, &changes)?;
+    let planned = ties.plan(plant, points, false, &changes)?;
     ties.commit(plant, points, planned, &changes);
     Ok(())
 }
@@ -65,23 +65,23 @@ fn share_a_tie(rt: &impl Abort, plant: &Plant, ties: &mut Ties, points: &mut Cro
     });
 
     let taken = take(plant, ties, points, first, Some(camera));
-    assert_eq!(rt; taken, Ok(()));
+    assert!(rt; taken == Ok(()));
     let refused = take(plant, ties, points, second, Some(replay));
     let fault = Exhausted {
         pool: PoolId::of(0),
         wanted: 2,
-        size: 1,
+        limit: 1,
     };
-    assert_eq!(rt; refused, Err(fault));
+    assert!(rt; refused == Err(fault));
     let shared = take(plant, ties, points, second, Some(same_camera));
-    assert_eq!(rt; shared, Ok(()));
-    assert_eq!(rt; points.at(second), over_the_tie(same_camera));
+    assert!(rt; shared == Ok(()));
+    assert!(rt; points.at(second) == over_the_tie(same_camera));
 
-    assert_eq!(rt; take(plant, ties, points, first, None), Ok(()));
-    assert_eq!(rt; take(plant, ties, points, second, None), Ok(()));
+    assert!(rt; take(plant, ties, points, first, None) == Ok(()));
+    assert!(rt; take(plant, ties, points, second, None) == Ok(()));
     let taken = take(plant, ties, points, second, Some(replay));
-    assert_eq!(rt; taken, Ok(()));
-    assert_eq!(rt; points.at(second), over_the_tie(replay));
+    assert!(rt; taken == Ok(()));
+    assert!(rt; points.at(second) == over_the_tie(replay));
 }
 
 #[test]

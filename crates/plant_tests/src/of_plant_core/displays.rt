@@ -15,7 +15,7 @@ use swp08_messages::Point;
 use tally::Roots;
 
 // Two mixers, the second bus of the first with a switch. Destination 0 is on air, 1 on preview, and displays 0 and 1 watch
-// 2 and 3.
+// 2 and 3. One tie-line leads to another router, and is kept for masters.
 pub(crate) const STUDIO: &str = r#"title = "Studio"
 [[level]]
 matrix = 0
@@ -28,6 +28,29 @@ matrix = 0
 level = 1
 sources = 2
 destinations = 4
+[[level]]
+matrix = 1
+level = 0
+sources = 24
+destinations = 16
+[[remote]]
+matrix = 1
+level = 0
+source = 16
+from = 0
+from_source = 3
+[[remote]]
+matrix = 1
+level = 0
+source = 17
+from = 0
+from_source = 2
+[[pool]]
+from = 0
+to = 1
+level = 0
+ties = 1
+reserve = 1
 [[device]]
 name = "ME1"
 matrix = 0
@@ -169,7 +192,7 @@ fn are_told(rt: &impl Abort, state: &mut PlantState, out: &mut OutBox<Answer>)
     for (connects, refresh, shown) in ROWS {
         connect_all(rt, state, out, connects);
         ask(rt, state, out, &shows(refresh));
-        assert_eq!(rt; out.items().len(), shown.len());
+        assert!(rt; out.items().len() == shown.len());
         assert!(rt;
             out.items()
                 .iter()
@@ -190,7 +213,7 @@ fn are_finished(rt: &impl Abort, state: &mut PlantState, out: &mut OutBox<Answer
         ask(rt, state, out, &Request::Leave { panel });
     }
     ask(rt, state, out, &shows(false));
-    assert_eq!(rt; out.items(), [Answer::Finished].as_slice());
+    assert!(rt; out.items() == [Answer::Finished].as_slice());
 }
 
 #[test]
@@ -227,7 +250,7 @@ fn are_counted(rt: &impl Abort, state: &mut PlantState, out: &mut OutBox<Answer>
 {
     for (refresh, count) in [(false, 64), (false, 6), (false, 0), (true, 64)] {
         ask(rt, state, out, &shows(refresh));
-        assert_eq!(rt; out.items().len(), count);
+        assert!(rt; out.items().len() == count);
     }
 }
 

@@ -7,25 +7,34 @@ use super::{Act, ask, request_of};
 use history_lock::{Machine, OutBox};
 use plant_config::{DestId, Plant, SourceId};
 use plant_core::{Answer, PlantState};
-use std::alloc::Global;
 use std::process::Abort;
 use std::test::Fail;
 use swp08_messages::Point;
 
 // Level 0 of all 16 matrices, each with 32 sources and 1,024 destinations. Destination 0 of matrix 0 is on air.
-fn largest(alloc: Global) -> Result<Plant, Fail> {
-    let mut text = String::from_str(
-        alloc,
-        "title = \"Long\"\n[[air]]\nmatrix = 0\ndestination = 0\n[[panel]]\ndevice = 1\nport = 9001\n",
-    )?;
-    for matrix in 0..16_u32 {
-        let level = format!(in alloc;
-            "[[level]]\nmatrix = {matrix}\nlevel = 0\nsources = 32\ndestinations = 1024\n"
-        )?;
-        text.push_str(&level)?;
-    }
-    Ok(Plant::from_toml(alloc, text.as_bytes())?)
-}
+const LARGEST: &[u8] = br#"
+title = "Long"
+level = [
+    { matrix = 0, level = 0, sources = 32, destinations = 1024 },
+    { matrix = 1, level = 0, sources = 32, destinations = 1024 },
+    { matrix = 2, level = 0, sources = 32, destinations = 1024 },
+    { matrix = 3, level = 0, sources = 32, destinations = 1024 },
+    { matrix = 4, level = 0, sources = 32, destinations = 1024 },
+    { matrix = 5, level = 0, sources = 32, destinations = 1024 },
+    { matrix = 6, level = 0, sources = 32, destinations = 1024 },
+    { matrix = 7, level = 0, sources = 32, destinations = 1024 },
+    { matrix = 8, level = 0, sources = 32, destinations = 1024 },
+    { matrix = 9, level = 0, sources = 32, destinations = 1024 },
+    { matrix = 10, level = 0, sources = 32, destinations = 1024 },
+    { matrix = 11, level = 0, sources = 32, destinations = 1024 },
+    { matrix = 12, level = 0, sources = 32, destinations = 1024 },
+    { matrix = 13, level = 0, sources = 32, destinations = 1024 },
+    { matrix = 14, level = 0, sources = 32, destinations = 1024 },
+    { matrix = 15, level = 0, sources = 32, destinations = 1024 },
+]
+air = [{ matrix = 0, destination = 0 }]
+panel = [{ device = 1, port = 9001 }]
+"#;
 
 // Destination 5 of matrix 0 carries source 1 and source 2 in turn.
 fn take_turns(rt: &impl Abort, state: &mut PlantState, out: &mut OutBox<Answer>, turns: u32)
@@ -46,10 +55,10 @@ fn take_turns(rt: &impl Abort, state: &mut PlantState, out: &mut OutBox<Answer>,
 
 #[test]
 fn a_step_costs_the_same_on_many_destinations(rt: HostRuntime) -> Result<(), Fail> {
-    let plant = largest(rt.alloc())?;
+    let plant = Plant::from_toml(rt.alloc(), LARGEST)?;
     let mut state = PlantState::start(rt.alloc(), &plant)?;
     let mut out = OutBox::new(rt.alloc(), state.room())?;
     take_turns(&rt, &mut state, &mut out, 2_000_000);
-    assert_eq!(rt; state.source_at(DestId::of(5)), Some(SourceId::of(2)));
+    assert!(rt; state.source_at(DestId::of(5)) == Some(SourceId::of(2)));
     Ok(())
 }
