@@ -1,5 +1,8 @@
 //! Runs over files and an output in memory, by subject.
 
+ghost use Rattle.std.specs.Prelude.{IfOk};
+ghost use Rattle.ctl_io.specs.Memory.{IsNewSource};
+
 mod audits;
 mod calls_fail;
 mod changes;
@@ -8,13 +11,13 @@ mod ends;
 mod frames;
 mod limits;
 mod plants;
-mod replays;
 mod services;
 mod sessions;
+mod streams;
 mod ties;
 mod words;
 
-use commands::{run, run_quiet};
+use commands::run;
 use ctl_io::{Bytes, MemFiles, MemSink, MemSource, NamedSource};
 use ctl_net::{MemNet, OpenGate};
 use std::alloc::{AllocError, Global};
@@ -24,82 +27,147 @@ use std::thread::Threads;
 // The number of a call that is never made.
 const NEVER: u64 = u64::MAX;
 
-const REPLAY: [&str; 3] = ["replay", "bench", "script"];
+// The room of an output.
+const ROOM: usize = 100_000;
 
-// Which read of the script and which write of the output fail.
+const REPLAY: &[&str] = &["replay", "bench", "script"];
+
+const AUDIT: &[&str] = &["audit", "bench", "script"];
+
+// A file: its name and its text.
+type File<'a> = (&'a str, &'a [u8]);
+
+// The calls that fail, by their numbers: an opening of a file, a read of the file at a place, and a write of the output.
 #[derive(Clone, Copy)]
 struct Failing {
+    opening: u64,
+    place: usize,
     read: u64,
     write: u64,
 }
 
 const NOTHING: Failing = Failing {
+    opening: NEVER,
+    place: 0,
     read: NEVER,
     write: NEVER,
 };
 
-// Files with this script alone, of which one read fails.
-fn files_with(alloc: Global, script: Vec<u8>, failing: u64) -> Result<MemFiles, AllocError> {
-    let file = NamedSource {
-        name: Bytes::of(b"script".to_vec(alloc)?),
-        source: MemSource::new(alloc, script, vec![in alloc; failing]?)?,
-    };
-    let files = vec![in alloc; file]?;
-    MemFiles::new(alloc, files, Vec::new(alloc), 1, Vec::new(alloc))
-}
-
-// Runs these words over this script: the status, and the output.
-fn outcome(
-    alloc: Global,
-    words: &[&str],
-    script: Vec<u8>,
-    failing: Failing,
-) -> Result<(u8, MemSink), AllocError> {
-    let mut files = files_with(alloc, script, failing.read)?;
-    let mut out = MemSink::new(alloc, 1000, vec![in alloc; failing.write]?)?;
-    let status = run_quiet(alloc, &owned(alloc, words)?, &mut files, &mut out);
-    Ok((status, out))
+// What a run left.
+#[derive(Drop)]
+struct Ran {
+    status: u8,
+    files: MemFiles,
+    out: MemSink,
 }
 
 // Words, and the status and the output of a run with them.
 type Run = (&'static [&'static str], u8, &'static str);
 
-// The first of these runs over files with these texts that ends otherwise, or `None` where all end so.
+// The first of these runs over these files that ends otherwise, or `None` where all end so.
 fn first_wrong<R: Threads + Wait + Sync>(
     rt: &R,
     alloc: Global,
-    texts: &[(&str, &str)],
+    files: &[File<'_>],
     runs: &[Run],
 ) -> Result<Option<usize>, AllocError> {
-    for at in 0..runs.len() {
-        let (words, status, output) = runs[at];
-        let mut files = files_of(alloc, texts)?;
-        let mut out = MemSink::new(alloc, 1000, Vec::new(alloc))?;
-        let words = owned(alloc, words)?;
-        let mut net = no_net(alloc)?;
-        let found = run(rt, alloc, &words, &mut files, &mut net, &OpenGate, &mut out);
-        if found != status || out.written() != output.as_bytes() {
+    for (at, (words, status, output)) in runs.iter().enumerate() {
+        if !ends_so(rt, alloc, words, files, NOTHING, *status, output)? {
             return Ok(Some(at));
         }
     }
     Ok(None)
 }
 
-// A net that refuses each opening.
-fn no_net(alloc: Global) -> Result<MemNet, AllocError> {
-    MemNet::new(alloc, Vec::new(alloc), Vec::new(alloc), 0, Vec::new(alloc))
+// Whether a replay of this script on the bench plant ends with this status and this output.
+fn replays_so<R: Threads + Wait + Sync>(
+    rt: &R,
+    alloc: Global,
+    script: &[u8],
+    status: u8,
+    output: &str,
+) -> Result<bool, AllocError> {
+    ends_so(
+        rt,
+        alloc,
+        REPLAY,
+        &[("script", script)],
+        NOTHING,
+        status,
+        output,
+    )
 }
 
-// Files with these texts, each under its name.
-fn files_of(alloc: Global, texts: &[(&str, &str)]) -> Result<MemFiles, AllocError> {
-    let mut files = Vec::new(alloc);
-    for (name, text) in texts {
-        files.push(NamedSource {
-            name: Bytes::of(name.as_bytes().to_vec(alloc)?),
-            source: MemSource::new(alloc, text.as_bytes().to_vec(alloc)?, Vec::new(alloc))?,
-        })?;
+// Whether a run with these words over these files ends with this status and this output.
+fn ends_so<R: Threads + Wait + Sync>(
+    rt: &R,
+    alloc: Global,
+    words: &[&str],
+    files: &[File<'_>],
+    failing: Failing,
+    status: u8,
+    output: &str,
+) -> Result<bool, AllocError> {
+    let ran = run_over(rt, alloc, words, files, failing)?;
+    Ok(ran.status == status && ran.out.written() == output.as_bytes())
+}
+
+// Runs these words over these files, without a net.
+fn run_over<R: Threads + Wait + Sync>(
+    rt: &R,
+    alloc: Global,
+    words: &[&str],
+    files: &[File<'_>],
+    failing: Failing,
+) -> Result<Ran, AllocError> {
+    let mut files = files_of(alloc, files, failing)?;
+    let mut net = MemNet::new(alloc, Vec::new(alloc), Vec::new(alloc), 0, Vec::new(alloc))?;
+    let (status, out) = worked(rt, alloc, words, &mut files, &mut net, failing.write)?;
+    Ok(Ran { status, files, out })
+}
+
+// Runs these words over files and a net: the status, and the output, of which a write fails.
+fn worked<R: Threads + Wait + Sync>(
+    rt: &R,
+    alloc: Global,
+    words: &[&str],
+    files: &mut MemFiles,
+    net: &mut MemNet,
+    write: u64,
+) -> Result<(u8, MemSink), AllocError> {
+    let words = owned(alloc, words)?;
+    let mut out = MemSink::new(alloc, ROOM, vec![in alloc; write]?)?;
+    let status = run(rt, alloc, &words, files, net, &OpenGate, &mut out);
+    Ok((status, out))
+}
+
+// These files as sources.
+fn files_of(alloc: Global, files: &[File<'_>], failing: Failing) -> Result<MemFiles, AllocError> {
+    let mut sources = Vec::new(alloc);
+    for (place, (name, text)) in files.iter().enumerate() {
+        let read = if place == failing.place {
+            failing.read
+        } else {
+            NEVER
+        };
+        sources.push(source_of(alloc, name, text, read)?)?;
     }
-    MemFiles::new(alloc, files, Vec::new(alloc), texts.len(), Vec::new(alloc))
+    let openings = vec![in alloc; failing.opening]?;
+    MemFiles::new(alloc, sources, Vec::new(alloc), files.len(), openings)
+}
+
+// A source of this name and text, of which a read fails.
+fn source_of(
+    alloc: Global,
+    name: &str,
+    text: &[u8],
+    failing: u64,
+) -> Result<NamedSource, AllocError>
+    ensures { IfOk result (λ entry. IsNewSource entry.source) }
+{
+    let source = MemSource::new(alloc, text.to_vec(alloc)?, vec![in alloc; failing]?)?;
+    let name = Bytes::of(name.as_bytes().to_vec(alloc)?);
+    Ok(NamedSource { name, source })
 }
 
 // The words as the program has them.

@@ -2,25 +2,33 @@
 
 use commands::run_quiet;
 use ctl_io::{Bytes, MemFiles, MemSink, MemSource, NamedSource};
+use std::alloc::{AllocError, Global};
 use std::test::Fail;
 
-#[test]
-fn a_script_is_replayed(rt: HostRuntime) -> Result<(), Fail> {
-    let alloc = rt.alloc();
-    // Panel 0 interrogates destination 5.
+// Files with a script in which panel 0 interrogates destination 5.
+fn files_with_script(alloc: Global) -> Result<MemFiles, AllocError> {
     let script = b"> 0 10 02 01 00 00 05 04 F6 10 03\n".to_vec(alloc)?;
-    let file = NamedSource {
-        name: Bytes::of(b"first.txt".to_vec(alloc)?),
-        source: MemSource::new(alloc, script, Vec::new(alloc))?,
-    };
-    let sources = vec![in alloc; file]?;
-    let mut files = MemFiles::new(alloc, sources, Vec::new(alloc), 1, Vec::new(alloc))?;
-    let mut out = MemSink::new(alloc, 100, Vec::new(alloc))?;
+    let source = MemSource::new(alloc, script, Vec::new(alloc))?;
+    let name = Bytes::of(b"first.txt".to_vec(alloc)?);
+    let sources = vec![in alloc; NamedSource { name, source }]?;
+    MemFiles::new(alloc, sources, Vec::new(alloc), 1, Vec::new(alloc))
+}
 
+// The words of the command line.
+fn command_line(alloc: Global) -> Result<Vec<String>, AllocError> {
     let mut words = Vec::new(alloc);
     for word in ["replay", "bench", "first.txt"] {
         words.push(String::from_str(alloc, word)?)?;
     }
+    Ok(words)
+}
+
+#[test]
+fn a_script_is_replayed(rt: HostRuntime) -> Result<(), Fail> {
+    let alloc = rt.alloc();
+    let words = command_line(alloc)?;
+    let mut files = files_with_script(alloc)?;
+    let mut out = MemSink::new(alloc, 100, Vec::new(alloc))?;
     assert_eq!(rt; run_quiet(alloc, &words, &mut files, &mut out), 0);
     // The plant acknowledges, and answers that it is parked.
     assert_eq!(rt;

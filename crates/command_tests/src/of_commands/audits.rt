@@ -1,52 +1,53 @@
 //! Traces that are audited.
 
-use super::{Run, files_of, first_wrong, owned};
-use commands::run_quiet;
-use ctl_io::MemSink;
+use super::{File, NOTHING, Run, ends_so, first_wrong};
 use std::test::Fail;
 
-const SMALL: &str = "title = \"Small\"\n\
+const SMALL: &[u8] = b"title = \"Small\"\n\
     [[level]]\nmatrix = 0\nlevel = 0\nsources = 4\ndestinations = 3\n\
     [[panel]]\ndevice = 1\nport = 9001\n";
 
 // A history of the bench plant: panel 0 connects a destination, has no notice, and panel 1 has one.
-pub(super) const WHOLE: &str = "0 told 0 0 0200000503 = 1002040000050305EF1003\n\
+pub(super) const WHOLE: &[u8] = b"0 told 0 0 0200000503 = 1002040000050305EF1003\n\
     1 poll 0 1 0 = -\n\
     2 poll 1 0 0 = 1002040000050305EF1003\n\
     3 poll 1 0 0 = -\n";
 
 // What the files hold. Of two with one name the first opening finds the first.
-const FILES: [(&str, &str); 20] = [
+const FILES: [File<'static>; 20] = [
     ("whole", WHOLE),
-    ("line 0", "0 told 0 0 0200000503 = 1002040000050305EF1003\n"),
-    ("line 1", "1 poll 0 1 0 = -\n"),
-    ("line 2", "2 poll 1 0 0 = 1002040000050305EF1003\n"),
-    ("line 3", "3 poll 1 0 0 = -\n"),
+    (
+        "line 0",
+        b"0 told 0 0 0200000503 = 1002040000050305EF1003\n",
+    ),
+    ("line 1", b"1 poll 0 1 0 = -\n"),
+    ("line 2", b"2 poll 1 0 0 = 1002040000050305EF1003\n"),
+    ("line 3", b"3 poll 1 0 0 = -\n"),
     // The last line lacks its LF.
-    ("open 0", "0 told 0 0 0200000503 = 1002040000050305EF1003"),
-    ("open 3 1", "3 poll 1 0 0 = -\n1 poll 0 1 0 = -"),
-    ("again 2", "2 poll 1 0 0 = 1002040000050305EF1003\n"),
+    ("open 0", b"0 told 0 0 0200000503 = 1002040000050305EF1003"),
+    ("open 3 1", b"3 poll 1 0 0 = -\n1 poll 0 1 0 = -"),
+    ("again 2", b"2 poll 1 0 0 = 1002040000050305EF1003\n"),
     (
         "other 0",
-        "0 told 0 0 0200000503 = 1002040000050405EE1003\n",
+        b"0 told 0 0 0200000503 = 1002040000050405EE1003\n",
     ),
-    ("other 2", "2 poll 1 0 0 = -"),
-    ("no line", "x"),
-    ("empty line", "\n"),
-    ("empty", ""),
+    ("other 2", b"2 poll 1 0 0 = -"),
+    ("no line", b"x"),
+    ("empty line", b"\n"),
+    ("empty", b""),
     (
         "half",
-        "0 told 0 0 0200000503 = 1002040000050305EF1003\n1 poll 0 1 0 = -",
+        b"0 told 0 0 0200000503 = 1002040000050305EF1003\n1 poll 0 1 0 = -",
     ),
     (
         "half",
-        "2 poll 1 0 0 = 1002040000050305EF1003\n3 poll 1 0 0 = -",
+        b"2 poll 1 0 0 = 1002040000050305EF1003\n3 poll 1 0 0 = -",
     ),
     ("small", SMALL),
     ("both", SMALL),
-    ("both", "0 told 0 0 01000002 = -\n"),
-    ("both", "1 leave 0 = -\n"),
-    ("faulty", "title = 1\n"),
+    ("both", b"0 told 0 0 01000002 = -\n"),
+    ("both", b"1 leave 0 = -\n"),
+    ("faulty", b"title = 1\n"),
 ];
 
 // Runs over these files.
@@ -184,7 +185,7 @@ const COUNTS: [(usize, u8, &str); 2] = [
     (
         201,
         2,
-        "usage: plantctl check PLANT, replay PLANT SCRIPT, audit PLANT TRACE.., serve PLANT [PREFIX], drill NUMBER PANELS MESSAGES\n",
+        "usage: plantctl check PLANT, replay PLANT SCRIPT, audit PLANT TRACE.., serve PLANT [PREFIX], drill NUMBER PANELS MESSAGES, stream PLANT SCRIPT OUT, monitor FILE\n",
     ),
 ];
 
@@ -192,18 +193,10 @@ const COUNTS: [(usize, u8, &str); 2] = [
 fn an_audit_has_at_most_200_traces(rt: HostRuntime) -> Result<(), Fail> {
     let alloc = rt.alloc();
     for (count, status, output) in COUNTS {
-        let texts = vec![in alloc; ("empty", ""); count]?;
-        let mut files = files_of(alloc, texts.as_slice())?;
-        let mut out = MemSink::new(alloc, 1000, Vec::new(alloc))?;
-        let mut words = owned(alloc, &["audit", "bench"])?;
-        for _ in 0..count {
-            words.push(String::from_str(alloc, "empty")?)?;
-        }
-        let found = run_quiet(alloc, &words, &mut files, &mut out);
-        assert_eq!(rt; out.written(), output.as_bytes());
-        assert_eq!(rt; found, status);
+        let files = vec![in alloc; ("empty", b"".as_slice()); count]?;
+        let mut words = ["audit", "bench"].to_vec(alloc)?;
+        words.resize(count + 2, "empty")?;
+        assert!(rt; ends_so(&rt, alloc, &words, &files, NOTHING, status, output)?);
     }
     Ok(())
 }
-
-pub(super) const AUDIT: [&str; 3] = ["audit", "bench", "script"];

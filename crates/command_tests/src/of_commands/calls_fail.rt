@@ -1,53 +1,38 @@
 //! Each call to the outside of `check`, `replay` and `audit` fails once, at each place where it can.
 
-ghost use Rattle.std.specs.Prelude.{IfOk};
-ghost use Rattle.ctl_io.specs.MemFiles.{AreNewSources};
-
-use super::{NEVER, owned};
-use commands::run_quiet;
-use ctl_io::{Bytes, MemFiles, MemSink, MemSource, NamedSource};
+use super::{Failing, File, NOTHING, Ran, run_over};
 use std::alloc::{AllocError, Global};
+use std::sync::Wait;
 use std::test::Fail;
+use std::thread::Threads;
 
-// A file, and the line that says its fault.
-struct File {
-    name: &'static str,
-    text: &'static str,
-    fault: &'static str,
-}
-
-// A command: its words, the files that it opens, in order, and its whole output.
+// A command: its words, the files that it opens, in order, the line that says the fault of each, and its whole output.
 struct Command {
     words: &'static [&'static str],
-    files: &'static [File],
+    files: &'static [File<'static>],
+    faults: &'static [&'static str],
     output: &'static str,
 }
 
-const PLANT: File = File {
-    name: "plant",
-    text: "title = \"Small\"\n\
+const PLANT: File<'static> = (
+    "plant",
+    b"title = \"Small\"\n\
         [[level]]\nmatrix = 0\nlevel = 0\nsources = 4\ndestinations = 3\n\
         [[panel]]\ndevice = 1\nport = 9001\n",
-    fault: "file plant fault\n",
-};
+);
 
 const CHECK: Command = Command {
     words: &["check", "plant"],
     files: &[PLANT],
+    faults: &["file plant fault\n"],
     output: "plant Small\nlevels 1\nsources 4\ndestinations 3\npools 0\nties 0\ndevices 0\nbuses 0\n\
         displays 0\npanels 1\n",
 };
 
 const REPLAY: Command = Command {
     words: &["replay", "plant", "script"],
-    files: &[
-        PLANT,
-        File {
-            name: "script",
-            text: "> 0 00\npoll 0\n> 0 1003\n",
-            fault: "file script fault\n",
-        },
-    ],
+    files: &[PLANT, ("script", b"> 0 00\npoll 0\n> 0 1003\n")],
+    faults: &["file plant fault\n", "file script fault\n"],
     output: "< 0 -\n< 0 -\n< 0 -\n",
 };
 
@@ -55,16 +40,13 @@ const AUDIT: Command = Command {
     words: &["audit", "plant", "one", "other"],
     files: &[
         PLANT,
-        File {
-            name: "one",
-            text: "1 leave 0 = -\n",
-            fault: "file one fault\n",
-        },
-        File {
-            name: "other",
-            text: "0 poll 0 1 0 = -\n2 leave 0 = -\n",
-            fault: "file other fault\n",
-        },
+        ("one", b"1 leave 0 = -\n"),
+        ("other", b"0 poll 0 1 0 = -\n2 leave 0 = -\n"),
+    ],
+    faults: &[
+        "file plant fault\n",
+        "file one fault\n",
+        "file other fault\n",
     ],
     output: "confirmed 3\n",
 };
@@ -96,56 +78,23 @@ const TABLE: [(&Command, Calls, u64); 12] = [
 // More calls of a kind than a command here makes.
 const MANY: u64 = 32;
 
-// What a run left.
-#[derive(Drop)]
-struct Ran {
-    status: u8,
-    files: MemFiles,
-    out: MemSink,
-}
-
-// The files as sources. Of that at a place the read of this number fails.
-fn sources_of(
-    alloc: Global,
-    files: &[File],
-    failing: usize,
-    read: u64,
-) -> Result<Vec<NamedSource>, AllocError>
-    ensures { IfOk result (λ sources. AreNewSources sources.items) }
-{
-    let mut sources = Vec::new(alloc);
-    for (place, file) in files.iter().enumerate() {
-        let read = if place == failing { read } else { NEVER };
-        sources.push(NamedSource {
-            name: Bytes::of(file.name.as_bytes().to_vec(alloc)?),
-            source: MemSource::new(
-                alloc,
-                file.text.as_bytes().to_vec(alloc)?,
-                vec![in alloc; read]?,
-            )?,
-        })?;
+// The call of this kind and number.
+fn failing_of(calls: Calls, number: u64) -> Failing {
+    match calls {
+        Calls::Openings => Failing {
+            opening: number,
+            ..NOTHING
+        },
+        Calls::Reads(place) => Failing {
+            place,
+            read: number,
+            ..NOTHING
+        },
+        Calls::Writes => Failing {
+            write: number,
+            ..NOTHING
+        },
     }
-    Ok(sources)
-}
-
-// Runs a command of which the call of this kind and number fails.
-fn run_failing(
-    alloc: Global,
-    command: &Command,
-    calls: Calls,
-    number: u64,
-) -> Result<Ran, AllocError> {
-    let (opening, place, read, write) = match calls {
-        Calls::Openings => (number, 0, NEVER, NEVER),
-        Calls::Reads(place) => (NEVER, place, number, NEVER),
-        Calls::Writes => (NEVER, 0, NEVER, number),
-    };
-    let sources = sources_of(alloc, command.files, place, read)?;
-    let mut files = MemFiles::new(alloc, sources, Vec::new(alloc), 3, vec![in alloc; opening]?)?;
-    let mut out = MemSink::new(alloc, 1000, vec![in alloc; write]?)?;
-    let words = owned(alloc, command.words)?;
-    let status = run_quiet(alloc, &words, &mut files, &mut out);
-    Ok(Ran { status, files, out })
 }
 
 // Whether a run was whole: no call failed, and each file was given back.
@@ -159,11 +108,11 @@ fn is_whole(ran: &Ran, command: &Command) -> bool {
 
 // Whether a run was stopped by a fault of the file at a place, once so many files had been given back.
 fn is_stopped(ran: &Ran, command: &Command, place: usize, back: usize) -> bool {
-    let Some(file) = command.files.get(place) else {
+    let Some(fault) = command.faults.get(place) else {
         return false;
     };
     ran.status == 3
-        && ran.out.written() == file.fault.as_bytes()
+        && ran.out.written() == fault.as_bytes()
         && ran.out.faults() == 0
         && ran.files.faults() == 1
         && ran.files.sources_back().len() == back
@@ -179,19 +128,29 @@ fn is_cut(ran: &Ran, command: &Command) -> bool {
         && ran.files.sources_back().len() == command.files.len()
 }
 
+// Whether a run of which the call of this kind and number failed ended as it should.
+fn is_ended(ran: &Ran, command: &Command, calls: Calls, number: u64) -> bool {
+    match calls {
+        Calls::Openings => is_stopped(ran, command, number as usize, number as usize),
+        Calls::Reads(place) => is_stopped(ran, command, place, place.saturating_add(1)),
+        Calls::Writes => is_cut(ran, command),
+    }
+}
+
 // How many calls of a kind a command makes, where each of them ends it as it should when it fails.
-fn ending_calls(alloc: Global, command: &Command, calls: Calls) -> Result<Option<u64>, AllocError> {
+fn ending_calls<R: Threads + Wait + Sync>(
+    rt: &R,
+    alloc: Global,
+    command: &Command,
+    calls: Calls,
+) -> Result<Option<u64>, AllocError> {
     for number in 0..MANY {
-        let ran = run_failing(alloc, command, calls, number)?;
+        let failing = failing_of(calls, number);
+        let ran = run_over(rt, alloc, command.words, command.files, failing)?;
         if is_whole(&ran, command) {
             return Ok(Some(number));
         }
-        let ended = match calls {
-            Calls::Openings => is_stopped(&ran, command, number as usize, number as usize),
-            Calls::Reads(place) => is_stopped(&ran, command, place, place.saturating_add(1)),
-            Calls::Writes => is_cut(&ran, command),
-        };
-        if !ended {
+        if !is_ended(&ran, command, calls, number) {
             return Ok(None);
         }
     }
@@ -202,7 +161,7 @@ fn ending_calls(alloc: Global, command: &Command, calls: Calls) -> Result<Option
 fn each_call_fails(rt: HostRuntime) -> Result<(), Fail> {
     let alloc = rt.alloc();
     for (command, calls, count) in TABLE {
-        assert_eq!(rt; ending_calls(alloc, command, calls)?, Some(count));
+        assert_eq!(rt; ending_calls(&rt, alloc, command, calls)?, Some(count));
     }
     Ok(())
 }

@@ -1,7 +1,7 @@
 //! A trace of which one byte is changed.
 
-use super::audits::{AUDIT, WHOLE};
-use super::{NOTHING, outcome};
+use super::audits::WHOLE;
+use super::{AUDIT, NOTHING, run_over};
 use std::alloc::{AllocError, Global};
 use std::test::Fail;
 
@@ -15,7 +15,7 @@ const BYTES: &[u8] = b"0123456789ABCDEFa -=\n\t";
 
 // The whole trace with this byte at that place.
 fn changed(alloc: Global, place: usize, byte: u8) -> Result<Vec<u8>, AllocError> {
-    let mut trace = WHOLE.as_bytes().to_vec(alloc)?;
+    let mut trace = WHOLE.to_vec(alloc)?;
     if let Some(old) = trace.get_mut(place) {
         *old = byte;
     }
@@ -24,7 +24,7 @@ fn changed(alloc: Global, place: usize, byte: u8) -> Result<Vec<u8>, AllocError>
 
 // Whether that is a history of the bench plant too.
 fn is_history(place: usize, byte: u8) -> bool {
-    let same = WHOLE.as_bytes().get(place).copied() == Some(byte);
+    let same = WHOLE.get(place).copied() == Some(byte);
     let number = NUMBERS.as_slice().contains(&place) && byte.is_ascii_digit();
     same || number || (place == PANEL && (byte == b'0' || byte == b'1'))
 }
@@ -35,8 +35,8 @@ fn a_trace_with_one_byte_changed_is_not_confirmed(rt: HostRuntime) -> Result<(),
     for place in 0..WHOLE.len() {
         for byte in BYTES {
             let trace = changed(alloc, place, *byte)?;
-            let (status, _out) = outcome(alloc, &AUDIT, trace, NOTHING)?;
-            assert_eq!(rt; status == 0, is_history(place, *byte), "{place}");
+            let ran = run_over(&rt, alloc, AUDIT, &[("script", &trace)], NOTHING)?;
+            assert_eq!(rt; ran.status == 0, is_history(place, *byte), "{place}");
         }
     }
     Ok(())

@@ -1,13 +1,12 @@
 //! A usual day: four routers with tie-lines between them, three mixers, and three screens.
 
-use super::{files_of, owned};
-use commands::run_quiet;
-use ctl_io::MemSink;
+use super::{NOTHING, run_over};
+use std::alloc::{AllocError, Global};
 use std::test::Fail;
 
 // Four matrices of 200 sources and 150 destinations, and a control level of 12 switches. A pool of four tie-lines leads
 // from each matrix to each other one, three mixers have six buses, and 24 displays are on three screens.
-const PLANT: &str = r#"
+const PLANT: &[u8] = br#"
 title = "Day"
 level = [
     { matrix = 0, level = 0, sources = 200, destinations = 150 },
@@ -89,7 +88,7 @@ panel = [
 "#;
 
 // Twenty lines of work of eight panels: connects and takes on air and off it, a salvo, polls of panels and of screens.
-const LINES: &str = "> 0 1002020001004405B41003\n\
+const LINES: &[u8] = b"> 0 1002020001004405B41003\n\
     > 1 10020200000A0505EA1003\n\
     take 2 0 0\tD20\tS5\n\
     show 0\n\
@@ -110,19 +109,23 @@ const LINES: &str = "> 0 1002020001004405B41003\n\
     show 0\n\
     refresh 1\n";
 
+// So often these lines.
+fn repeated(alloc: Global, times: usize) -> Result<Vec<u8>, AllocError> {
+    let mut script = Vec::new(alloc);
+    for _ in 0..times {
+        script.extend_from_slice(LINES)?;
+    }
+    Ok(script)
+}
+
 #[test]
 fn a_usual_day_is_worked_to_its_end(rt: HostRuntime) -> Result<(), Fail> {
     let alloc = rt.alloc();
-    let mut script = String::new(alloc);
-    for _ in 0..10 {
-        script.push_str(LINES)?;
-    }
-    let texts = [("day", PLANT), ("script", script.as_str())];
-    let mut files = files_of(alloc, texts.as_slice())?;
-    let mut out = MemSink::new(alloc, 100_000, Vec::new(alloc))?;
-    let words = owned(alloc, ["replay", "day", "script"].as_slice())?;
-    assert_eq!(rt; run_quiet(alloc, &words, &mut files, &mut out), 0);
-    let lines = out.written().iter().filter(|byte| **byte == b'\n');
+    let script = repeated(alloc, 10)?;
+    let files = [("day", PLANT), ("script", script.as_slice())];
+    let ran = run_over(&rt, alloc, &["replay", "day", "script"], &files, NOTHING)?;
+    assert_eq!(rt; ran.status, 0);
+    let lines = ran.out.written().iter().filter(|byte| **byte == b'\n');
     assert_eq!(rt; lines.count(), 200);
     Ok(())
 }

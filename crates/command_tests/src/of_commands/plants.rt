@@ -1,9 +1,9 @@
 //! Plant files: what is said of them, and what ends a run at them.
 
-use super::{Run, first_wrong};
+use super::{File, Run, first_wrong};
 use std::test::Fail;
 
-const SMALL: &str = "title = \"Small\"\n\
+const SMALL: &[u8] = b"title = \"Small\"\n\
     [[level]]\nmatrix = 2\nlevel = 0\nsources = 4\ndestinations = 3\n\
     [[level]]\nmatrix = 0\nlevel = 1\nsources = 2\ndestinations = 1\n\
     [[device]]\nname = \"ME\"\nmatrix = 2\nsource = 3\n\
@@ -14,7 +14,7 @@ const SMALL: &str = "title = \"Small\"\n\
     [[panel]]\ndevice = 1\nport = 9001\n";
 
 // A plant in which source 1 of matrix 1 stands for source 0 of matrix 0.
-const REMOTE: &str = "title = \"Remote\"\n\
+const REMOTE: &[u8] = b"title = \"Remote\"\n\
     [[level]]\nmatrix = 0\nlevel = 0\nsources = 2\ndestinations = 2\n\
     [[level]]\nmatrix = 1\nlevel = 0\nsources = 2\ndestinations = 2\n\
     [[remote]]\nmatrix = 1\nlevel = 0\nsource = 1\nfrom = 0\nfrom_source = 0\n\
@@ -22,25 +22,40 @@ const REMOTE: &str = "title = \"Remote\"\n\
     [[pool]]\nfrom = 1\nto = 0\nlevel = 0\nties = 4\n\
     [[panel]]\ndevice = 1\nport = 9001\n";
 
-const FAULTY: &str = "title = \"Faulty\"\n\
-    [[level]]\nmatrix = 0\nlevel = 0\nsources = 2000\ndestinations = 2\n\
+const FAULTY: &[u8] = b"title = \"Faulty\"\n\
+    [[level]]\nmatrix = 0\nlevel = 0\nsources = 70000\ndestinations = 2\n\
     [[panel]]\ndevice = 1\nport = 9001\n";
 
-// Interrogate 2 of matrix 2.
-const SCRIPT: &str = "> 0 10020120000204D91003\n";
+// A wide level.
+const WIDE: &[u8] = b"title = \"W\"\n\
+    [[level]]\nmatrix = 0\nlevel = 0\nsources = 2000\ndestinations = 3000\n\
+    [[panel]]\ndevice = 1\nport = 9001\n\
+    [[panel]]\ndevice = 2\nport = 9002\nmaster = true\n";
 
-const FILES: [(&str, &str); 7] = [
+// Extended commands: connect 2000 and 5 to 1500. Destination 5 is asked for by an interrogate that isn't extended, and 3000,
+// which the plant lacks, by one that is. Two more have a byte less, and matrix 16.
+const NUMBERS: &[u8] = b"> 0 10 02 82 00 00 07 D0 05 DC 07 BF 10 03\n\
+    > 0 10 02 82 00 00 00 05 05 DC 07 91 10 03\n> 0 10 02 01 00 00 05 04 F6 10 03\n\
+    > 0 10 02 81 00 00 0B B8 05 B7 10 03\n\
+    > 0 1002820000000505066E1003\n> 0 100281101000000505651003\n";
+
+// Interrogate 2 of matrix 2.
+const SCRIPT: &[u8] = b"> 0 10020120000204D91003\n";
+
+const FILES: [File<'static>; 9] = [
     ("small", SMALL),
     ("remote", REMOTE),
     ("faulty", FAULTY),
-    ("empty", ""),
+    ("wide", WIDE),
+    ("numbers", NUMBERS),
+    ("empty", b""),
     ("script", SCRIPT),
     ("both", SMALL),
-    ("both", "poll 0\n"),
+    ("both", b"poll 0\n"),
 ];
 
 // Runs over these files.
-const RUNS: [Run; 14] = [
+const RUNS: [Run; 15] = [
     (
         &["check", "bench"],
         0,
@@ -62,7 +77,7 @@ const RUNS: [Run; 14] = [
     (
         &["check", "faulty"],
         4,
-        "plant refused: OutOfRange at level 0 sources: 2000 not in 1 to 1023\n",
+        "plant refused: OutOfRange at level 0 sources: 70000 not in 1 to 65535\n",
     ),
     (
         &["check", "empty"],
@@ -83,11 +98,18 @@ const RUNS: [Run; 14] = [
         0,
         "< 0 10061002032007027F05501003\n",
     ),
+    (
+        &["replay", "wide", "numbers"],
+        0,
+        "< 0 1006100284000007D005DC07BD1003\n< 0 10061002840000000505DC078F1003\n\
+         < 0 10061002830000000505DC07901003\n< 0 100610028300000BB8FFFF07B51003\n\
+         < 0 1006\n< 0 1006\n",
+    ),
     // The plant's fault is told before the script is looked for.
     (
         &["replay", "faulty", "nowhere"],
         4,
-        "plant refused: OutOfRange at level 0 sources: 2000 not in 1 to 1023\n",
+        "plant refused: OutOfRange at level 0 sources: 70000 not in 1 to 65535\n",
     ),
     (&["replay", "small", "nowhere"], 3, "file nowhere missing\n"),
     (&["replay", "nowhere", "other"], 3, "file nowhere missing\n"),

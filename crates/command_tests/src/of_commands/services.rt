@@ -2,12 +2,13 @@
 
 ghost use Rattle.std.specs.Prelude.{IfOk};
 ghost use Rattle.ctl_io.specs.Memory.{IsNewSink};
+ghost use Rattle.ctl_io.specs.MemFiles.{AreNewSinks};
+ghost use Rattle.ctl_net.specs.MemNet.{AreNewAcceptors};
 ghost use Rattle.ctl_net.specs.MemAcceptor.{IsNewAcceptor};
 
-use super::owned;
-use commands::run;
-use ctl_io::{Bytes, MemFiles, MemSink, MemSource, NamedSink, NamedSource};
-use ctl_net::{LinkEvent, MemAcceptor, MemLink, MemNet, MemPort, OpenGate};
+use super::{NEVER, source_of, worked};
+use ctl_io::{Bytes, MemFiles, MemSink, NamedSink};
+use ctl_net::{LinkEvent, MemAcceptor, MemLink, MemNet, MemPort};
 use std::alloc::{AllocError, Global};
 use std::sync::Wait;
 use std::test::Fail;
@@ -152,30 +153,33 @@ const ROWS: [Row; 14] = [
 fn sink(alloc: Global, name: &[u8], failing: &[u64]) -> Result<NamedSink, AllocError>
     ensures { IfOk result (λ entry. IsNewSink entry.sink) }
 {
+    let sink = MemSink::new(alloc, 1000, failing.to_vec(alloc)?)?;
     Ok(NamedSink {
         name: Bytes::of(name.to_vec(alloc)?),
-        sink: MemSink::new(alloc, 1000, failing.to_vec(alloc)?)?,
+        sink,
     })
 }
 
-// The plant's file, and those that the traces may be made in.
-fn files_of(alloc: Global, row: &Row) -> Result<MemFiles, AllocError> {
-    let plant = NamedSource {
-        name: Bytes::of(b"short".to_vec(alloc)?),
-        source: MemSource::new(alloc, SHORT.to_vec(alloc)?, Vec::new(alloc))?,
-    };
+// Those that the traces may be made in.
+fn sinks_of(alloc: Global, untraced: &[u64]) -> Result<Vec<NamedSink>, AllocError>
+    ensures { IfOk result (λ sinks. AreNewSinks sinks.items) }
+{
     let first = sink(alloc, b"day.0", &[])?;
-    let second = sink(alloc, b"day.1", row.untraced)?;
+    let second = sink(alloc, b"day.1", untraced)?;
     let displays = sink(alloc, b"day.d", &[])?;
+    Ok(vec![in alloc; first, second, displays]?)
+}
+
+// These and the plant's file.
+fn files_of(alloc: Global, row: &Row) -> Result<MemFiles, AllocError> {
+    let plant = source_of(alloc, "short", SHORT, NEVER)?;
     let sources = vec![in alloc; plant]?;
-    let sinks = vec![in alloc; first, second, displays]?;
+    let sinks = sinks_of(alloc, row.untraced)?;
     MemFiles::new(alloc, sources, sinks, 4, row.unopened.to_vec(alloc)?)
 }
 
-// An acceptor of one link, over which these pieces come.
-fn acceptor(alloc: Global, pieces: &[&[u8]], unread: &[u64]) -> Result<MemAcceptor, AllocError>
-    ensures { IfOk result IsNewAcceptor }
-{
+// What comes over a link, an empty piece for an idle read.
+fn events_of(alloc: Global, pieces: &[&[u8]]) -> Result<Vec<LinkEvent>, AllocError> {
     let mut events = Vec::new(alloc);
     for piece in pieces {
         events.push(if piece.is_empty() {
@@ -184,16 +188,30 @@ fn acceptor(alloc: Global, pieces: &[&[u8]], unread: &[u64]) -> Result<MemAccept
             LinkEvent::Piece(Bytes::of(piece.to_vec(alloc)?))
         })?;
     }
+    Ok(events)
+}
+
+// An acceptor of one link, over which these pieces come.
+fn acceptor(alloc: Global, pieces: &[&[u8]], unread: &[u64]) -> Result<MemAcceptor, AllocError>
+    ensures { IfOk result IsNewAcceptor }
+{
+    let events = events_of(alloc, pieces)?;
     let link = MemLink::new(alloc, events, 100, unread.to_vec(alloc)?, Vec::new(alloc))?;
     MemAcceptor::new(alloc, vec![in alloc; link]?, 1, Vec::new(alloc))
 }
 
-fn net_of(alloc: Global, row: &Row) -> Result<MemNet, AllocError> {
+// The acceptors of both panels.
+fn acceptors_of(alloc: Global, row: &Row) -> Result<Vec<MemAcceptor>, AllocError>
+    ensures { IfOk result (λ acceptors. AreNewAcceptors acceptors.items) }
+{
     let first = acceptor(alloc, row.pieces, &[])?;
     let second = acceptor(alloc, &[], row.unread)?;
-    let port = MemPort::new(alloc, 0, Vec::new(alloc))?;
-    let acceptors = vec![in alloc; first, second]?;
-    let ports = vec![in alloc; port]?;
+    Ok(vec![in alloc; first, second]?)
+}
+
+fn net_of(alloc: Global, row: &Row) -> Result<MemNet, AllocError> {
+    let acceptors = acceptors_of(alloc, row)?;
+    let ports = vec![in alloc; MemPort::new(alloc, 0, Vec::new(alloc))?]?;
     MemNet::new(alloc, acceptors, ports, 3, row.refused.to_vec(alloc)?)
 }
 
@@ -214,9 +232,7 @@ fn is_served<R: Threads + Wait + Sync>(
 ) -> Result<bool, AllocError> {
     let mut files = files_of(alloc, row)?;
     let mut net = net_of(alloc, row)?;
-    let mut out = MemSink::new(alloc, 1000, Vec::new(alloc))?;
-    let words = owned(alloc, row.words)?;
-    let status = run(rt, alloc, &words, &mut files, &mut net, &OpenGate, &mut out);
+    let (status, out) = worked(rt, alloc, row.words, &mut files, &mut net, NEVER)?;
     Ok(
         status == row.status
             && out.written() == row.output.as_bytes()

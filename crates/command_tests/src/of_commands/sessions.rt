@@ -2,38 +2,41 @@
 
 ghost use Rattle.std.specs.Prelude.{◌<◌};
 
-use super::{NOTHING, REPLAY, outcome};
+use super::frames::FRAMES;
+use super::{NOTHING, REPLAY, replays_so, run_over};
 use std::alloc::{AllocError, Global};
 use std::test::Fail;
 
 // A script, the status of its replay, and the output.
-const SCRIPTS: [(&str, u8, &str); 14] = [
+pub(super) type Script = (&'static [u8], u8, &'static str);
+
+const SCRIPTS: &[Script] = &[
     // No line, and a last line without its end.
-    ("", 0, ""),
+    (b"", 0, ""),
     (
-        "> 0 10020100000504F61003",
+        b"> 0 10020100000504F61003",
         0,
         "< 0 10061002030007057F056D1003\n",
     ),
     // One byte of noise, and an idle turn.
-    ("> 0 00\npoll 0\n", 0, "< 0 -\n< 0 -\n"),
+    (b"> 0 00\npoll 0\n", 0, "< 0 -\n< 0 -\n"),
     // A wrong check byte.
-    ("> 0 10020100000504F51003\n", 0, "< 0 1015\n"),
+    (b"> 0 10020100000504F51003\n", 0, "< 0 1015\n"),
     // A frame that the start of the next one abandons.
     (
-        "> 0 100201000010020100000504F61003\n",
+        b"> 0 100201000010020100000504F61003\n",
         0,
         "< 0 10061002030007057F056D1003\n",
     ),
     // An unknown command and a wrong length are acknowledged, and nothing else.
     (
-        "> 0 10020701F81003\n> 0 10020200000504F51003\n",
+        b"> 0 10020701F81003\n> 0 10020200000504F51003\n",
         0,
         "< 0 1006\n< 0 1006\n",
     ),
     // The last frame is sent again, five times, and once more for each new one. An ACK asks nothing.
     (
-        "> 0 10020100000504F61003\n> 0 101510151015\n> 0 1006\n> 0 101510151015\n> 0 10020100000504F610031015\n",
+        b"> 0 10020100000504F61003\n> 0 101510151015\n> 0 1006\n> 0 101510151015\n> 0 10020100000504F610031015\n",
         0,
         "< 0 10061002030007057F056D1003\n\
          < 0 1002030007057F056D10031002030007057F056D10031002030007057F056D1003\n\
@@ -43,13 +46,13 @@ const SCRIPTS: [(&str, u8, &str); 14] = [
     ),
     // The other panel hears of a change, once, and the panel that made it doesn't.
     (
-        "> 0 10020200000503 05F11003\npoll 1\npoll 1\npoll 0\n",
+        b"> 0 10020200000503 05F11003\npoll 1\npoll 1\npoll 0\n",
         0,
         "< 0 10061002040000050305EF1003\n< 1 1002040000050305EF1003\n< 1 -\n< 0 -\n",
     ),
     // A notice is sent again as any frame. It has what stands when it is told.
     (
-        "> 0 10020200000503 05F11003\n> 0 1002020007057F056E1003\n> 1 1015\npoll 1\n> 1 1015\n",
+        b"> 0 10020200000503 05F11003\n> 0 1002020007057F056E1003\n> 1 1015\npoll 1\n> 1 1015\n",
         0,
         "< 0 10061002040000050305EF1003\n\
          < 0 10061002040007057F056C1003\n\
@@ -59,7 +62,7 @@ const SCRIPTS: [(&str, u8, &str); 14] = [
     ),
     // Whoever left hears of nothing, and is still answered.
     (
-        "leave 1\n> 0 10020200000503 05F11003\npoll 1\n> 001 10020100000504F61003\nleave 1\n",
+        b"leave 1\n> 0 10020200000503 05F11003\npoll 1\n> 001 10020100000504F61003\nleave 1\n",
         0,
         "leave 1\n\
          < 0 10061002040000050305EF1003\n\
@@ -69,7 +72,7 @@ const SCRIPTS: [(&str, u8, &str); 14] = [
     ),
     // What another device protects isn't connected, and a salvo with such a destination is refused and kept.
     (
-        "> 0 1002 0C 00000501 05 E91003\n\
+        b"> 0 1002 0C 00000501 05 E91003\n\
          > 1 1002 02 00000503 05 F11003\n\
          > 1 1002 78 0000040307 06 741003\n\
          > 1 1002 78 0000050307 06 731003\n\
@@ -87,7 +90,7 @@ const SCRIPTS: [(&str, u8, &str); 14] = [
     ),
     // An empty salvo is neither taken nor cleared, and one with an entry is read back and cleared.
     (
-        "> 0 1002 79 0009 03 7B1003\n\
+        b"> 0 1002 79 0009 03 7B1003\n\
          > 0 1002 78 0000010209 06 761003\n\
          > 0 1002 7C 0900 03 781003\n\
          > 0 1002 7C 0901 03 771003\n\
@@ -101,52 +104,63 @@ const SCRIPTS: [(&str, u8, &str); 14] = [
          < 0 100610027B010903781003\n\
          < 0 100610027B020903771003\n",
     ),
+    // A frame that is too long, of 300 bytes, is bad, and the one behind it is answered.
+    (TOO_LONG, 0, "< 0 101510061002030007057F056D1003\n"),
     // Lines that are skipped are counted.
-    ("# \u{e9} > 9\n\npoll 00000\n#", 0, "< 0 -\n"),
-    ("# note\n\npoll 0\npole 1\n", 5, "script line 4 refused\n"),
+    (b"# \xC3\xA9 > 9\n\npoll 00000\n#", 0, "< 0 -\n"),
+    (b"# note\n\npoll 0\npole 1\n", 5, "script line 4 refused\n"),
 ];
 
+const TOO_LONG: &[u8] =
+    b"> 0 1002414141414141414141414141414141414141414141414141414141414141414141414141414141414141414141414141414141\
+    41414141414141414141414141414141414141414141414141414141414141414141414141414141414141414141414141414141414141\
+    41414141414141414141414141414141414141414141414141414141414141414141414141414141414141414141414141414141414141\
+    41414141414141414141414141414141414141414141414141414141414141414141414141414141414141414141414141414141414141\
+    41414141414141414141414141414141414141414141414141414141414141414141414141414141414141414141414141414141414141\
+    41414141414141414141414141414141414141414141414141414141411003 10020100000504F61003\n";
+
 // Lines that have no form.
-const REFUSED: [&str; 18] = [
-    " ",
-    "> 0",
-    "> 0 ",
-    "> 0  ",
-    "> 0 1",
-    "> 0 1g",
-    "> 2 00",
-    "> 000000 00",
-    ">0 00",
-    "> x 00",
-    "poll",
-    "poll 2",
-    "poll 0 ",
-    "poll 000000",
-    "Poll 0",
-    "leave",
-    "leave 2",
-    "show 0",
+const REFUSED: &[&[u8]] = &[
+    b" ",
+    b"> 0",
+    b"> 0 ",
+    b"> 0  ",
+    b"> 0 1",
+    b"> 0 1g",
+    b"> 2 00",
+    b"> 000000 00",
+    b">0 00",
+    b"> x 00",
+    b"poll",
+    b"poll 2",
+    b"poll 0 ",
+    b"poll 000000",
+    b"Poll 0",
+    b"leave",
+    b"leave 2",
+    b"show 0",
 ];
 
 #[test]
-fn scripts_of_several_panels_are_replayed(rt: HostRuntime) -> Result<(), Fail> {
-    let alloc = rt.alloc();
-    for (script, status, output) in SCRIPTS {
-        let script = script.as_bytes().to_vec(alloc)?;
-        let (found, out) = outcome(alloc, &REPLAY, script, NOTHING)?;
-        assert_eq!(rt; out.written(), output.as_bytes());
-        assert_eq!(rt; found, status);
+fn scripts_are_replayed(rt: HostRuntime) -> Result<(), Fail> {
+    for scripts in [FRAMES, SCRIPTS] {
+        for (script, status, output) in scripts {
+            assert!(rt;
+                replays_so(&rt, rt.alloc(), script, *status, output)?,
+                "{output}"
+            );
+        }
     }
     Ok(())
 }
 
 #[test]
 fn lines_without_a_form_are_refused(rt: HostRuntime) -> Result<(), Fail> {
-    let alloc = rt.alloc();
     for line in REFUSED {
-        let (status, out) = outcome(alloc, &REPLAY, line.as_bytes().to_vec(alloc)?, NOTHING)?;
-        assert_eq!(rt; out.written(), b"script line 1 refused\n".as_slice());
-        assert_eq!(rt; status, 5);
+        assert!(rt;
+            replays_so(&rt, rt.alloc(), line, 5, "script line 1 refused\n")?,
+            "{line:?}"
+        );
     }
     Ok(())
 }
@@ -188,26 +202,10 @@ fn sent(alloc: Global, output: &[u8]) -> Result<Vec<u8>, AllocError> {
 fn a_cut_changes_nothing_that_is_sent(rt: HostRuntime) -> Result<(), Fail> {
     let alloc = rt.alloc();
     for size in 1..40 {
-        let (status, out) = outcome(alloc, &REPLAY, cut(alloc, size)?, NOTHING)?;
-        assert_eq!(rt; sent(alloc, out.written())?.as_slice(), SENT);
-        assert_eq!(rt; status, 0);
+        let script = cut(alloc, size)?;
+        let ran = run_over(&rt, alloc, REPLAY, &[("script", &script)], NOTHING)?;
+        assert_eq!(rt; sent(alloc, ran.out.written())?.as_slice(), SENT);
+        assert_eq!(rt; ran.status, 0);
     }
-    Ok(())
-}
-
-#[test]
-fn a_frame_that_is_too_long_is_bad(rt: HostRuntime) -> Result<(), Fail> {
-    let alloc = rt.alloc();
-    let mut script = b"> 0 1002".to_vec(alloc)?;
-    for _ in 0..300 {
-        script.extend_from_slice(b"41")?;
-    }
-    script.extend_from_slice(b"1003 10020100000504F61003\n")?;
-    let (status, out) = outcome(alloc, &REPLAY, script, NOTHING)?;
-    assert_eq!(rt;
-        out.written(),
-        b"< 0 101510061002030007057F056D1003\n".as_slice()
-    );
-    assert_eq!(rt; status, 0);
     Ok(())
 }

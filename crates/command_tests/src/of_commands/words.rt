@@ -1,66 +1,90 @@
 //! Words, with a form and without one.
 
-use super::{Run, first_wrong};
+use super::{NOTHING, Run, ends_so, first_wrong};
 use std::test::Fail;
 
 const USAGE: &str =
-    "usage: plantctl check PLANT, replay PLANT SCRIPT, audit PLANT TRACE.., serve PLANT [PREFIX], drill NUMBER PANELS MESSAGES\n";
+    "usage: plantctl check PLANT, replay PLANT SCRIPT, audit PLANT TRACE.., serve PLANT [PREFIX], drill NUMBER PANELS MESSAGES, stream PLANT SCRIPT OUT, monitor FILE\n";
 
-// Runs over no files.
-const RUNS: [Run; 42] = [
+// Words with a form, and what a run over no files comes to.
+const FORMED: [Run; 7] = [
     // A command's word may name a file, and so may `help`.
     (&["replay", "help", "check"], 3, "file help missing\n"),
     (&["audit", "bench", "audit"], 3, "file audit missing\n"),
     (&["check", "check"], 3, "file check missing\n"),
-    (&[], 2, USAGE),
-    (&["help"], 2, USAGE),
-    (&["--version"], 2, USAGE),
-    (&["check"], 2, USAGE),
-    (&["check", ""], 2, USAGE),
-    (&["check", "-plant"], 2, USAGE),
-    (&["check", "-h"], 2, USAGE),
-    (&["check", "--"], 2, USAGE),
-    (&["check", "--help"], 2, USAGE),
-    (&["check", "--", "bench"], 2, USAGE),
-    (&["check", "bench", "bench"], 2, USAGE),
-    (&["checks", "bench"], 2, USAGE),
-    (&["replay", "bench"], 2, USAGE),
-    (&["replay", "bench", "script", "script"], 2, USAGE),
-    (&["replay", "bench", ""], 2, USAGE),
-    (&["replay", "bench", "-script"], 2, USAGE),
-    (&["replay", "", "script"], 2, USAGE),
-    (&["replay", "-", "script"], 2, USAGE),
-    (&["audit"], 2, USAGE),
-    (&["audit", "bench"], 2, USAGE),
-    (&["audit", "", "trace"], 2, USAGE),
-    (&["audit", "-", "trace"], 2, USAGE),
-    (&["audit", "-bench", "trace"], 2, USAGE),
-    (&["audit", "bench", ""], 2, USAGE),
-    (&["audit", "bench", "-trace"], 2, USAGE),
-    (&["audit", "bench", "trace", ""], 2, USAGE),
-    (&["audit", "bench", "trace", "--", "trace"], 2, USAGE),
-    (&["audit", "bench", "trace", "trace", "-trace"], 2, USAGE),
-    (&["", "bench"], 2, USAGE),
+    (&["monitor", "monitor"], 3, "file monitor missing\n"),
+    (
+        &["stream", "bench", "stream", "made"],
+        3,
+        "file stream missing\n",
+    ),
     // A plant is served, and the net has no port for it.
     (&["serve", "bench"], 8, "net fault\n"),
-    (&["serve"], 2, USAGE),
-    (&["serve", "bench", "-day"], 2, USAGE),
-    (&["serve", "bench", "day", "night"], 2, USAGE),
     (
         &["drill", "7", "2", "200"],
         0,
         "panels 2\nmessages 200\nacks 198\nnaks 2\nsessions 2\nhistory confirmed\n",
     ),
+];
+
+// Words without one.
+const UNFORMED: [&[&str]; 44] = [
+    &[],
+    &["help"],
+    &["--version"],
+    &["check"],
+    &["check", ""],
+    &["check", "-plant"],
+    &["check", "-h"],
+    &["check", "--"],
+    &["check", "--help"],
+    &["check", "--", "bench"],
+    &["check", "bench", "bench"],
+    &["checks", "bench"],
+    &["replay", "bench"],
+    &["replay", "bench", "script", "script"],
+    &["replay", "bench", ""],
+    &["replay", "bench", "-script"],
+    &["replay", "", "script"],
+    &["replay", "-", "script"],
+    &["audit"],
+    &["audit", "bench"],
+    &["audit", "", "trace"],
+    &["audit", "-", "trace"],
+    &["audit", "-bench", "trace"],
+    &["audit", "bench", ""],
+    &["audit", "bench", "-trace"],
+    &["audit", "bench", "trace", ""],
+    &["audit", "bench", "trace", "--", "trace"],
+    &["audit", "bench", "trace", "trace", "-trace"],
+    &["", "bench"],
+    &["serve"],
+    &["serve", "bench", "-day"],
+    &["serve", "bench", "day", "night"],
     // A number has at most 10 digits, zeros in front or not.
-    (&["drill", "0004294967295", "1", "1"], 2, USAGE),
-    (&["drill", "4294967296", "1", "1"], 2, USAGE),
-    (&["drill", "7", "0", "5"], 2, USAGE),
-    (&["drill", "7", "17", "100"], 2, USAGE),
-    (&["drill", "7", "2", "1"], 2, USAGE),
+    &["drill", "0004294967295", "1", "1"],
+    &["drill", "4294967296", "1", "1"],
+    &["drill", "7", "0", "5"],
+    &["drill", "7", "17", "100"],
+    &["drill", "7", "2", "1"],
+    &["monitor"],
+    &["monitor", "-a"],
+    &["monitor", "a", "b"],
+    &["stream", "bench", "script"],
+    &["stream", "bench", "script", ""],
+    &["stream", "bench", "script", "-made"],
+    &["stream", "bench", "script", "made", "made"],
 ];
 
 #[test]
 fn words_have_a_form_or_lead_to_the_usage(rt: HostRuntime) -> Result<(), Fail> {
-    assert_eq!(rt; first_wrong(&rt, rt.alloc(), &[], &RUNS)?, None);
+    let alloc = rt.alloc();
+    assert_eq!(rt; first_wrong(&rt, alloc, &[], &FORMED)?, None);
+    for words in UNFORMED {
+        assert!(rt;
+            ends_so(&rt, alloc, words, &[], NOTHING, 2, USAGE)?,
+            "{words:?}"
+        );
+    }
     Ok(())
 }

@@ -1,5 +1,5 @@
 use Rattle.ctl_io.specs.MemFiles.{AreNewSources}
 use Rattle.command_tests.proofs.of_commands.files_of.Given as goal
 
-abbrev pub invariant-loop-name : goal.invariant-loop-name
-invariant-loop-name l = AreNewSources l.files.items
+abbrev pub invariant-loop-place : goal.invariant-loop-place
+invariant-loop-place l = AreNewSources l.sources.items
