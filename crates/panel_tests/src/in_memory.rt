@@ -4,7 +4,7 @@ ghost use Rattle.std.specs.Prelude.{IfOk};
 ghost use Rattle.ctl_net.specs.MemLink.{IsNewLink};
 ghost use Rattle.panel_server.specs.Seats.{IsSeatOf};
 
-use ctl_io::Bytes;
+use ctl_io::{Bytes, MemSink};
 use ctl_net::{LinkEvent, MemAcceptor, MemLink};
 use history_lock::{HistoryLock, Seat};
 use plant_config::Plant;
@@ -45,18 +45,26 @@ pub(crate) fn link_of(
 ) -> Result<MemLink, AllocError>
     ensures { IfOk result IsNewLink }
 {
+    let reads = listed(alloc, failing, Call::Read)?;
+    let writes = listed(alloc, failing, Call::Write)?;
+    MemLink::new(alloc, events_of(alloc, pieces)?, 1000, reads, writes)
+}
+
+/// A trace at a place.
+pub(crate) fn trace_of(
+    alloc: Global,
+    failing: Failing,
+    place: usize,
+) -> Result<MemSink, AllocError> {
+    MemSink::new(alloc, 1000, listed(alloc, failing, Call::Line(place))?)
+}
+
+fn events_of(alloc: Global, pieces: &[&[u8]]) -> Result<Vec<LinkEvent>, AllocError> {
     let mut events = Vec::new(alloc);
     for piece in pieces {
         events.push(event_of(alloc, piece)?)?;
     }
-    let reads = listed(alloc, failing, Call::Read)?;
-    MemLink::new(
-        alloc,
-        events,
-        1000,
-        reads,
-        listed(alloc, failing, Call::Write)?,
-    )
+    Ok(events)
 }
 
 fn event_of(alloc: Global, piece: &[u8]) -> Result<LinkEvent, AllocError> {

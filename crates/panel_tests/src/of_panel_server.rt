@@ -2,13 +2,13 @@
 
 mod panels;
 mod plants;
+mod stadium;
 
-use crate::examples::of_panel_server::{LINES, TOWER, after_leave};
+use crate::examples::of_panel_server::{LINES, TOWER, driven};
 use crate::in_memory::Call::{Line, Send};
-use crate::in_memory::{Failing, NOTHING, front, listed};
-use ctl_io::MemSink;
+use crate::in_memory::{Failing, NOTHING, front, listed, trace_of};
 use ctl_net::MemPort;
-use panel_server::{DriverEnd, drive_displays};
+use panel_server::DriverEnd;
 use plant_config::Plant;
 use std::alloc::{AllocError, Global};
 use std::sync::Wait;
@@ -55,10 +55,9 @@ fn drives_so<W: Wait>(
     case: &Case,
 ) -> Result<bool, AllocError> {
     let (failing, wanted, sent, traced) = *case;
-    let (lock, mut seat) = after_leave(rt, alloc, plant)?;
     let mut port = MemPort::new(alloc, 24, listed(alloc, failing, Send)?)?;
-    let mut trace = MemSink::new(alloc, 1000, listed(alloc, failing, Line(0))?)?;
-    let end = drive_displays(rt, alloc, plant, &lock, &mut seat, &mut port, &mut trace);
+    let mut trace = trace_of(alloc, failing, 0)?;
+    let end = driven(rt, alloc, plant, &mut port, &mut trace)?;
     Ok(end == wanted && port.bytes() == sent && trace.written() == front(LINES, traced))
 }
 

@@ -9,7 +9,7 @@ use notices::NOTICES;
 use plant_config::Plant;
 use plant_names::Names;
 use record_replay::{ReplayFault, replay_script};
-use std::alloc::Global;
+use std::alloc::{AllocError, Global};
 use std::process::Abort;
 use std::test::Fail;
 
@@ -98,12 +98,17 @@ const REFUSED: &[&[u8]] = &[
     b"\ntake 0 0 0\tD5\tCAM1\t",
 ];
 
-// What a script gives on a plant.
-fn replayed(alloc: Global, plant: &Plant, script: &[u8]) -> Result<Vec<u8>, ReplayFault> {
+// How a replay ends of which these writes fail, and its output.
+fn replayed(
+    alloc: Global,
+    plant: &Plant,
+    script: &[u8],
+    failing: &[u64],
+) -> Result<(Result<(), ReplayFault>, MemSink), AllocError> {
     let names = Names::new(alloc, plant)?;
-    let mut out = MemSink::new(alloc, 3000, Vec::new(alloc))?;
-    replay_script(alloc, plant, &names, script, &mut out)?;
-    Ok(out.written().to_vec(alloc)?)
+    let mut out = MemSink::new(alloc, 3000, failing.to_vec(alloc)?)?;
+    let ended = replay_script(alloc, plant, &names, script, &mut out);
+    Ok((ended, out))
 }
 
 // Each script of a table gives its output.
@@ -112,23 +117,32 @@ fn give(
     alloc: Global,
     plant: &Plant,
     rows: &[(&[u8], &[u8])],
-) -> Result<(), ReplayFault> {
+) -> Result<(), AllocError> {
     for (script, output) in rows {
-        assert_eq!(rt; replayed(alloc, plant, script)?.as_slice(), *output);
+        let (ended, out) = replayed(alloc, plant, script, &[])?;
+        assert_eq!(rt; (ended, out.written()), (Ok(()), *output));
     }
     Ok(())
+}
+
+// Those of a plant file.
+fn give_on(
+    rt: &impl Abort,
+    alloc: Global,
+    text: &[u8],
+    rows: &[(&[u8], &[u8])],
+) -> Result<(), Fail> {
+    let plant = Plant::from_toml(alloc, text)?;
+    Ok(give(rt, alloc, &plant, rows)?)
 }
 
 #[test]
 fn scripts_are_replayed(rt: HostRuntime) -> Result<(), Fail> {
     let alloc = rt.alloc();
-    let studio = Plant::from_toml(alloc, STUDIO)?;
-    give(&rt, alloc, &studio, DAYS)?;
-    let plant = Plant::from_toml(alloc, PLANT)?;
-    give(&rt, alloc, &plant, TAKES)?;
+    give_on(&rt, alloc, STUDIO, DAYS)?;
+    give_on(&rt, alloc, PLANT, TAKES)?;
     let bench = Plant::bench(alloc)?;
-    give(&rt, alloc, &bench, NOTICES)?;
-    Ok(())
+    Ok(give(&rt, alloc, &bench, NOTICES)?)
 }
 
 #[test]
@@ -136,8 +150,8 @@ fn lines_without_a_form_are_refused(rt: HostRuntime) -> Result<(), Fail> {
     let alloc = rt.alloc();
     let studio = Plant::from_toml(alloc, STUDIO)?;
     for script in REFUSED {
-        let fault = replayed(alloc, &studio, script).err();
-        assert_eq!(rt; fault, Some(ReplayFault::BadLine(2)), "of {script:?}");
+        let (ended, _) = replayed(alloc, &studio, script, &[])?;
+        assert_eq!(rt; ended, Err(ReplayFault::BadLine(2)), "of {script:?}");
     }
     Ok(())
 }
@@ -145,12 +159,11 @@ fn lines_without_a_form_are_refused(rt: HostRuntime) -> Result<(), Fail> {
 #[test]
 fn a_failed_write_ends_a_replay(rt: HostRuntime) -> Result<(), Fail> {
     let alloc = rt.alloc();
-    let plant = Plant::bench(alloc)?;
-    let names = Names::new(alloc, &plant)?;
-    let failing = [0].to_vec(alloc)?;
-    let mut out = MemSink::new(alloc, 1000, failing)?;
-    let fault = replay_script(alloc, &plant, &names, b"poll 0\n", &mut out);
-    assert_eq!(rt; fault, Err(ReplayFault::OutputFault));
-    assert_eq!(rt; out.written(), b"".as_slice());
+    let bench = Plant::bench(alloc)?;
+    let (ended, out) = replayed(alloc, &bench, b"poll 0\n", &[0])?;
+    assert_eq!(rt;
+        (ended, out.written()),
+        (Err(ReplayFault::OutputFault), b"".as_slice())
+    );
     Ok(())
 }

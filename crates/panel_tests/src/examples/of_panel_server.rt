@@ -42,7 +42,7 @@ pub(crate) const LINES: &[u8] = b"1 show 3 1 = 0A00000003000000C0000000
 ";
 
 // A lock with one seat round a plant whose panel has left.
-pub(crate) fn after_leave<W: Wait>(
+fn after_leave<W: Wait>(
     rt: &W,
     alloc: Global,
     plant: &Plant,
@@ -63,14 +63,25 @@ pub(crate) fn after_leave<W: Wait>(
     Ok((lock, seat))
 }
 
+// How the worker of the plant's displays ends, once its panel has left.
+pub(crate) fn driven<W: Wait>(
+    rt: &W,
+    alloc: Global,
+    plant: &Plant,
+    port: &mut MemPort,
+    trace: &mut MemSink,
+) -> Result<DriverEnd, AllocError> {
+    let (lock, mut seat) = after_leave(rt, alloc, plant)?;
+    Ok(drive_displays(rt, alloc, plant, &lock, &mut seat, port, trace))
+}
+
 #[test]
 fn each_screen_is_told_once(rt: HostRuntime) -> Result<(), Fail> {
     let alloc = rt.alloc();
     let plant = Plant::from_toml(alloc, TOWER)?;
-    let (lock, mut seat) = after_leave(&rt, alloc, &plant)?;
     let mut port = MemPort::new(alloc, 24, Vec::new(alloc))?;
     let mut trace = MemSink::new(alloc, 1000, Vec::new(alloc))?;
-    let end = drive_displays(&rt, alloc, &plant, &lock, &mut seat, &mut port, &mut trace);
+    let end = driven(&rt, alloc, &plant, &mut port, &mut trace)?;
     assert_eq!(rt; end, DriverEnd::Finished { sent: 2, failed: 0 });
     assert_eq!(rt; port.lengths(), [12, 12].as_slice());
     assert_eq!(rt; trace.written(), LINES);

@@ -2,7 +2,7 @@
 
 use super::ANSWER;
 use crate::in_memory::Call::{Line, Link, Read, Write};
-use crate::in_memory::{Failing, NOTHING, first_written, front, link_of, listed, locked};
+use crate::in_memory::{Failing, NOTHING, first_written, front, link_of, listed, locked, trace_of};
 use ctl_io::MemSink;
 use ctl_net::{MemAcceptor, OpenGate};
 use panel_server::{PanelDone, serve_panel};
@@ -114,7 +114,7 @@ fn serves_so<W: Wait>(
 ) -> Result<bool, AllocError> {
     let (failing, wanted, written, lines, traced) = *case;
     let mut acceptor = acceptor_of(alloc, failing)?;
-    let mut trace = MemSink::new(alloc, 1000, listed(alloc, failing, Line(0))?)?;
+    let mut trace = trace_of(alloc, failing, 0)?;
     let done = served(rt, alloc, plant, &mut acceptor, &mut trace)?;
     Ok(
         figures(&done) == wanted

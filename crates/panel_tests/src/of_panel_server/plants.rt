@@ -3,11 +3,12 @@
 
 ghost use Rattle.std.specs.Prelude.{◌≡◌, IfOk, length};
 ghost use Rattle.ctl_net.specs.MemAcceptor.{IsNewAcceptor};
+ghost use Rattle.ctl_net.specs.MemNet.{AreNewAcceptors};
 
 use super::{ANSWER, INTERROGATE};
 use crate::holding_gate::HoldingGate;
 use crate::in_memory::Call::{Line, Link, Opening, Read, Write};
-use crate::in_memory::{Failing, NOTHING, first_written, front, link_of, listed};
+use crate::in_memory::{Failing, NOTHING, first_written, front, link_of, listed, trace_of};
 use ctl_io::MemSink;
 use ctl_net::{ClosedAcceptor, Gate, MemAcceptor, MemNet, MemPort, OpenGate};
 use panel_server::{PlantDone, ServeFault, serve};
@@ -32,57 +33,58 @@ type Told = Result<(u64, u64, u64, u64, Option<u32>), ServeFault>;
 
 const REFUSED: Told = Err(ServeFault::NetFault);
 
-// What fails: openings, traces, and of panel 0 the calls of its acceptor and of its link; and then what is told, how many bytes
-// of the answer were written to each panel, and how many were traced of the first.
-type Case = (Failing, Told, [usize; 2], usize);
-
-// The pieces that come over the one link of each panel, an empty one for an idle read; the answer; and the cases.
+// The pieces that come over the one link of each panel, an empty one for an idle read; and the answer.
 struct Day {
     pieces: [&'static [&'static [u8]]; 2],
     answer: &'static [u8],
-    cases: &'static [Case],
 }
 
 // One connect, one poll and two leaves.
 const CONNECT: Day = Day {
     pieces: [&[b"\x10\x02\x02\x00\x00\x05\x03\x05\xF1\x10\x03"], &[]],
     answer: b"\x10\x06\x10\x02\x04\x00\x00\x05\x03\x05\xEF\x10\x03",
-    cases: &[(NOTHING, Ok((2, 4, 0, 0, None)), [13, 0], 78)],
 };
 
 const IDLE: Day = Day {
     pieces: [&[b"", b"", b""], &[]],
     answer: b"",
-    cases: &[(NOTHING, Ok((2, 5, 1, 0, None)), [0, 0], 65)],
 };
 
-// Both panels ask for a destination, and whatever fails of one, the other is answered.
+// Both panels ask for a destination.
 const ASK: Day = Day {
     pieces: [&[INTERROGATE], &[INTERROGATE]],
     answer: ANSWER,
-    cases: &[
-        (NOTHING, Ok((2, 6, 0, 0, None)), [13, 13], 76),
-        ((Opening, 0), REFUSED, [0, 0], 0),
-        ((Opening, 1), REFUSED, [0, 0], 0),
-        ((Opening, 2), REFUSED, [0, 0], 0),
-        ((Opening, 3), Ok((2, 6, 0, 0, None)), [13, 13], 76),
-        ((Link, 0), Ok((1, 4, 0, 1, None)), [0, 13], 14),
-        ((Link, 1), Ok((2, 6, 0, 1, None)), [13, 13], 76),
-        ((Link, 2), Ok((2, 6, 0, 0, None)), [13, 13], 76),
-        ((Read, 0), Ok((2, 4, 0, 1, None)), [0, 13], 14),
-        ((Read, 1), Ok((2, 6, 0, 1, None)), [13, 13], 76),
-        ((Read, 2), Ok((2, 6, 0, 0, None)), [13, 13], 76),
-        ((Write, 0), Ok((2, 4, 0, 1, None)), [0, 13], 14),
-        ((Write, 1), Ok((2, 5, 0, 1, None)), [2, 13], 59),
-        ((Write, 2), Ok((2, 6, 0, 0, None)), [13, 13], 76),
-        ((Line(0), 0), Ok((2, 5, 0, 0, Some(0))), [2, 13], 0),
-        ((Line(0), 1), Ok((2, 6, 0, 0, Some(0))), [13, 13], 45),
-        ((Line(0), 2), Ok((2, 6, 0, 0, Some(0))), [13, 13], 62),
-        ((Line(0), 3), Ok((2, 6, 0, 0, None)), [13, 13], 76),
-        ((Line(1), 0), Ok((2, 5, 0, 0, Some(1))), [13, 2], 76),
-        ((Line(2), 0), Ok((2, 6, 0, 0, None)), [13, 13], 76),
-    ],
 };
+
+// What comes, and what fails: openings, traces, and of panel 0 the calls of its acceptor and of its link; and then what is told,
+// how many bytes of the answer were written to each panel, and how many were traced of the first.
+type Case = (&'static Day, Failing, Told, [usize; 2], usize);
+
+// Whatever fails of one panel, the other is answered.
+const CASES: [Case; 22] = [
+    (&CONNECT, NOTHING, Ok((2, 4, 0, 0, None)), [13, 0], 78),
+    (&IDLE, NOTHING, Ok((2, 5, 1, 0, None)), [0, 0], 65),
+    (&ASK, NOTHING, Ok((2, 6, 0, 0, None)), [13, 13], 76),
+    (&ASK, (Opening, 0), REFUSED, [0, 0], 0),
+    (&ASK, (Opening, 1), REFUSED, [0, 0], 0),
+    (&ASK, (Opening, 2), REFUSED, [0, 0], 0),
+    (&ASK, (Opening, 3), Ok((2, 6, 0, 0, None)), [13, 13], 76),
+    (&ASK, (Link, 0), Ok((1, 4, 0, 1, None)), [0, 13], 14),
+    (&ASK, (Link, 1), Ok((2, 6, 0, 1, None)), [13, 13], 76),
+    (&ASK, (Link, 2), Ok((2, 6, 0, 0, None)), [13, 13], 76),
+    (&ASK, (Read, 0), Ok((2, 4, 0, 1, None)), [0, 13], 14),
+    (&ASK, (Read, 1), Ok((2, 6, 0, 1, None)), [13, 13], 76),
+    (&ASK, (Read, 2), Ok((2, 6, 0, 0, None)), [13, 13], 76),
+    (&ASK, (Write, 0), Ok((2, 4, 0, 1, None)), [0, 13], 14),
+    (&ASK, (Write, 1), Ok((2, 5, 0, 1, None)), [2, 13], 59),
+    (&ASK, (Write, 2), Ok((2, 6, 0, 0, None)), [13, 13], 76),
+    (&ASK, (Line(0), 0), Ok((2, 5, 0, 0, Some(0))), [2, 13], 0),
+    (&ASK, (Line(0), 1), Ok((2, 6, 0, 0, Some(0))), [13, 13], 45),
+    (&ASK, (Line(0), 2), Ok((2, 6, 0, 0, Some(0))), [13, 13], 62),
+    (&ASK, (Line(0), 3), Ok((2, 6, 0, 0, None)), [13, 13], 76),
+    (&ASK, (Line(1), 0), Ok((2, 5, 0, 0, Some(1))), [13, 2], 76),
+    (&ASK, (Line(2), 0), Ok((2, 6, 0, 0, None)), [13, 13], 76),
+];
 
 // An acceptor with one link, over which these pieces come.
 fn acceptor_of(alloc: Global, pieces: &[&[u8]], failing: Failing) -> Result<MemAcceptor, AllocError>
@@ -97,45 +99,46 @@ fn acceptor_of(alloc: Global, pieces: &[&[u8]], failing: Failing) -> Result<MemA
     )
 }
 
-// A net for both panels.
-fn net_of(alloc: Global, day: &Day, failing: Failing) -> Result<MemNet, AllocError> {
+// The acceptors of both panels.
+fn acceptors_of(alloc: Global, day: &Day, failing: Failing) -> Result<Vec<MemAcceptor>, AllocError>
+    ensures { IfOk result (λ acceptors. AreNewAcceptors acceptors.items) }
+{
     let first = acceptor_of(alloc, day.pieces[0], failing)?;
     let second = acceptor_of(alloc, day.pieces[1], NOTHING)?;
-    let acceptors = vec![in alloc; first, second]?;
-    let ports = vec![in alloc; MemPort::new(alloc, 0, Vec::new(alloc))?]?;
-    MemNet::new(alloc, acceptors, ports, 3, listed(alloc, failing, Opening)?)
+    Ok(vec![in alloc; first, second]?)
 }
 
-// So many traces with room for so many bytes.
-fn traces_of(
-    alloc: Global,
-    count: usize,
-    room: usize,
-    failing: Failing,
-) -> Result<Vec<MemSink>, AllocError>
+// A net for both panels.
+fn net_of(alloc: Global, day: &Day, failing: Failing) -> Result<MemNet, AllocError> {
+    let ports = vec![in alloc; MemPort::new(alloc, 0, Vec::new(alloc))?]?;
+    let refused = listed(alloc, failing, Opening)?;
+    MemNet::new(alloc, acceptors_of(alloc, day, failing)?, ports, 3, refused)
+}
+
+// So many traces.
+fn traces_of(alloc: Global, count: usize, failing: Failing) -> Result<Vec<MemSink>, AllocError>
     ensures { IfOk result (λ traces. length traces.items ≡ count) }
 {
     let mut traces = Vec::new(alloc);
     for place in 0..count {
-        let lines = listed(alloc, failing, Line(place))?;
-        traces.push(MemSink::new(alloc, room, lines)?)?;
+        traces.push(trace_of(alloc, failing, place)?)?;
     }
     Ok(traces)
 }
 
-// What came of serving a plant over a net, with the traces.
+// What is told of a plant that is served over a net, and how many bytes were traced of the first panel.
 fn served<R: Threads + Wait + Sync, G: Gate>(
     rt: &R,
     alloc: Global,
     plant: &Plant,
     net: &mut MemNet,
     gate: &G,
-    room: usize,
     failing: Failing,
-) -> Result<(Vec<MemSink>, Result<PlantDone, ServeFault>), AllocError> {
+) -> Result<(Told, usize), AllocError> {
     let names = Names::new(alloc, plant)?;
-    let traces = traces_of(alloc, plant.panels().len() + 1, room, failing)?;
-    Ok(serve(rt, alloc, plant, &names, net, gate, traces))
+    let traces = traces_of(alloc, plant.panels().len() + 1, failing)?;
+    let (traces, answer) = serve(rt, alloc, plant, &names, net, gate, traces);
+    Ok((told_of(&answer), first_traced(&traces)))
 }
 
 fn told_of(answer: &Result<PlantDone, ServeFault>) -> Told {
@@ -151,6 +154,13 @@ fn told_of(answer: &Result<PlantDone, ServeFault>) -> Told {
     }
 }
 
+fn first_traced(traces: &[MemSink]) -> usize {
+    if let [first, ..] = traces {
+        return first.written().len();
+    }
+    0
+}
+
 // What was written to a panel.
 fn written_to(back: &[ClosedAcceptor], panel: u32) -> &[u8] {
     for closed in back {
@@ -161,61 +171,53 @@ fn written_to(back: &[ClosedAcceptor], panel: u32) -> &[u8] {
     &[]
 }
 
-// Whether a plant is served as a case of a day says, and what was opened is given back.
+// Whether a plant is served as a case says, and what was opened is given back.
 fn serves_so<R: Threads + Wait + Sync>(
     rt: &R,
     alloc: Global,
     plant: &Plant,
-    day: &Day,
     case: &Case,
 ) -> Result<bool, AllocError> {
-    let (failing, told, written, traced) = *case;
+    let (day, failing, told, written, traced) = *case;
     let mut net = net_of(alloc, day, failing)?;
-    let (traces, answer) = served(rt, alloc, plant, &mut net, &OpenGate, 1000, failing)?;
+    let found = served(rt, alloc, plant, &mut net, &OpenGate, failing)?;
     let back = net.acceptors_back();
     Ok(
-        told_of(&answer) == told
+        found == (told, traced)
             && back.len() == net.openings().len().min(2)
             && written_to(back, 0) == front(day.answer, written[0])
-            && written_to(back, 1) == front(day.answer, written[1])
-            && matches!(traces.as_slice(), [first, ..] if first.written().len() == traced),
+            && written_to(back, 1) == front(day.answer, written[1]),
     )
-}
-
-// The first case of a day that doesn't go as it says.
-fn first_other<R: Threads + Wait + Sync>(
-    rt: &R,
-    alloc: Global,
-    plant: &Plant,
-    day: &Day,
-) -> Result<Option<usize>, AllocError> {
-    for (at, case) in day.cases.iter().enumerate() {
-        if !serves_so(rt, alloc, plant, day, case)? {
-            return Ok(Some(at));
-        }
-    }
-    Ok(None)
 }
 
 #[test]
 fn a_plant_is_served_as_its_calls_go(rt: HostRuntime) -> Result<(), Fail> {
     let plant = Plant::from_toml(rt.alloc(), HASTY)?;
-    for day in [&CONNECT, &IDLE, &ASK] {
-        assert_eq!(rt; first_other(&rt, rt.alloc(), &plant, day)?, None);
+    for (at, case) in CASES.iter().enumerate() {
+        assert!(rt; serves_so(&rt, rt.alloc(), &plant, case)?, "case {at}");
     }
     Ok(())
+}
+
+// Whether both panels are served, one of which is held until the other one is done.
+fn serves_both<R: Threads + Wait + Sync>(
+    rt: &R,
+    alloc: Global,
+    plant: &Plant,
+    held: u32,
+) -> Result<bool, AllocError> {
+    let gate = HoldingGate::of(held, 1 - held.min(1));
+    let mut net = net_of(alloc, &ASK, NOTHING)?;
+    let (told, _) = served(rt, alloc, plant, &mut net, &gate, NOTHING)?;
+    Ok(told.is_ok() && !gate.gave_up())
 }
 
 // Panels that were served one after another would make the gate give up in one of the two.
 #[test]
 fn panels_are_served_at_the_same_time(rt: HostRuntime) -> Result<(), Fail> {
-    let alloc = rt.alloc();
-    let plant = Plant::from_toml(alloc, HASTY)?;
-    for (held, awaited) in [(0, 1), (1, 0)] {
-        let gate = HoldingGate::of(held, awaited);
-        let mut net = net_of(alloc, &ASK, NOTHING)?;
-        let (_, answer) = served(&rt, alloc, &plant, &mut net, &gate, 1000, NOTHING)?;
-        assert!(rt; answer.is_ok() && !gate.gave_up());
+    let plant = Plant::from_toml(rt.alloc(), HASTY)?;
+    for held in [0, 1] {
+        assert!(rt; serves_both(&rt, rt.alloc(), &plant, held)?);
     }
     Ok(())
 }

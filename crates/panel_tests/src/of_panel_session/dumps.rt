@@ -3,7 +3,7 @@
 ghost use Rattle.std.specs.Prelude.{◌≤◌, length};
 
 use super::board::Board;
-use super::{bytes_of, turn};
+use super::turn;
 use panel_session::Session;
 use plant_config::{PanelNo, Plant};
 use plant_names::Names;
@@ -23,9 +23,12 @@ port = 9001
 "#;
 
 // Asks for a dump of level 2, which the board says has 130 destinations.
-const DUMP: &str = "10 02 15 02 02 E7 10 03";
+const DUMP: &[u8] = b"\x10\x02\x15\x02\x02\xE7\x10\x03";
 
-const NAK: &str = "10 15";
+const NAK: &[u8] = b"\x10\x15";
+
+// The last page, of two destinations.
+const LAST: &[u8] = b"\x10\x02\x17\x02\x02\x00\x80\x03\xFF\x03\xFF\x09\x58\x10\x03";
 
 // What a new session of a plant sends for the dump and then for a NAK.
 fn dumped(alloc: Global, plant: &Plant) -> Result<(Vec<u8>, Vec<u8>), Fail>
@@ -34,10 +37,8 @@ fn dumped(alloc: Global, plant: &Plant) -> Result<(Vec<u8>, Vec<u8>), Fail>
     let names = Names::new(alloc, plant)?;
     let mut session = Session::start(alloc, plant, &names, PanelNo::of(0))?;
     let mut board = Board::new();
-    let dump = bytes_of(alloc, DUMP)?;
-    let nak = bytes_of(alloc, NAK)?;
-    let pages = turn(alloc, &mut session, &mut board, &dump)?;
-    Ok((pages, turn(alloc, &mut session, &mut board, &nak)?))
+    let pages = turn(alloc, &mut session, &mut board, DUMP)?;
+    Ok((pages, turn(alloc, &mut session, &mut board, NAK)?))
 }
 
 // They come in pages of 64, 64 and 2, of which a NAK repeats the last one.
@@ -48,9 +49,8 @@ fn a_dump_comes_in_pages_of_64(rt: HostRuntime) -> Result<(), Fail> {
     let (pages, last) = dumped(alloc, &large)?;
     // The ACK, and each page: 5 bytes and 2 for each destination, their length and check byte, and 4 of the frame.
     assert_eq!(rt; pages.len(), 295);
-    assert!(rt; pages.as_slice().ends_with(&last));
-    let wanted = bytes_of(alloc, "10 02 17 02 02 00 80 03 FF 03 FF 09 58 10 03")?;
-    assert_eq!(rt; last.as_slice(), wanted.as_slice());
+    assert!(rt; pages.as_slice().ends_with(LAST));
+    assert_eq!(rt; last.as_slice(), LAST);
     Ok(())
 }
 

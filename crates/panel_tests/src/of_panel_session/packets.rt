@@ -113,18 +113,22 @@ const ROWS: &[Row] = &[
     ),
 ];
 
+// Whether the lamps of a row are told in its packet.
+fn are_told(alloc: Global, plant: &Plant, row: &Row) -> Result<bool, Fail> {
+    let (first, second, wanted) = *row;
+    let (Some(first), Some(second)) = (answer_of(plant, Some(first)), answer_of(plant, second))
+    else {
+        return Ok(false);
+    };
+    let told = packet(alloc, plant, first, second)?;
+    Ok(told.as_slice() == bytes_of(alloc, wanted)?.as_slice())
+}
+
 #[test]
 fn lamps_are_told_in_one_packet(rt: HostRuntime) -> Result<(), Fail> {
-    let alloc = rt.alloc();
-    let plant = Plant::from_toml(alloc, STUDIO)?;
-    for (first, second, wanted) in ROWS {
-        let wanted = bytes_of(alloc, wanted)?;
-        let lamps = (answer_of(&plant, Some(*first)), answer_of(&plant, *second));
-        let told = match lamps {
-            (Some(first), Some(second)) => packet(alloc, &plant, first, second)?,
-            _ => Vec::new(alloc),
-        };
-        assert_eq!(rt; told.as_slice(), wanted.as_slice());
+    let plant = Plant::from_toml(rt.alloc(), STUDIO)?;
+    for (at, row) in ROWS.iter().enumerate() {
+        assert!(rt; are_told(rt.alloc(), &plant, row)?, "row {at}");
     }
     Ok(())
 }

@@ -4,7 +4,7 @@ ghost use Rattle.std.specs.Prelude.{◌≡◌, ◌^◌, ◌≤◌, IfOk};
 ghost use Rattle.panel_server.specs.Seats.{IsSeatOf};
 
 use crate::in_memory::Call::{Line, Read, Write};
-use crate::in_memory::{Failing, NOTHING, front, link_of, listed, locked};
+use crate::in_memory::{Failing, NOTHING, front, link_of, locked, trace_of};
 use ctl_io::MemSink;
 use ctl_net::MemLink;
 use history_lock::{HistoryLock, Seat};
@@ -46,55 +46,54 @@ level = [{ matrix = 0, level = 0, sources = 4, destinations = 8 }]
 panel = [{ port = 9001, device = 1 }]
 "#;
 
-// What fails, and in how many turns the session is served; how it ends, and how many bytes were written and traced then.
-type Case = (Failing, u32, SessionEnd, usize, usize);
-
-// The pieces that come over a link, an empty one for an idle read; what is written and traced at the most; and its cases.
+// The pieces that come over a link, an empty one for an idle read; and what is written and traced at the most.
 struct Day {
     pieces: &'static [&'static [u8]],
     written: &'static [u8],
     traced: &'static [u8],
-    cases: &'static [Case],
 }
 
-// An ACK is a write of its own before its entry, and an entry is traced before its answer is written.
 const FRAMES: Day = Day {
     pieces: &[TWO_FRAMES],
     written: ANSWERED,
     traced: TRACED,
-    cases: &[
-        (NOTHING, 10, SessionEnd::Ended, 26, 109),
-        ((Read, 0), 10, SessionEnd::ReadFault, 0, 0),
-        ((Read, 1), 10, SessionEnd::ReadFault, 26, 109),
-        ((Read, 2), 10, SessionEnd::Ended, 26, 109),
-        ((Write, 0), 10, SessionEnd::WriteFault, 0, 0),
-        ((Write, 1), 10, SessionEnd::WriteFault, 2, 47),
-        ((Write, 2), 10, SessionEnd::WriteFault, 13, 47),
-        ((Write, 3), 10, SessionEnd::WriteFault, 15, 92),
-        ((Write, 4), 10, SessionEnd::Ended, 26, 109),
-        ((Line(0), 0), 10, SessionEnd::TraceFault, 2, 0),
-        ((Line(0), 1), 10, SessionEnd::TraceFault, 15, 47),
-        ((Line(0), 2), 10, SessionEnd::TraceFault, 26, 92),
-        ((Line(0), 3), 10, SessionEnd::Ended, 26, 109),
-        (NOTHING, 1, SessionEnd::Spent, 26, 109),
-        ((Read, 0), 0, SessionEnd::Spent, 0, 0),
-    ],
 };
 
-// What fails in a turn stands before the limit on idle reads, and that before the one on turns.
 const IDLE: Day = Day {
     pieces: &[b"", b"", b""],
     written: b"",
     traced: POLLED,
-    cases: &[
-        (NOTHING, 10, SessionEnd::IdleOut, 0, 51),
-        (NOTHING, 3, SessionEnd::IdleOut, 0, 51),
-        (NOTHING, 2, SessionEnd::Spent, 0, 34),
-        ((Line(0), 2), 3, SessionEnd::TraceFault, 0, 34),
-        ((Line(0), 1), 2, SessionEnd::TraceFault, 0, 17),
-        ((Read, 2), 3, SessionEnd::ReadFault, 0, 34),
-    ],
 };
+
+// What comes, what fails, and in how many turns the session is served; how it ends, and how many bytes were written and traced
+// then.
+type Case = (&'static Day, Failing, u32, SessionEnd, usize, usize);
+
+const CASES: [Case; 21] = [
+    // An ACK is a write of its own before its entry, and an entry is traced before its answer is written.
+    (&FRAMES, NOTHING, 10, SessionEnd::Ended, 26, 109),
+    (&FRAMES, (Read, 0), 10, SessionEnd::ReadFault, 0, 0),
+    (&FRAMES, (Read, 1), 10, SessionEnd::ReadFault, 26, 109),
+    (&FRAMES, (Read, 2), 10, SessionEnd::Ended, 26, 109),
+    (&FRAMES, (Write, 0), 10, SessionEnd::WriteFault, 0, 0),
+    (&FRAMES, (Write, 1), 10, SessionEnd::WriteFault, 2, 47),
+    (&FRAMES, (Write, 2), 10, SessionEnd::WriteFault, 13, 47),
+    (&FRAMES, (Write, 3), 10, SessionEnd::WriteFault, 15, 92),
+    (&FRAMES, (Write, 4), 10, SessionEnd::Ended, 26, 109),
+    (&FRAMES, (Line(0), 0), 10, SessionEnd::TraceFault, 2, 0),
+    (&FRAMES, (Line(0), 1), 10, SessionEnd::TraceFault, 15, 47),
+    (&FRAMES, (Line(0), 2), 10, SessionEnd::TraceFault, 26, 92),
+    (&FRAMES, (Line(0), 3), 10, SessionEnd::Ended, 26, 109),
+    (&FRAMES, NOTHING, 1, SessionEnd::Spent, 26, 109),
+    (&FRAMES, (Read, 0), 0, SessionEnd::Spent, 0, 0),
+    // What fails in a turn stands before the limit on idle reads, and that before the one on turns.
+    (&IDLE, NOTHING, 10, SessionEnd::IdleOut, 0, 51),
+    (&IDLE, NOTHING, 3, SessionEnd::IdleOut, 0, 51),
+    (&IDLE, NOTHING, 2, SessionEnd::Spent, 0, 34),
+    (&IDLE, (Line(0), 2), 3, SessionEnd::TraceFault, 0, 34),
+    (&IDLE, (Line(0), 1), 2, SessionEnd::TraceFault, 0, 17),
+    (&IDLE, (Read, 2), 3, SessionEnd::ReadFault, 0, 34),
+];
 
 // Serves a new session of panel 0 from a seat of the plant's lock.
 fn serve<R: Wait>(
@@ -116,28 +115,34 @@ fn serve<R: Wait>(
     Ok(serve_session(rt, &mut session, lock, seat, link, trace, turns))
 }
 
-// Whether a case of a day goes as it says.
-fn goes_so<R: Wait>(
+// Serves a new session of panel 0 over a new lock.
+fn serve_alone<R: Wait>(
     rt: &R,
     alloc: Global,
     plant: &Plant,
-    day: &Day,
-    case: &Case,
-) -> Result<bool, AllocError> {
-    let (failing, turns, wanted, written, traced) = *case;
-    let mut link = link_of(alloc, day.pieces, failing)?;
-    let mut trace = MemSink::new(alloc, 200, listed(alloc, failing, Line(0))?)?;
+    link: &mut MemLink,
+    trace: &mut MemSink,
+    turns: u32,
+) -> Result<SessionEnd, AllocError> {
     let (lock, mut seat) = locked(alloc, plant)?;
-    let end = serve(
+    serve(
         rt,
         alloc,
         plant,
         &lock,
         &mut seat,
-        &mut link,
-        &mut trace,
+        link,
+        trace,
         u64::from(turns),
-    )?;
+    )
+}
+
+// Whether a session goes as a case says.
+fn goes_so<R: Wait>(rt: &R, alloc: Global, plant: &Plant, case: &Case) -> Result<bool, AllocError> {
+    let (day, failing, turns, wanted, written, traced) = *case;
+    let mut link = link_of(alloc, day.pieces, failing)?;
+    let mut trace = trace_of(alloc, failing, 0)?;
+    let end = serve_alone(rt, alloc, plant, &mut link, &mut trace, turns)?;
     Ok(
         end == wanted
             && counts(&link, &trace) == faults_of(wanted)
@@ -160,32 +165,13 @@ fn faults_of(end: SessionEnd) -> (u64, u64, u64) {
     )
 }
 
-// The first case of a day that doesn't go as it says.
-fn first_other<R: Wait>(
-    rt: &R,
-    alloc: Global,
-    plant: &Plant,
-    day: &Day,
-) -> Result<Option<usize>, AllocError> {
-    for (at, case) in day.cases.iter().enumerate() {
-        if !goes_so(rt, alloc, plant, day, case)? {
-            return Ok(Some(at));
-        }
-    }
-    Ok(None)
-}
-
+// Each call outside fails in turn, and idle reads end a session.
 #[test]
-fn each_call_outside_fails_in_turn(rt: HostRuntime) -> Result<(), Fail> {
-    let plant = Plant::bench(rt.alloc())?;
-    assert_eq!(rt; first_other(&rt, rt.alloc(), &plant, &FRAMES)?, None);
-    Ok(())
-}
-
-#[test]
-fn idle_reads_end_a_session(rt: HostRuntime) -> Result<(), Fail> {
+fn a_session_goes_as_its_calls_go(rt: HostRuntime) -> Result<(), Fail> {
     let plant = Plant::from_toml(rt.alloc(), HASTY)?;
-    assert_eq!(rt; first_other(&rt, rt.alloc(), &plant, &IDLE)?, None);
+    for (at, case) in CASES.iter().enumerate() {
+        assert!(rt; goes_so(&rt, rt.alloc(), &plant, case)?, "case {at}");
+    }
     Ok(())
 }
 
@@ -202,7 +188,7 @@ fn said<R: Wait>(
     ensures { IfOk result (λ all. IsSeatOf plant.now lock.now seat.new) }
 {
     let mut link = link_of(alloc, &[piece], NOTHING)?;
-    let mut trace = MemSink::new(alloc, 200, Vec::new(alloc))?;
+    let mut trace = trace_of(alloc, NOTHING, 0)?;
     let _ended = serve(rt, alloc, plant, lock, seat, &mut link, &mut trace, 10)?;
     link.written().to_vec(alloc)
 }

@@ -145,7 +145,7 @@ fn are_answered(
 
 // The first place where a stream is cut in two and isn't answered so, its start among them, which is a cut behind an idle
 // read. A stream of more than 500 bytes is cut nowhere else.
-pub(super) fn first_cut(
+fn first_cut(
     alloc: Global,
     session: &mut Session<'_>,
     stream: &[u8],
@@ -163,11 +163,7 @@ pub(super) fn first_cut(
 }
 
 // What a session that is made anew is sent where a panel sends a stream byte by byte.
-pub(super) fn in_bytes(
-    alloc: Global,
-    session: &mut Session<'_>,
-    stream: &[u8],
-) -> Result<Vec<u8>, Fail> {
+fn in_bytes(alloc: Global, session: &mut Session<'_>, stream: &[u8]) -> Result<Vec<u8>, Fail> {
     let mut board = Board::new();
     session.reset();
     let mut sent = Vec::new(alloc);
@@ -177,16 +173,38 @@ pub(super) fn in_bytes(
     Ok(sent)
 }
 
+// Whether a session that is made anew each time is sent this for a stream, however that is cut.
+pub(super) fn is_answered(
+    alloc: Global,
+    session: &mut Session<'_>,
+    stream: &[u8],
+    wanted: &[u8],
+) -> Result<bool, Fail> {
+    Ok(
+        first_cut(alloc, session, stream, wanted)?.is_none()
+            && in_bytes(alloc, session, stream)?.as_slice() == wanted,
+    )
+}
+
+// Whether a session is sent what a stream of the table wants.
+fn goes_so(
+    alloc: Global,
+    session: &mut Session<'_>,
+    (stream, wanted): (&[Run], &[Run]),
+) -> Result<bool, Fail> {
+    let stream = bytes_of(alloc, stream)?;
+    let wanted = bytes_of(alloc, wanted)?;
+    is_answered(alloc, session, &stream, &wanted)
+}
+
 #[test]
 fn streams_are_answered_however_they_are_cut(rt: HostRuntime) -> Result<(), Fail> {
     let alloc = rt.alloc();
     let plant = Plant::bench(alloc)?;
     let names = Names::new(alloc, &plant)?;
     let mut session = Session::start(alloc, &plant, &names, PanelNo::of(0))?;
-    for (stream, wanted) in STREAMS {
-        let (stream, wanted) = (bytes_of(alloc, stream)?, bytes_of(alloc, wanted)?);
-        assert_eq!(rt; first_cut(alloc, &mut session, &stream, &wanted)?, None);
-        assert_eq!(rt; in_bytes(alloc, &mut session, &stream)?, wanted);
+    for (at, row) in STREAMS.iter().enumerate() {
+        assert!(rt; goes_so(alloc, &mut session, *row)?, "stream {at}");
     }
     Ok(())
 }
