@@ -11,7 +11,7 @@ use Rattle.std.proofs.lemmas.List.Concat.{flat_map-append}
 use Rattle.dle_framing.specs.declared.item.Item.{Item}
 use Rattle.dle_framing.specs.declared.item.Item.TheVariants.{Good}
 use Rattle.dle_framing.specs.Frame.{doubled, enclosed}
-use Rattle.dle_framing.specs.Items.{Reading, only_rest, with_item, item_of, is_good, reading, items, rest}
+use Rattle.dle_framing.specs.Items.{TextReading, only_rest, with_item, item_of, is_good, reading, items, rest}
 use Rattle.dle_framing.specs.Kept.{Keeps}
 use Rattle.dle_framing.specs.StepsInside.{found_in, Steps}
 use Rattle.dle_framing.specs.Framer.{StandsFor}
@@ -54,8 +54,8 @@ passes_noise bytes framer outside noise text stands =
     let none : rest text ≡ [] = (let P : State → Type 0 = λ state. Keeps state framer.front (rest text) in subst P outside stands) in
     let on = reads_on_lem text bytes in
     let behind : reading (rest text ++ bytes) ≡ only_rest [] = ap (λ (kept : List ℕ). reading (kept ++ bytes)) none ∙ noise in (
-      on.items_go_on ∙ ap (λ (behind : Reading). items text ++ behind.items) behind ∙ append-nil (items text),
-      subst Kept (none ∙ sym (on.rest_goes_on ∙ ap (λ (behind : Reading). behind.rest) behind)) stands,
+      on.items_go_on ∙ ap (λ (behind : TextReading). items text ++ behind.items) behind ∙ append-nil (items text),
+      subst Kept (none ∙ sym (on.rest_goes_on ∙ ap (λ (behind : TextReading). behind.rest) behind)) stands,
     )
 
 -- bytes of a body, which are their own spelling, pass in a frame
@@ -73,9 +73,9 @@ passes_body bytes before after inside still single grown text stands =
     let keeps : Keeps Inside after.front (rest (text ++ bytes)) = (
       kept.0 ++ bytes,
       grown ∙ ap (λ (front : List ℕ). take most_kept (front ++ bytes)) kept.1 ∙ take-take_append kept.0 bytes,
-      on.rest_goes_on ∙ ap (λ (behind : Reading). behind.rest) behind,
+      on.rest_goes_on ∙ ap (λ (behind : TextReading). behind.rest) behind,
     ) in (
-      on.items_go_on ∙ ap (λ (behind : Reading). items text ++ behind.items) behind ∙ append-nil (items text),
+      on.items_go_on ∙ ap (λ (behind : TextReading). items text ++ behind.items) behind ∙ append-nil (items text),
       (let P : State → Type 0 = λ state. Keeps state after.front (rest (text ++ bytes)) in subst P (sym still) keeps),
     )
 
@@ -147,7 +147,7 @@ feeds_item text piece n byte item within is none ends =
 pub noise_more : (text : List ℕ) (byte : ℕ) → reading text ≡ only_rest [] → nat_eq byte dle ≡ false → reading (text ++ byte ∷ []) ≡ only_rest []
 noise_more text byte noise other =
     reading-append text (byte ∷ [])
-    ∙ ap (λ (before : Reading). followed before (reading (before.rest ++ byte ∷ []))) noise
+    ∙ ap (λ (before : TextReading). followed before (reading (before.rest ++ byte ∷ []))) noise
     ∙ reading-noise byte [] other
     ∙ reading-by_start []
 
@@ -186,7 +186,7 @@ unfolding StandsFor
 feeds_whole piece body used before after outside still within is good text stands =
     let none : rest text ≡ [] = (let P : State → Type 0 = λ state. Keeps state before.front (rest text) in subst P outside stands) in
     let item : Item (List ℕ) = Good (take (length body - 2) body) in
-    let whole : Reading = record { items = item ∷ []; rest = [] } in
+    let whole : TextReading = record { items = item ∷ []; rest = [] } in
     let on = reads_on_lem text (take used piece) in
     let behind : reading (rest text ++ take used piece) ≡ whole =
     ap (λ (kept : List ℕ). reading (kept ++ take used piece)) none
@@ -202,12 +202,12 @@ feeds_whole piece body used before after outside still within is good text stand
     (reads_on_lem text (take (length sent) piece)).items_go_on
     ∙ ap (λ (kept : List ℕ). items text ++ items (kept ++ take (length sent) piece)) none
     ∙ ap (λ (front : List ℕ). items text ++ items front) front
-    ∙ ap (λ (reading : Reading). items text ++ reading.items) (reading-frame body (dle ∷ []) refl)
+    ∙ ap (λ (reading : TextReading). items text ++ reading.items) (reading-frame body (dle ∷ []) refl)
     ∙ append-nil (items text) in
-    let keeps : Keeps Outside after.front (rest (text ++ take used piece)) = on.rest_goes_on ∙ ap (λ (behind : Reading). behind.rest) behind in (
+    let keeps : Keeps Outside after.front (rest (text ++ take used piece)) = on.rest_goes_on ∙ ap (λ (behind : TextReading). behind.rest) behind in (
       record {
         within = within;
-        adds = on.items_go_on ∙ ap (λ (behind : Reading). items text ++ behind.items) behind;
+        adds = on.items_go_on ∙ ap (λ (behind : TextReading). items text ++ behind.items) behind;
         is_first = λ k below. none_before text piece k (length sent) (omega arith) passes;
         uses_all = λ is_none. cc;
       },

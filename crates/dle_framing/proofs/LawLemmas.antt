@@ -6,22 +6,22 @@ use Rattle.dle_framing.specs.declared.item.Item.{Item}
 use Rattle.dle_framing.specs.declared.item.Item.TheVariants.{Good, Ack, Nak}
 use Rattle.dle_framing.specs.Numbers.{dle, etx, ack, nak}
 use Rattle.dle_framing.specs.Frame.{IsData, body, enclosed, frame}
-use Rattle.dle_framing.specs.Items.{Reading, with_item, item_of, reading, items, rest}
+use Rattle.dle_framing.specs.Items.{TextReading, with_item, item_of, reading, items, rest}
 use Rattle.dle_framing.specs.Laws.{ReadsByStart, ReadsOn, IsReadAs, frames}
 use Rattle.dle_framing.proofs.FrameLemmas.{good-body, data-body}
 use Rattle.dle_framing.proofs.Readings.{by_start-same, reading-by_start, reading-frame, reading-append}
 
-only_within : (reads : List ℕ → Reading) → ReadsByStart reads → (n : ℕ) (text : List ℕ) → length text ≤ n → reads text ≡ reading text
+only_within : (reads : List ℕ → TextReading) → ReadsByStart reads → (n : ℕ) (text : List ℕ) → length text ≤ n → reads text ≡ reading text
 only_within reads by zero text within = by text ∙ by_start-same reads reading text (λ t shorter. absurd (omega arith)) ∙ sym (reading-by_start text)
 only_within reads by (suc n) text within = by text ∙ by_start-same reads reading text (λ t shorter. only_within reads by n t (omega arith)) ∙ sym (reading-by_start text)
 
-pub reading_only : (reads : List ℕ → Reading) → ReadsByStart reads → (text : List ℕ) → reads text ≡ reading text
+pub reading_only : (reads : List ℕ → TextReading) → ReadsByStart reads → (text : List ℕ) → reads text ≡ reading text
 reading_only reads by text = only_within reads by (length text) text (omega arith)
 
 pub reads_on_lem : (text more : List ℕ) → ReadsOn text more
 reads_on_lem text more = record {
-  items_go_on = ap (λ (reading : Reading). reading.items) (reading-append text more);
-  rest_goes_on = ap (λ (reading : Reading). reading.rest) (reading-append text more);
+  items_go_on = ap (λ (reading : TextReading). reading.items) (reading-append text more);
+  rest_goes_on = ap (λ (reading : TextReading). reading.rest) (reading-append text more);
 }
 
 pub items_front : (text longer : List ℕ) → IsPrefix text longer → IsPrefix (items text) (items longer)
@@ -38,8 +38,8 @@ item_of-body carried is_data = cond-true _ _ _ (good-body carried is_data) ∙ a
 -- a text by its reading
 read_as : (text : List ℕ) (given : List (Item (List ℕ))) → reading text ≡ record { items = given; rest = [] } → IsReadAs text given
 read_as text given reads = record {
-  all_items = ap (λ (reading : Reading). reading.items) reads;
-  no_rest = ap (λ (reading : Reading). reading.rest) reads;
+  all_items = ap (λ (reading : TextReading). reading.items) reads;
+  no_rest = ap (λ (reading : TextReading). reading.rest) reads;
 }
 
 pub reads_one : (carried : List ℕ) → IsData carried → IsReadAs (frame carried) (Good carried ∷ [])

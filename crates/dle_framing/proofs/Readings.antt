@@ -6,7 +6,7 @@ use Rattle.dle_framing.specs.declared.item.Item.{Item}
 use Rattle.dle_framing.specs.declared.item.Item.TheVariants.{Ack, Nak}
 use Rattle.dle_framing.specs.Numbers.{dle, stx, etx, ack_byte, nak_byte}
 use Rattle.dle_framing.specs.Frame.{doubled}
-use Rattle.dle_framing.specs.Items.{longest_run, Reading, only_rest, with_item, item_of, in_frame, by_start, reading_within, reading}
+use Rattle.dle_framing.specs.Items.{longest_run, TextReading, only_rest, with_item, item_of, in_frame, by_start, reading_within, reading}
 use Rattle.dle_framing.proofs.Runs.{at_byte, longest_run-stop, longest_run-ended, doubled-longest_run, Stops, longest_run-stops}
 
 -- what is behind a run is no longer than the text
@@ -16,14 +16,14 @@ length-behind text =
     omega (arith, length-append (doubled run.spelled) run.behind, ap (length {A = ℕ}) (doubled-longest_run text))
 
 -- Two readings that agree on what is behind a run agree on the frame.
-in_frame-same : (f g : List ℕ → Reading) (text spelled behind : List ℕ) → ((t : List ℕ) → length t ≤ length behind → f t ≡ g t)
+in_frame-same : (f g : List ℕ → TextReading) (text spelled behind : List ℕ) → ((t : List ℕ) → length t ≤ length behind → f t ≡ g t)
     → in_frame f text (record { spelled = spelled; behind = behind }) ≡ in_frame g text (record { spelled = spelled; behind = behind })
 in_frame-same f g text spelled [] same = refl
 in_frame-same f g text spelled (a ∷ []) same = refl
 in_frame-same f g text spelled (a ∷ b ∷ more) same = rw (same more (omega arith), same (a ∷ b ∷ more) (omega arith)) refl
 
 -- Two readings that agree on each shorter text agree on a text by its start.
-pub by_start-same : (f g : List ℕ → Reading) (text : List ℕ) → ((t : List ℕ) → length t < length text → f t ≡ g t) → by_start f text ≡ by_start g text
+pub by_start-same : (f g : List ℕ → TextReading) (text : List ℕ) → ((t : List ℕ) → length t < length text → f t ≡ g t) → by_start f text ≡ by_start g text
 by_start-same f g [] same = refl
 by_start-same f g (a ∷ []) same = refl
 by_start-same f g (a ∷ b ∷ text) same =
@@ -68,15 +68,15 @@ reading-abandoned body b more no_dle no_etx no_stx =
     reading-frame body (dle ∷ b ∷ more) (longest_run-stop b more no_dle) ∙ cond-false _ _ _ no_etx ∙ cond-false _ _ _ no_stx
 
 -- one reading, and then another
-abbrev pub followed : Reading → Reading → Reading
+abbrev pub followed : TextReading → TextReading → TextReading
 followed first second = record { items = first.items ++ second.items; rest = second.rest }
 
 -- A text that goes on has the items of the text, and then those of its rest and what comes.
 abbrev GoesOn : List ℕ → List ℕ → Type 0
 GoesOn more text = reading (text ++ more) ≡ followed (reading text) (reading ((reading text).rest ++ more))
 
-goes_on_as : (more text : List ℕ) (is : Reading) → reading text ≡ is → reading (text ++ more) ≡ followed is (reading (is.rest ++ more)) → GoesOn more text
-goes_on_as more text is same goes = let P : Reading → Type 0 = λ is. reading (text ++ more) ≡ followed is (reading (is.rest ++ more)) in subst P (sym same) goes
+goes_on_as : (more text : List ℕ) (is : TextReading) → reading text ≡ is → reading (text ++ more) ≡ followed is (reading (is.rest ++ more)) → GoesOn more text
+goes_on_as more text is same goes = let P : TextReading → Type 0 = λ is. reading (text ++ more) ≡ followed is (reading (is.rest ++ more)) in subst P (sym same) goes
 
 goes_on_rest : (more text : List ℕ) → reading text ≡ only_rest text → GoesOn more text
 goes_on_rest more text same = goes_on_as more text (only_rest text) same refl

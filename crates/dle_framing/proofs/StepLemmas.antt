@@ -10,7 +10,7 @@ use Rattle.dle_framing.specs.declared.framer.State.TheVariants.{Outside, Outside
 use Rattle.dle_framing.specs.declared.item.Item.{Item}
 use Rattle.dle_framing.specs.declared.item.Item.TheVariants.{Ack, Nak}
 use Rattle.dle_framing.specs.Frame.{doubled}
-use Rattle.dle_framing.specs.Items.{Reading, only_rest, with_item, item_of, is_good, reading, items, rest}
+use Rattle.dle_framing.specs.Items.{TextReading, only_rest, with_item, item_of, is_good, reading, items, rest}
 use Rattle.dle_framing.specs.Kept.{Keeps}
 use Rattle.dle_framing.specs.StepsInside.{found_in, Steps}
 use Rattle.dle_framing.proofs.Runs.{doubled-byte}
@@ -42,8 +42,8 @@ stepped : (text : List ℕ) (item : Option (Item (Unit {0}))) (state : State) (f
     → reading text ≡ record { items = option_to_list (option_map (found_in front) item); rest = kept } → Keeps state front kept
     → (items text ≡ option_to_list (option_map (found_in front) item)) × Keeps state front (rest text)
 stepped text item state front kept reads keeps = (
-  ap (λ (reading : Reading). reading.items) reads,
-  (let P : List ℕ → Type 0 = Keeps state front in subst P (sym (ap (λ (reading : Reading). reading.rest) reads)) keeps),
+  ap (λ (reading : TextReading). reading.items) reads,
+  (let P : List ℕ → Type 0 = Keeps state front in subst P (sym (ap (λ (reading : TextReading). reading.rest) reads)) keeps),
 )
 
 -- the same, behind what a state kept
@@ -147,7 +147,7 @@ inner-abandoned front byte no_dle no_etx no_stx kept keeps =
 
 -- the empty text has no rest
 pub rest-nil : rest [] ≡ []
-rest-nil = ap (λ (reading : Reading). reading.rest) (reading-by_start [])
+rest-nil = ap (λ (reading : TextReading). reading.rest) (reading-by_start [])
 
 -- The front of a body that goes on is that of its front.
 pub take-take_append : (body more : List ℕ) → take most_kept (take most_kept body ++ more) ≡ take most_kept (body ++ more)

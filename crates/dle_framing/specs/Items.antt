@@ -35,19 +35,19 @@ longest_run (a ∷ b ∷ text) =
     else with_piece a (longest_run (b ∷ text))
 
 -- what a text says: its items, and the rest that is no whole item yet
-pub record Reading : Type 0 where
+pub record TextReading : Type 0 where
   pub items : List (Item (List ℕ))
   pub rest : List ℕ
 
-abbrev pub only_rest : List ℕ → Reading
+abbrev pub only_rest : List ℕ → TextReading
 only_rest text = record { items = []; rest = text }
 
-abbrev pub with_item : Item (List ℕ) → Reading → Reading
+abbrev pub with_item : Item (List ℕ) → TextReading → TextReading
 with_item item reading = record reading { items = item ∷ reading.items }
 
 -- Behind DLE STX and a run of pieces: DLE ETX ends the frame and DLE STX starts the next one, where DLE and any other
 -- byte abandon it. Where nothing or a lone DLE follows the run, all from DLE STX on is the rest.
-abbrev pub in_frame : (List ℕ → Reading) → List ℕ → Run → Reading
+abbrev pub in_frame : (List ℕ → TextReading) → List ℕ → Run → TextReading
 in_frame goes_on text run = elim run.behind [
   | [] ↦ only_rest (dle ∷ stx ∷ text)
   | (a ∷ behind) ↦ elim behind [
@@ -61,7 +61,7 @@ in_frame goes_on text run = elim run.behind [
 
 -- The reading of a text by cases on its start, where `goes_on` is the reading of what is behind that start. A byte that
 -- starts none of ACK, NAK and a frame is noise by itself.
-abbrev pub by_start : (List ℕ → Reading) → List ℕ → Reading
+abbrev pub by_start : (List ℕ → TextReading) → List ℕ → TextReading
 by_start goes_on [] = only_rest []
 by_start goes_on (a ∷ []) = if a == dle then only_rest (a ∷ []) else only_rest []
 by_start goes_on (a ∷ b ∷ text) =
@@ -73,12 +73,12 @@ by_start goes_on (a ∷ b ∷ text) =
     ) else goes_on (b ∷ text)
 
 -- Reading goes on at a shorter text each time, so as many steps as the text has bytes are enough.
-abbrev pub reading_within : ℕ → List ℕ → Reading
+abbrev pub reading_within : ℕ → List ℕ → TextReading
 reading_within zero text = only_rest text
 reading_within (suc steps) text = by_start (reading_within steps) text
 
 -- The reading of a text. It is `by_start reading`, a law that `reads_by_start` states; the steps only show that it ends.
-unfoldable pub reading : List ℕ → Reading
+unfoldable pub reading : List ℕ → TextReading
 reading text = reading_within (length text) text
 
 -- the items of a text

@@ -6,16 +6,17 @@ use Rattle.dle_framing.specs.declared.item.Item.{Item}
 use Rattle.dle_framing.specs.declared.item.Item.TheVariants.{Good}
 use Rattle.dle_framing.specs.Numbers.{most_frame}
 use Rattle.dle_framing.specs.Frame.{IsData, frame}
-use Rattle.dle_framing.specs.Items.{Reading, by_start, items, reading, rest}
+use Rattle.dle_framing.specs.Items.{TextReading, by_start, items, reading, rest}
 
 -- a way to read texts that reads each by its start, and what is behind that start in the same way
-abbrev pub ReadsByStart : (List ℕ → Reading) → Type 0
+abbrev pub ReadsByStart : (List ℕ → TextReading) → Type 0
 ReadsByStart reads = (text : List ℕ) → reads text ≡ by_start reads text
 
 -- whatever reads each text by its start reads it as `reading` does
 abbrev pub OneReadsByStart : Type 0
 OneReadsByStart =
-    (reads : List ℕ → Reading) → ReadsByStart reads → (text : List ℕ) → reads text ≡ reading text
+    (reads : List ℕ → TextReading) → ReadsByStart reads
+    → (text : List ℕ) → reads text ≡ reading text
 
 -- what a text says once more has come
 pub record ReadsOn (text more : List ℕ) : Type 0 where

@@ -8,7 +8,7 @@ use Rattle.std.proofs.lemmas.Bool.{cond-false}
 use Rattle.dle_framing.specs.declared.item.Item.{Item}
 use Rattle.dle_framing.specs.declared.item.Item.TheVariants.{Good, Bad}
 use Rattle.dle_framing.specs.Frame.{check_byte, counted, enclosed, frame}
-use Rattle.dle_framing.specs.Items.{Reading, is_good, item_of, items, reading, rest, with_item}
+use Rattle.dle_framing.specs.Items.{TextReading, is_good, item_of, items, reading, rest, with_item}
 use Rattle.dle_framing.specs.Laws.{IsReadAs}
 use Rattle.dle_framing.proofs.Readings.{reading-by_start}
 use Rattle.dle_framing.proofs.LawLemmas.{reading-enclosed, reads_on_lem, reads_one}
@@ -62,8 +62,8 @@ reads_at number panel at =
     let bytes = text (message_at number panel at) in
     elim (is_bad at) as (λ b. IsReadAs (if b then bad_frame bytes else frame bytes) ((if b then Bad else Good bytes) ∷ [])) [
       | true ↦ record {
-        all_items = ap (λ (r : Reading). r.items) (reads_bad bytes);
-        no_rest = ap (λ (r : Reading). r.rest) (reads_bad bytes);
+        all_items = ap (λ (r : TextReading). r.items) (reads_bad bytes);
+        no_rest = ap (λ (r : TextReading). r.rest) (reads_bad bytes);
       }
       | false ↦ reads_one bytes (omega arith, omega (arith, text_most (message_at number panel at)))
     ]
@@ -79,8 +79,8 @@ reads_both one more given next first second =
 
 read_each : (number panel : ℕ) (ats : List ℕ) → IsReadAs (flat_map (sent_at number panel) ats) (map (item_at number panel) ats)
 read_each number panel [] = record {
-  all_items = ap (λ (r : Reading). r.items) (reading-by_start []);
-  no_rest = ap (λ (r : Reading). r.rest) (reading-by_start []);
+  all_items = ap (λ (r : TextReading). r.items) (reading-by_start []);
+  no_rest = ap (λ (r : TextReading). r.rest) (reading-by_start []);
 }
 read_each number panel (at ∷ ats) =
     reads_both (sent_at number panel at) (flat_map (sent_at number panel) ats) (item_at number panel at ∷ []) (map (item_at number panel) ats) (reads_at number panel at) (read_each number panel ats)

@@ -6,7 +6,7 @@ use Rattle.std.proofs.lemmas.List.{append-nil, append_assoc, length-append, leng
 use Rattle.std.proofs.lemmas.List.Concat.{flat_map-append}
 use Rattle.std.proofs.lemmas.List.Elements.{All-nil, All-append, All-head, All-tail, All-push, All-weaker, All-from_recursion, filter-append}
 use Rattle.dle_framing.specs.declared.item.Item.{Item}
-use Rattle.dle_framing.specs.Items.{items, Reading}
+use Rattle.dle_framing.specs.Items.{TextReading, items}
 use Rattle.dle_framing.proofs.Readings.{reading-by_start}
 use Rattle.plant_core.specs.declared.request.Request.{Request}
 use Rattle.plant_core.specs.declared.request.Request.TheVariants.{Told, Poll, Leave, DisplayPoll}
@@ -54,7 +54,7 @@ pub record Tells (panel : ℕ) (turns : List Turn) : Type 0 where
 tells_none : (panel : ℕ) → Tells panel []
 tells_none panel = record {
   asked = [];
-  ask = subst (λ its. AllAsk its []) (sym (ap (λ (reading : Reading). reading.items) (reading-by_start []))) tt;
+  ask = subst (λ its. AllAsk its []) (sym (ap (λ (reading : TextReading). reading.items) (reading-by_start []))) tt;
   told = refl;
   within = All-nil (EntryWithin panel (item_count []) 0);
 }

@@ -6,7 +6,7 @@ use Rattle.std.proofs.lemmas.List.{append_assoc, append-nil, take-append-drop}
 use Rattle.dle_framing.specs.Framer as framer
 use Rattle.dle_framing.specs.declared.framer.Framer.{Framer}
 use Rattle.dle_framing.specs.declared.item.Item.{Item}
-use Rattle.dle_framing.specs.Items.{Reading, items}
+use Rattle.dle_framing.specs.Items.{TextReading, items}
 use Rattle.dle_framing.proofs.Readings.{reading-by_start}
 use Rattle.panel_session.specs.Entry.{PlantEntry}
 use Rattle.panel_session.specs.OutgoingInside.{emptied}
@@ -129,7 +129,7 @@ pub stands_new : (plant : PlantData) (panel : ℕ) (session : Session) → sessi
     → Stands plant panel session nothing_yet
 stands_new plant panel session plant_is names_are panel_is has_panel fed kept read unsent goods bads places =
     let KeepsOf : Kept → Type 0 = λ kept. Keeps plant kept nothing_yet in
-    let none : items [] ≡ [] = ap (λ (reading : Reading). reading.items) (reading-by_start []) in
+    let none : items [] ≡ [] = ap (λ (reading : TextReading). reading.items) (reading-by_start []) in
     record {
       plant_is = plant_is;
       names_are = names_are;

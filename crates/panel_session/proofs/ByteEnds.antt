@@ -9,7 +9,7 @@ use Rattle.dle_framing.specs.declared.framer.State.TheVariants.{Outside, Outside
 use Rattle.dle_framing.specs.declared.item.Item.{Item}
 use Rattle.dle_framing.specs.declared.item.Item.TheVariants.{Good, Bad, Ack, Nak}
 use Rattle.dle_framing.specs.Frame.{doubled}
-use Rattle.dle_framing.specs.Items.{Reading, only_rest, item_of, is_good, reading, items, rest}
+use Rattle.dle_framing.specs.Items.{TextReading, only_rest, item_of, is_good, reading, items, rest}
 use Rattle.dle_framing.specs.Kept.{Keeps}
 use Rattle.dle_framing.specs.StepsInside.{found_in, Steps}
 use Rattle.dle_framing.proofs.Readings.{reading-noise}
@@ -34,7 +34,7 @@ steps_so state front byte is item next next_front same steps =
 
 -- a text of which nothing is an item, and this is the rest
 stepped : (text kept : List ℕ) → reading text ≡ only_rest kept → (items text ≡ []) × (rest text ≡ kept)
-stepped text kept reads = (ap (λ (reading : Reading). reading.items) reads, ap (λ (reading : Reading). reading.rest) reads)
+stepped text kept reads = (ap (λ (reading : TextReading). reading.items) reads, ap (λ (reading : TextReading). reading.rest) reads)
 
 -- a byte of noise
 outside-noise : (front : List ℕ) (byte : ℕ) → nat_eq byte dle ≡ false → Steps Outside front byte None Outside front

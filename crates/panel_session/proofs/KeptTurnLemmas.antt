@@ -3,7 +3,7 @@ use Rattle.std.proofs.Common.{◌≡◌, ◌≢◌, ℕ, ◌+◌, false, Bool, i
 use Rattle.std.proofs.lemmas.List.Elements.{All-nil, All-push}
 use Rattle.std.proofs.lemmas.List.{append-nil, length-append}
 use Rattle.dle_framing.specs.declared.item.Item.{Item}
-use Rattle.dle_framing.specs.Items.{Reading, items}
+use Rattle.dle_framing.specs.Items.{TextReading, items}
 use Rattle.dle_framing.proofs.Readings.{reading-by_start}
 use Rattle.plant_config.specs.Plant.{PlantData}
 use Rattle.std.proofs.lemmas.Grind.{flat_map-append}
@@ -133,7 +133,7 @@ keeps_nothing plant panel = record {
   output = refl;
 } where
   none : items [] ≡ []
-  none = ap (λ (reading : Reading). reading.items) (reading-by_start [])
+  none = ap (λ (reading : TextReading). reading.items) (reading-by_start [])
 
   NoneAsk : List (Item (List ℕ)) → Type 0
   NoneAsk its = AllAsk its []

@@ -6,7 +6,7 @@ use Rattle.std.proofs.lemmas.List.Elements.{All-head, All-tail}
 use Rattle.ctl_io.specs.Faults.{one_more}
 use Rattle.ctl_io.specs.ReadHalf.{Reading}
 use Rattle.dle_framing.specs.declared.item.Item.{Item}
-use Rattle.dle_framing.specs.Items.{Reading as ItemReading, items}
+use Rattle.dle_framing.specs.Items.{TextReading, items}
 use Rattle.dle_framing.proofs.Readings.{reading-by_start}
 use Rattle.panel_session.specs.Served.{AreTaken, all_read, idles_after, read_of, read_room}
 use Rattle.panel_session.specs.Turns.{Turn, bytes_read}
@@ -31,7 +31,7 @@ more_items text (byte ∷ more) =
     )
 
 no_items : items [] ≡ []
-no_items = ap (λ (reading : ItemReading). reading.items) (reading-by_start [])
+no_items = ap (λ (reading : TextReading). reading.items) (reading-by_start [])
 
 pub few_items : (text : List ℕ) → length (items text) ≤ length text
 few_items text = omega (arith, more_items [] text, ap (length {A = Item (List ℕ)}) no_items)

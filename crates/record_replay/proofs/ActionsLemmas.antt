@@ -4,7 +4,7 @@ use Rattle.std.specs.Prelude.{map}
 use Rattle.std.specs.List.{flat_map}
 use Rattle.std.proofs.lemmas.Bool.{eqb-true}
 use Rattle.std.proofs.lemmas.List.Elements.{All-head, All-tail, All-nil, All-cons, All-from_recursion}
-use Rattle.dle_framing.specs.Items.{Reading}
+use Rattle.dle_framing.specs.Items.{TextReading}
 use Rattle.dle_framing.proofs.Readings.{reading-by_start}
 use Rattle.history_lock.specs.History.{run, IsLegal}
 use Rattle.history_lock.proofs.HistoryLemmas.{run-append, legal-append}
@@ -51,7 +51,7 @@ module _ (plant : PlantData) where
       pieces_are = refl;
       entries_are = refl;
       sent_is = refl;
-      text = record { asked = []; items_ask = subst (λ its. AllAsk its []) (sym (ap (λ (reading : Reading). reading.items) (reading-by_start []))) tt; bytes = refl };
+      text = record { asked = []; items_ask = subst (λ its. AllAsk its []) (sym (ap (λ (reading : TextReading). reading.items) (reading-by_start []))) tt; bytes = refl };
     };
     settled = settled-begun plant;
   }

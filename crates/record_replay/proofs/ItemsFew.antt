@@ -4,7 +4,7 @@ use Rattle.std.proofs.lemmas.Bool.{eqb-true}
 use Rattle.dle_framing.specs.Numbers.{dle, stx, etx, ack_byte, nak_byte}
 use Rattle.dle_framing.specs.Frame.{doubled}
 use Rattle.dle_framing.specs.declared.item.Item.TheVariants.{Ack, Nak}
-use Rattle.dle_framing.specs.Items.{Reading, by_start, in_frame, item_of, items, longest_run, only_rest, reading, with_item}
+use Rattle.dle_framing.specs.Items.{TextReading, by_start, in_frame, item_of, items, longest_run, only_rest, reading, with_item}
 use Rattle.dle_framing.proofs.Runs.{Stops, doubled-longest_run, longest_run-stops}
 use Rattle.dle_framing.proofs.Readings.{reading-by_start, length-behind}
 use Rattle.record_replay.specs.ReplayerInside.{is_end, ends_behind, ends_in}
@@ -58,11 +58,11 @@ ends_in-run b text =
     let run = longest_run text in
     subst (λ (text : List ℕ). ends_in run.behind ≤ ends_behind true (b ∷ text)) (doubled-longest_run text) (ends_behind-behind true (b ∷ doubled run.spelled) run.behind)
 
-either_few : (n : ℕ) (yes : Bool) (one other : Reading) → (yes ≡ true → length one.items ≤ n) → length other.items ≤ n → length (if yes then one else other).items ≤ n
+either_few : (n : ℕ) (yes : Bool) (one other : TextReading) → (yes ≡ true → length one.items ≤ n) → length other.items ≤ n → length (if yes then one else other).items ≤ n
 either_few n true one other few_one few_other = few_one refl
 either_few n false one other few_one few_other = few_other
 
-frame_few : (goes_on : List ℕ → Reading) (text spelled behind : List ℕ) (n : ℕ) → Stops behind → ends_in behind ≤ n → ((t : List ℕ) → length t ≤ length behind → length (goes_on t).items ≤ ends_in t)
+frame_few : (goes_on : List ℕ → TextReading) (text spelled behind : List ℕ) (n : ℕ) → Stops behind → ends_in behind ≤ n → ((t : List ℕ) → length t ≤ length behind → length (goes_on t).items ≤ ends_in t)
     → length (in_frame goes_on text (record { spelled = spelled; behind = behind })).items ≤ n
 frame_few goes_on text spelled [] n stops within few = omega arith
 frame_few goes_on text spelled (a ∷ []) n stops within few = omega arith
@@ -74,7 +74,7 @@ frame_few goes_on text spelled (a ∷ b ∷ more) n stops within few =
     (λ is. omega (arith, within, few (a ∷ b ∷ more) (omega arith)))
     (omega (arith, within, all, ends_behind-behind true (b ∷ []) more, few more (omega arith))))
 
-start_few : (goes_on : List ℕ → Reading) (text : List ℕ) → ((t : List ℕ) → length t < length text → length (goes_on t).items ≤ ends_in t) → length (by_start goes_on text).items ≤ ends_in text
+start_few : (goes_on : List ℕ → TextReading) (text : List ℕ) → ((t : List ℕ) → length t < length text → length (goes_on t).items ≤ ends_in t) → length (by_start goes_on text).items ≤ ends_in text
 start_few goes_on [] few = omega arith
 start_few goes_on (a ∷ []) few = either_few (ends_in (a ∷ [])) (a == dle) (only_rest (a ∷ [])) (only_rest []) (λ is. omega arith) (omega arith)
 start_few goes_on (a ∷ b ∷ text) few =
@@ -98,10 +98,10 @@ start_few goes_on (a ∷ b ∷ text) few =
     next
 
 few_within : (n : ℕ) (text : List ℕ) → length text ≤ n → length (items text) ≤ ends_in text
-few_within zero [] within = subst (λ (r : Reading). length r.items ≤ 0) (sym (reading-by_start [])) (omega arith)
+few_within zero [] within = subst (λ (r : TextReading). length r.items ≤ 0) (sym (reading-by_start [])) (omega arith)
 few_within zero (a ∷ text) within = absurd (omega (arith, within))
 few_within (suc n) text within =
-    subst (λ (r : Reading). length r.items ≤ ends_in text) (sym (reading-by_start text)) (start_few reading text (λ t shorter. few_within n t (omega (arith, within, shorter))))
+    subst (λ (r : TextReading). length r.items ≤ ends_in text) (sym (reading-by_start text)) (start_few reading text (λ t shorter. few_within n t (omega (arith, within, shorter))))
 
 pub items-few : (text : List ℕ) → length (items text) ≤ ends_in text
 items-few text = few_within (length text) text (omega arith)

@@ -6,7 +6,7 @@ use Rattle.tsl_umd5.specs.declared.fault.TslFault.{TslFault}
 use Rattle.tsl_umd5.specs.Kind.{kind_name}
 use Rattle.tsl_umd5.specs.Lamp.{lamp_code}
 use Rattle.tsl_umd5.specs.Packet.{Display, Contents}
-use Rattle.tsl_umd5.specs.Reading.{reading}
+use Rattle.tsl_umd5.specs.Reading.{packet_reading}
 use Rattle.tsl_stream.specs.Items.{PacketItem, Packet, Bad, stream_items}
 use Rattle.line_text.specs.Lines.{line_feed}
 use Rattle.record_replay.specs.declared.monitor.MonitorFault.{MonitorFault}
@@ -54,7 +54,7 @@ read_lines (Err fault) = bad_line fault
 
 -- the lines of an item of a stream
 abbrev pub item_lines : PacketItem → List ℕ
-item_lines (Packet bytes) = read_lines (reading bytes)
+item_lines (Packet bytes) = read_lines (packet_reading bytes)
 item_lines (Bad fault) = bad_line fault
 
 -- the lines of a stream: those of its items, one after the other. What is no item, a rest at the end or noise, has none.

@@ -6,7 +6,7 @@ ghost use Rattle.ctl_io.specs.Faults.{count_after};
 ghost use Rattle.ctl_io.specs.Sink.{appended, AppendsPart};
 ghost use Rattle.tsl_umd5.specs.Layout.{max_packet};
 ghost use Rattle.tsl_umd5.specs.Packet.{view, messages_text};
-ghost use Rattle.tsl_umd5.specs.Reading.{reading};
+ghost use Rattle.tsl_umd5.specs.Reading.{packet_reading};
 ghost use Rattle.tsl_stream.specs.Feeding.{shown_packet};
 ghost use Rattle.record_replay.specs.declared.monitor.MonitorFault.TheVariants.{NoMemory};
 ghost use Rattle.record_replay.specs.Replay.{hex_or_dash};
@@ -113,7 +113,7 @@ fn put_bad<K: Drain>(fault: TslFault, out: &mut Output<'_, K>)
 
 // Puts the lines of bytes, which are a packet if they are an item.
 fn put_packet<K: Drain>(bytes: &[u8], out: &mut Output<'_, K>)
-    ensures { Puts K.written K.faults (read_lines (reading bytes.now)) out.old out.new }
+    ensures { Puts K.written K.faults (read_lines (packet_reading bytes.now)) out.old out.new }
 {
     match read_packet(bytes) {
         Ok(mut packet) => {
@@ -126,7 +126,7 @@ fn put_packet<K: Drain>(bytes: &[u8], out: &mut Output<'_, K>)
 
 // How many displays are told by bytes, none if they are no packet.
 fn count_displays(bytes: &[u8]) -> usize
-    ensures { result ≡ count_in (reading bytes.now) }
+    ensures { result ≡ count_in (packet_reading bytes.now) }
 {
     let Ok(mut packet) = read_packet(bytes) else {
         return 0;

@@ -4,7 +4,7 @@ use mathlib.Core.List.{IsPrefix}
 use Rattle.std.specs.List.{AllByRecursion}
 use Rattle.tsl_umd5.specs.Layout.{max_packet}
 use Rattle.tsl_umd5.specs.Packet.{IsPacketText, packet_text, counted_text, messages_text, with_count}
-use Rattle.tsl_umd5.specs.Reading.{reading as packet_reading}
+use Rattle.tsl_umd5.specs.Reading.{packet_reading}
 use Rattle.tsl_umd5.proofs.MessageLemmas.{number-word}
 use Rattle.tsl_umd5.proofs.ReadingLemmas.{reading_again}
 use Rattle.tsl_stream.specs.Items.{PacketItem, Packet, StreamReading, with_stream_item, told, item_of_bytes, packet_size, stream_reading, stream_items, stream_rest}

@@ -4,7 +4,7 @@ use Rattle.tsl_umd5.specs.declared.fault.TslFault.{TslFault}
 use Rattle.tsl_umd5.specs.declared.fault.TslFault.TheVariants.{TooLong}
 use Rattle.tsl_umd5.specs.Layout.{max_packet}
 use Rattle.tsl_umd5.specs.Packet.{Contents}
-use Rattle.tsl_umd5.specs.Reading.{number, reading as packet_reading}
+use Rattle.tsl_umd5.specs.Reading.{field_number, packet_reading}
 use Rattle.tsl_stream.specs.Numbers.{tsl_dle, tsl_stx}
 use Rattle.tsl_stream.specs.Stream.{stuffed}
 
@@ -27,7 +27,7 @@ item_of_bytes bytes = told bytes (packet_reading bytes)
 abbrev pub packet_size : List ℕ → ℕ
 packet_size [] = 2
 packet_size (low ∷ []) = 2
-packet_size (low ∷ high ∷ bytes) = number low high + 2
+packet_size (low ∷ high ∷ bytes) = field_number low high + 2
 
 -- The longest run of pieces at the start of a text, a piece being a byte other than DLE, or a pair of DLE. `spelled` has
 -- each pair made one byte, and `behind` is the text behind the run.

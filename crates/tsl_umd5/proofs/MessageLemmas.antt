@@ -14,14 +14,14 @@ use Rattle.tsl_umd5.specs.declared.lamp.Lamp.TheVariants.{Off, Red, Green, Amber
 use Rattle.tsl_umd5.specs.Layout.{message_head}
 use Rattle.tsl_umd5.specs.Lamp.{lamp_code, lamp_of}
 use Rattle.tsl_umd5.specs.Packet.{Display, Message, IsMessage, word, message_text, control_of, message_of, IsPrintable}
-use Rattle.tsl_umd5.specs.Reading.{number, front, display_of, is_printable, judged}
+use Rattle.tsl_umd5.specs.Reading.{field_number, front, display_of, is_printable, judged}
 
 abbrev pub IsBytes : List ℕ → Type 0
 IsBytes bytes = (i : ℕ) → get_or bytes i 0 < 256
 
 -- ---- fields of 16 bits
 
-pub number-word : (n : ℕ) → n < 2 ^ 16 → number (n % 256) (n / 256 % 256) ≡ n
+pub number-word : (n : ℕ) → n < 2 ^ 16 → field_number (n % 256) (n / 256 % 256) ≡ n
 number-word n lt = from_le_bytes-to_le_bytes_2 n lt
 
 two_bytes : (low high : ℕ) → low < 256 → high < 256 → IsBytes (low ∷ high ∷ [])
@@ -29,10 +29,10 @@ two_bytes low high l h zero = l
 two_bytes low high l h (suc zero) = h
 two_bytes low high l h (suc (suc i)) = omega arith
 
-pub word-number : (low high : ℕ) → low < 256 → high < 256 → word (number low high) ≡ low ∷ high ∷ []
-word-number low high l h = le_bytes_2 (low ∷ high ∷ []) (number low high) refl (two_bytes low high l h) refl
+pub word-number : (low high : ℕ) → low < 256 → high < 256 → word (field_number low high) ≡ low ∷ high ∷ []
+word-number low high l h = le_bytes_2 (low ∷ high ∷ []) (field_number low high) refl (two_bytes low high l h) refl
 
-pub number_below : (low high : ℕ) → low < 256 → high < 256 → number low high < 2 ^ 16
+pub number_below : (low high : ℕ) → low < 256 → high < 256 → field_number low high < 2 ^ 16
 number_below low high l h = omega arith
 
 -- ---- the message at the front
@@ -50,8 +50,8 @@ chosen false x y e = (refl, cc)
 pub front_takes : (bytes : List ℕ) (x : Message × List ℕ) → IsBytes bytes → front bytes ≡ Some x → (bytes ≡ message_text x.0 ++ x.1) × IsMessage x.0 × IsBytes x.1
 unfolding front message_text
 front_takes (i₀ ∷ i₁ ∷ c₀ ∷ c₁ ∷ n₀ ∷ n₁ ∷ bytes) x fits e =
-    let len = number n₀ n₁ in
-    let m : Message = record { index = number i₀ i₁; control = number c₀ c₁; text = take len bytes } in
+    let len = field_number n₀ n₁ in
+    let m : Message = record { index = field_number i₀ i₁; control = field_number c₀ c₁; text = take len bytes } in
     let g = chosen (ltb (length bytes) len) (m, drop len bytes) x e in
     let is_len : length (take len bytes) ≡ len = omega (arith, length-take len bytes, ltb-false _ _ g.0) in
     let below = number_below n₀ n₁ (fits 4) (fits 5) in
@@ -65,8 +65,8 @@ front_takes bytes x fits e = absurd cc
 pub length-front : (bytes : List ℕ) (x : Message × List ℕ) → front bytes ≡ Some x → length bytes ≡ message_head + length x.0.text + length x.1
 unfolding front
 length-front (i₀ ∷ i₁ ∷ c₀ ∷ c₁ ∷ n₀ ∷ n₁ ∷ bytes) x e =
-    let len = number n₀ n₁ in
-    let g = chosen (ltb (length bytes) len) (record { index = number i₀ i₁; control = number c₀ c₁; text = take len bytes }, drop len bytes) x e in
+    let len = field_number n₀ n₁ in
+    let g = chosen (ltb (length bytes) len) (record { index = field_number i₀ i₁; control = field_number c₀ c₁; text = take len bytes }, drop len bytes) x e in
     subst (λ (y : Message × List ℕ). length (i₀ ∷ i₁ ∷ c₀ ∷ c₁ ∷ n₀ ∷ n₁ ∷ bytes) ≡ message_head + length y.0.text + length y.1) g.1 (omega (arith, length-take len bytes, length-drop len bytes, ltb-false _ _ g.0))
 length-front bytes x e = absurd cc
 

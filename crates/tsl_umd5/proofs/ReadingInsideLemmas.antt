@@ -8,7 +8,7 @@ use Rattle.tsl_umd5.specs.declared.fault.TslFault.{TslFault}
 use Rattle.tsl_umd5.specs.declared.fault.TslFault.TheVariants.{Short}
 use Rattle.tsl_umd5.specs.Layout.{version, plain_flags, packet_head, message_head}
 use Rattle.tsl_umd5.specs.Packet.{Display, Message, message_of, messages_text, IsDisplay}
-use Rattle.tsl_umd5.specs.Reading.{◌>>=◌, number, front, display_of, judged, all_at, contents}
+use Rattle.tsl_umd5.specs.Reading.{◌>>=◌, field_number, front, display_of, judged, all_at, contents}
 use Rattle.tsl_umd5.specs.ReadingInside.{displays_in, AreMessages}
 use Rattle.tsl_umd5.proofs.MessageLemmas.{IsBytes, length-front, control_below, display_again}
 use Rattle.tsl_umd5.proofs.AllAtLemmas.{messages_text-nil, length-messages_text, all_at-nil, all_at-front, all_at-step, all_at-again, all_at-takes, front_display}
@@ -119,17 +119,17 @@ all_good place [] all e h = subst (λ (read : Result (List Display) TslFault). D
 all_good place (b ∷ bytes) all e h = absurd (omega arith)
 
 -- a packet whose head is good comes to its screen and the displays of its messages
-pub contents_read : (bytes : List ℕ) (ds : List Display) → packet_head ≤ length bytes → length bytes - 2 ≡ number (get_or bytes 0 0) (get_or bytes 1 0)
+pub contents_read : (bytes : List ℕ) (ds : List Display) → packet_head ≤ length bytes → length bytes - 2 ≡ field_number (get_or bytes 0 0) (get_or bytes 1 0)
     → get_or bytes 2 0 ≡ version → get_or bytes 3 0 ≡ plain_flags → all_at packet_head (drop packet_head bytes) ≡ Ok ds
-    → contents bytes ≡ Ok (record { screen = number (get_or bytes 4 0) (get_or bytes 5 0); displays = ds })
+    → contents bytes ≡ Ok (record { screen = field_number (get_or bytes 4 0) (get_or bytes 5 0); displays = ds })
 unfolding contents
 contents_read (p₀ ∷ p₁ ∷ ver ∷ flags ∷ s₀ ∷ s₁ ∷ bytes) ds le count is_ver is_flags read =
-    let counted : length (ver ∷ flags ∷ s₀ ∷ s₁ ∷ bytes) ≡ number p₀ p₁ = omega arith in
-    rw (eq-eqb (length (ver ∷ flags ∷ s₀ ∷ s₁ ∷ bytes)) (number p₀ p₁) counted, eq-eqb ver version is_ver, eq-eqb flags plain_flags is_flags, read) refl
+    let counted : length (ver ∷ flags ∷ s₀ ∷ s₁ ∷ bytes) ≡ field_number p₀ p₁ = omega arith in
+    rw (eq-eqb (length (ver ∷ flags ∷ s₀ ∷ s₁ ∷ bytes)) (field_number p₀ p₁) counted, eq-eqb ver version is_ver, eq-eqb flags plain_flags is_flags, read) refl
 contents_read bytes ds le count is_ver is_flags read = absurd (omega arith)
 
-pub contents_is : (bytes messages : List ℕ) (screen : ℕ) → packet_head ≤ length bytes → messages ≡ drop packet_head bytes → screen ≡ number (get_or bytes 4 0) (get_or bytes 5 0)
-    → length bytes - 2 ≡ number (get_or bytes 0 0) (get_or bytes 1 0) → get_or bytes 2 0 ≡ version → get_or bytes 3 0 ≡ plain_flags → IsOk (all_at packet_head messages)
+pub contents_is : (bytes messages : List ℕ) (screen : ℕ) → packet_head ≤ length bytes → messages ≡ drop packet_head bytes → screen ≡ field_number (get_or bytes 4 0) (get_or bytes 5 0)
+    → length bytes - 2 ≡ field_number (get_or bytes 0 0) (get_or bytes 1 0) → get_or bytes 2 0 ≡ version → get_or bytes 3 0 ≡ plain_flags → IsOk (all_at packet_head messages)
     → Ok (record { screen = screen; displays = displays_in messages }) ≡ contents bytes
 contents_is bytes messages screen le behind is_screen count is_ver is_flags is_ok =
     let read : all_at packet_head (drop packet_head bytes) ≡ Ok (displays_in messages) = ap (all_at packet_head) (sym behind) ∙ all_at-displays_in messages is_ok in

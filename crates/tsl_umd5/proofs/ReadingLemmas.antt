@@ -6,7 +6,7 @@ use Rattle.tsl_umd5.specs.declared.fault.TslFault.{TslFault}
 use Rattle.tsl_umd5.specs.declared.fault.TslFault.TheVariants.{TooLong, WrongCount, Version, Flags}
 use Rattle.tsl_umd5.specs.Layout.{version, plain_flags, max_packet, packet_head}
 use Rattle.tsl_umd5.specs.Packet.{Display, Contents, word, messages_text, with_count, counted_text, packet_text, IsPacket, IsTextOf, OneText}
-use Rattle.tsl_umd5.specs.Reading.{◌>>=◌, number, all_at, contents, reading}
+use Rattle.tsl_umd5.specs.Reading.{◌>>=◌, field_number, all_at, contents, packet_reading}
 use Rattle.tsl_umd5.proofs.MessageLemmas.{IsBytes, number-word, word-number, number_below, ok_by_test}
 use Rattle.tsl_umd5.proofs.AllAtLemmas.{bind_ok, all_at-again, all_at-takes}
 
@@ -27,8 +27,8 @@ contents_take : (bytes : List ℕ) (p : Contents) → IsBytes bytes → length b
 unfolding contents packet_text
 contents_take (p₀ ∷ p₁ ∷ ver ∷ flags ∷ s₀ ∷ s₁ ∷ bytes) p fits le e =
     let found = length (ver ∷ flags ∷ s₀ ∷ s₁ ∷ bytes) in
-    let wanted = number p₀ p₁ in
-    let screen = number s₀ s₁ in
+    let wanted = field_number p₀ p₁ in
+    let screen = field_number s₀ s₁ in
     let read : Result Contents TslFault = all_at packet_head bytes >>= with_screen screen in
     let a = ok_by_test (not (eqb found wanted)) (WrongCount found wanted) (cond (not (eqb ver version)) (Err (Version ver)) (cond (not (eqb flags plain_flags)) (Err (Flags flags)) read)) p e in
     let b = ok_by_test (not (eqb ver version)) (Version ver) (cond (not (eqb flags plain_flags)) (Err (Flags flags)) read) p a.1 in
@@ -46,8 +46,8 @@ contents_take (p₀ ∷ p₁ ∷ ver ∷ flags ∷ s₀ ∷ s₁ ∷ bytes) p fi
     subst (IsTextOf (p₀ ∷ p₁ ∷ ver ∷ flags ∷ s₀ ∷ s₁ ∷ bytes)) (ok_is (record { screen = screen; displays = ds }) p d.2) (record { is_packet = is_packet; is_text = whole })
 contents_take bytes p fits le e = absurd cc
 
-pub reading_takes : (bytes : List ℕ) (p : Contents) → IsBytes bytes → reading bytes ≡ Ok p → IsTextOf bytes p
-unfolding reading
+pub reading_takes : (bytes : List ℕ) (p : Contents) → IsBytes bytes → packet_reading bytes ≡ Ok p → IsTextOf bytes p
+unfolding packet_reading
 reading_takes bytes p fits e =
     let a = ok_by_test (ltb max_packet (length bytes)) (TooLong (length bytes)) (contents bytes) p e in
     contents_take bytes p fits (ltb-false _ _ a.0) a.1
@@ -60,17 +60,17 @@ contents_counted screen messages is_screen lt =
     let n = length (counted_text screen messages) in
     rw (number-word n lt, eq-eqb n n refl, number-word screen is_screen) refl
 
-pub reading_again : (p : Contents) → IsPacket p.screen p.displays → reading (packet_text p.screen p.displays) ≡ Ok p
-unfolding reading packet_text
+pub reading_again : (p : Contents) → IsPacket p.screen p.displays → packet_reading (packet_text p.screen p.displays) ≡ Ok p
+unfolding packet_reading packet_text
 reading_again p is_packet =
     let short : ltb max_packet (length (packet_text p.screen p.displays)) ≡ false = le-ltb _ _ is_packet.size in
     let again = all_at-again packet_head p.displays is_packet.displays (omega (arith, is_packet.size)) in
     rw (short, contents_counted p.screen (messages_text p.displays) is_packet.screen (omega (arith, is_packet.size)), again) refl
 
-pub is_found : (bytes : List ℕ) (r : Result Contents TslFault) → IsBytes bytes → r ≡ reading bytes → IfOk r (IsTextOf bytes)
+pub is_found : (bytes : List ℕ) (r : Result Contents TslFault) → IsBytes bytes → r ≡ packet_reading bytes → IfOk r (IsTextOf bytes)
 is_found bytes (Ok p) fits e = reading_takes bytes p fits (sym e)
 is_found bytes (Err fault) fits e = tt
 
 pub one_text : OneText
 one_text bytes p q is_p is_q =
-    ok_is p q (sym (reading_again p is_p.is_packet) ∙ ap reading (sym is_p.is_text ∙ is_q.is_text) ∙ reading_again q is_q.is_packet)
+    ok_is p q (sym (reading_again p is_p.is_packet) ∙ ap packet_reading (sym is_p.is_text ∙ is_q.is_text) ∙ reading_again q is_q.is_packet)

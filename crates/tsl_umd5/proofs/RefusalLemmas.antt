@@ -6,7 +6,7 @@ use Rattle.tsl_umd5.specs.declared.fault.TslFault.{TslFault}
 use Rattle.tsl_umd5.specs.declared.fault.TslFault.TheVariants.{TooLong, Short, WrongCount, Version, Flags}
 use Rattle.tsl_umd5.specs.Layout.{version, plain_flags, max_packet, packet_head}
 use Rattle.tsl_umd5.specs.Packet.{Display, Contents, word, messages_text, with_count, counted_text}
-use Rattle.tsl_umd5.specs.Reading.{◌>>=◌, number, all_at, contents, reading}
+use Rattle.tsl_umd5.specs.Reading.{◌>>=◌, field_number, all_at, contents, packet_reading}
 use Rattle.tsl_umd5.specs.Refusal.{HasBadMessage, IsSized, IsRefused}
 use Rattle.tsl_umd5.proofs.MessageLemmas.{IsBytes, number-word, word-number, number_below}
 use Rattle.tsl_umd5.proofs.ReadingLemmas.{with_screen, contents_counted}
@@ -21,8 +21,8 @@ unfolding contents
 contents_short (p₀ ∷ p₁ ∷ ver ∷ flags ∷ s₀ ∷ s₁ ∷ bytes) lt = absurd (omega arith)
 contents_short bytes lt = refl
 
-sized : (bytes : List ℕ) → length bytes ≤ max_packet → reading bytes ≡ contents bytes
-unfolding reading
+sized : (bytes : List ℕ) → length bytes ≤ max_packet → packet_reading bytes ≡ contents bytes
+unfolding packet_reading
 sized bytes le = rw (le-ltb max_packet (length bytes) le) refl
 
 contents_wrong : (behind : List ℕ) (wanted : ℕ) → 4 ≤ length behind → wanted < 2 ^ 16 → (length behind ≡ wanted → ⊥) → contents (word wanted ++ behind) ≡ Err (WrongCount (length behind) wanted)
@@ -44,7 +44,7 @@ contents_flags f (s₀ ∷ s₁ ∷ bytes) le lt differ =
     rw (number-word n lt, eq-eqb n n refl, ne_eqb f plain_flags differ) refl
 contents_flags f behind le lt differ = absurd (omega arith)
 
-reading_bad : (bytes : List ℕ) (f : TslFault) → IsBytes bytes → HasBadMessage bytes f → reading bytes ≡ Err f
+reading_bad : (bytes : List ℕ) (f : TslFault) → IsBytes bytes → HasBadMessage bytes f → packet_reading bytes ≡ Err f
 reading_bad bytes f fits bad =
     let messages = messages_text bad.displays in
     let screen = bad.screen in
@@ -56,8 +56,8 @@ reading_bad bytes f fits bad =
     sized bytes bad.size ∙ ap contents bad.parts ∙ contents_counted screen (messages ++ bad.rest) bad.screen_fits (omega arith)
     ∙ ap (λ (r : Result (List Display) TslFault). r >>= with_screen screen) read
 
-pub is_reading : (bytes : List ℕ) (f : TslFault) → IsBytes bytes → IsRefused bytes f → reading bytes ≡ Err f
-unfolding reading
+pub is_reading : (bytes : List ℕ) (f : TslFault) → IsBytes bytes → IsRefused bytes f → packet_reading bytes ≡ Err f
+unfolding packet_reading
 is_reading bytes (TooLong n) fits is = rw (lt-ltb max_packet (length bytes) (omega (arith, is.0, is.1))) (ap (λ (m : ℕ). Err (TooLong m)) (sym is.0))
 is_reading bytes (Short n) fits (inl few) = sized bytes (omega (arith, few.0, few.1)) ∙ contents_short bytes (omega (arith, few.0, few.1)) ∙ ap (λ (m : ℕ). Err (Short m)) (sym few.0)
 is_reading bytes (Short n) fits (inr bad) = reading_bad bytes (Short n) fits bad
@@ -105,8 +105,8 @@ contents_err (p₀ ∷ p₁ ∷ ver ∷ flags ∷ s₀ ∷ s₁ ∷ bytes) f fit
     let whole : List ℕ = p₀ ∷ p₁ ∷ ver ∷ flags ∷ s₀ ∷ s₁ ∷ bytes in
     let behind : List ℕ = ver ∷ flags ∷ s₀ ∷ s₁ ∷ bytes in
     let found = length behind in
-    let wanted = number p₀ p₁ in
-    let screen = number s₀ s₁ in
+    let wanted = field_number p₀ p₁ in
+    let screen = field_number s₀ s₁ in
     let sizes : IsSized whole = (omega arith, le) in
     let is_count : word wanted ≡ p₀ ∷ p₁ ∷ [] = word-number p₀ p₁ (fits 0) (fits 1) in
     let read : Result Contents TslFault = all_at packet_head bytes >>= with_screen screen in
@@ -135,8 +135,8 @@ contents_err (p₀ ∷ p₁ ∷ ver ∷ flags ∷ s₀ ∷ s₁ ∷ bytes) f fit
     ]
 contents_err bytes f fits le e = subst (IsRefused bytes) (err_is (Short (length bytes)) f e) (inl (refl, omega arith))
 
-pub is_refused : (bytes : List ℕ) (f : TslFault) → IsBytes bytes → reading bytes ≡ Err f → IsRefused bytes f
-unfolding reading
+pub is_refused : (bytes : List ℕ) (f : TslFault) → IsBytes bytes → packet_reading bytes ≡ Err f → IsRefused bytes f
+unfolding packet_reading
 is_refused bytes f fits e =
     elim (err_by_test (ltb max_packet (length bytes)) (TooLong (length bytes)) (contents bytes) f e) [
       | inl long ↦ subst (IsRefused bytes) long.1 (refl, ltb-true _ _ long.0)

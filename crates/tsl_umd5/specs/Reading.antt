@@ -18,18 +18,18 @@ abbrev pub ◌>>=◌ : {A B : Type 0} → Result A TslFault → (A → Result B 
 (Err e) >>= f = Err e
 
 -- the number of a field of 16 bits
-abbrev pub number : ℕ → ℕ → ℕ
-number low high = from_le_bytes w16 (low ∷ high ∷ [])
+abbrev pub field_number : ℕ → ℕ → ℕ
+field_number low high = from_le_bytes w16 (low ∷ high ∷ [])
 
 -- the message at the front and the bytes behind it; none where its head or its text goes past the end
 unfoldable pub front : List ℕ → Option (Message × List ℕ)
 front (i₀ ∷ i₁ ∷ c₀ ∷ c₁ ∷ n₀ ∷ n₁ ∷ bytes) =
-    let len = number n₀ n₁ in
+    let len = field_number n₀ n₁ in
     if nat_lt (length bytes) len then None
     else Some (
       record {
-        index = number i₀ i₁;
-        control = number c₀ c₁;
+        index = field_number i₀ i₁;
+        control = field_number c₀ c₁;
         text = take len bytes;
       },
       drop len bytes,
@@ -77,15 +77,15 @@ all_at place bytes = messages_at (length bytes) place bytes
 unfoldable pub contents : List ℕ → Result Contents TslFault
 contents (p₀ ∷ p₁ ∷ ver ∷ flags ∷ s₀ ∷ s₁ ∷ bytes) =
     let found = length (ver ∷ flags ∷ s₀ ∷ s₁ ∷ bytes) in
-    let wanted = number p₀ p₁ in
+    let wanted = field_number p₀ p₁ in
     if not (found == wanted) then Err (WrongCount found wanted)
     else if not (ver == version) then Err (Version ver)
     else if not (flags == plain_flags) then Err (Flags flags)
     else (all_at packet_head bytes >>= λ displays. Ok
-    (record { screen = number s₀ s₁; displays = displays }))
+    (record { screen = field_number s₀ s₁; displays = displays }))
 contents bytes = Err (Short (length bytes))
 
 -- the screen and the displays of a packet, or the first rule that the bytes break
-unfoldable pub reading : List ℕ → Result Contents TslFault
-reading bytes =
+unfoldable pub packet_reading : List ℕ → Result Contents TslFault
+packet_reading bytes =
     if nat_lt max_packet (length bytes) then Err (TooLong (length bytes)) else contents bytes

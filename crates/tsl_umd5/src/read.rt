@@ -4,7 +4,7 @@ ghost use Rattle.std.specs.Prelude.{◌≡◌, ◌<◌, ◌^◌, ◌∷◌, [], 
 ghost use Rattle.std.specs.Prelude.{IfOk, IfSome, IfNone, length};
 ghost use Rattle.tsl_umd5.specs.Layout.{packet_head};
 ghost use Rattle.tsl_umd5.specs.Packet.{Contents, view, IsTextOf, OneText};
-ghost use Rattle.tsl_umd5.specs.Reading.{all_at, contents, reading};
+ghost use Rattle.tsl_umd5.specs.Reading.{all_at, contents, packet_reading};
 ghost use Rattle.tsl_umd5.specs.Refusal.{IsRefused};
 
 use crate::fault::TslFault;
@@ -71,7 +71,7 @@ pub fn read_packet(bytes: &[u8]) -> Result<Packet<'_>, TslFault>
     // A fault is the first rule that the bytes break, and the first rule that they break is the fault.
     ensures refused { (fault : TslFault) → (result ≡ Err fault) ↔ IsRefused bytes.now fault }
     // In one function: what is read, or the fault.
-    ensures exact { result ≡ reading bytes.now }
+    ensures exact { result ≡ packet_reading bytes.now }
 {
     packet_of(bytes)
 }
@@ -82,9 +82,9 @@ pub fn one_text()
 {}
 
 // Reads a packet that isn't too long.
-#[tactic(auto, unfolding(crate::specs::Reading::reading))]
+#[tactic(auto, unfolding(crate::specs::Reading::packet_reading))]
 fn packet_of(bytes: &[u8]) -> Result<Packet<'_>, TslFault>
-    ensures { result ≡ reading bytes.now }
+    ensures { result ≡ packet_reading bytes.now }
 {
     if bytes.len() > MAX_PACKET {
         return Err(TslFault::TooLong(bytes.len()));

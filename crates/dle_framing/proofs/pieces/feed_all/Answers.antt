@@ -3,14 +3,14 @@ use Rattle.std.proofs.lemmas.List.{take_all}
 use Rattle.std.specs.Borrow.{Bor}
 use Rattle.dle_framing.specs.declared.item.Item.{Item}
 use Rattle.dle_framing.specs.Feeding.{joined}
-use Rattle.dle_framing.specs.Items.{Reading, items}
+use Rattle.dle_framing.specs.Items.{TextReading, items}
 use Rattle.dle_framing.proofs.Readings.{reading-by_start}
 use Rattle.dle_framing.proofs.pieces.feed_all.Goals as goal
 
 pub returns-clause-anew : goal.returns-clause-anew
 returns-clause-anew c = λ stands.
     let fed = c.loop-piece.invariant in
-    let none : items [] ≡ [] = ap (λ (reading : Reading). reading.items) (reading-by_start []) in
+    let none : items [] ≡ [] = ap (λ (reading : TextReading). reading.items) (reading-by_start []) in
     fed.1
     ∙ sym (ap (λ (before : List (Item (List ℕ))). before ++ fed.0) none)
     ∙ sym (fed.2 [] stands).0

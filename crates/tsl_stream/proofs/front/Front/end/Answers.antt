@@ -1,5 +1,5 @@
 use Rattle.std.proofs.Common.{◌≡◌, Ok, Err, sym, ap, ◌∙◌, arith}
-use Rattle.tsl_umd5.specs.Reading.{reading as packet_reading}
+use Rattle.tsl_umd5.specs.Reading.{packet_reading}
 use Rattle.tsl_stream.specs.Items.{PacketItem, told, with_stream_item, stream_reading}
 use Rattle.tsl_stream.proofs.Packets.{IsTooLong, taken_whole}
 use Rattle.tsl_stream.proofs.Readings.{stream_reading-long, stream_reading-whole}
