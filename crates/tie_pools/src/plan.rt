@@ -24,7 +24,7 @@ impl Ties {
     /// Whether the ties are enough for a panel's list of changes, with all new sources put in at once; else the lowest pool
     /// that it exceeds. For a master all ties count. Another panel may bring a pool's destinations to as many different
     /// origins as the pool has ties that it doesn't keep for masters, or as they carry already. Nothing is changed.
-    #[inline]
+    #[inline(always)]
     pub fn plan(
         &mut self,
         plant: &Plant,
@@ -54,7 +54,7 @@ impl Ties {
     }
 
     // The same for a master, or where no pool keeps ties.
-    #[inline(always)]
+    #[inline(never)]
     fn plan_by_ties(
         &mut self,
         plant: &Plant,
@@ -89,7 +89,7 @@ fn uses_all(plant: &Plant, master: bool) -> bool
 }
 
 // Puts the new sources of all changes that aren't idle into the demand.
-#[inline(never)]
+#[inline(always)]
 pub(crate) fn put_in(
     demand: &mut Demand,
     ways: &Ways,
@@ -113,7 +113,7 @@ pub(crate) fn put_in(
 }
 
 // Takes the new sources of all changes that aren't idle out of the demand again.
-#[inline(never)]
+#[inline(always)]
 pub(crate) fn take_out(
     demand: &mut Demand,
     ways: &Ways,
