@@ -3,7 +3,7 @@ use Rattle.std.proofs.Common.{◌≡◌, ℕ, ◌==◌, Bool, true, false, not, 
 use Rattle.std.specs.FinMap as finite
 use Rattle.swp08_messages.specs.declared.point.Point.{Point}
 use Rattle.swp08_messages.specs.declared.message.Message.{Message}
-use Rattle.swp08_messages.specs.declared.message.Message.TheVariants.{Interrogate, Connect, ExtConnect, ExtTally, ExtConnected, ExtInterrogate, Tally, Connected, ProtectConnect, ProtectDisconnect, ProtectTally, ProtectConnected, ProtectDisconnected, Store, Stored, Go}
+use Rattle.swp08_messages.specs.declared.message.Message.TheVariants.{Interrogate, Connect, ExtConnect, ExtTally, ExtConnected, ExtInterrogate, Connected, ProtectConnect, ProtectDisconnect, ProtectTally, ProtectConnected, ProtectDisconnected, Store, Stored, Go}
 use Rattle.plant_config.specs.declared.records.Change.{Change}
 use Rattle.tie_pools.specs.Reserve.{are_enough_for}
 use Rattle.protects.specs.Owners.{allows, may_lift, taken, lifted}

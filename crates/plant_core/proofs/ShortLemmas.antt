@@ -1,6 +1,5 @@
 -- What the commands that aren't extended alone can reach stays within what they can tell.
-use Rattle.std.proofs.Common.{◌≡◌, ◌≢◌, ℕ, ◌<◌, Bool, true, false, cond, List, [], ◌∷◌, length, set, All, Option, Some, None, IfSome, inl, inr, refl, sym, ap, subst, ◌∙◌, arith}
-use Rattle.std.specs.Option.{option_and_then}
+use Rattle.std.proofs.Common.{◌≡◌, ◌≢◌, ℕ, ◌<◌, Bool, true, false, cond, List, [], length, set, All, Option, Some, None, IfSome, inl, inr, refl, sym, ap, subst, ◌∙◌, arith}
 use Rattle.std.specs.Ordering.{nat_cmp}
 use Rattle.std.specs.FinMap as finite
 use Rattle.std.proofs.lemmas.Bool.{cases_eq, cases_lt, true≢false}
@@ -14,7 +13,7 @@ use Rattle.plant_config.specs.declared.records.Point as places
 use Rattle.plant_config.specs.declared.records.Change.{Change}
 use Rattle.plant_config.specs.Plant.{PlantData}
 use Rattle.plant_config.specs.IsPlant.{IsPlant}
-use Rattle.plant_config.specs.Sites.{dest_at, source_number_of}
+use Rattle.plant_config.specs.Sites.{dest_at}
 use Rattle.plant_config.proofs.SiteLemmas.{dest_at-point_of}
 use Rattle.crosspoint_state.specs.Crosspoints.{is_idle}
 use Rattle.protects.specs.Owners.{Owners, allows, may_lift, taken, lifted}

@@ -18,7 +18,7 @@ use Rattle.protects.specs.Owners.{allows}
 use Rattle.plant_core.specs.declared.request.Request.TheVariants.{Told}
 use Rattle.plant_core.specs.declared.answer.Answer.TheVariants.{Say}
 use Rattle.plant_core.specs.State.{State, IsValid, standing, owner_at, device_of}
-use Rattle.plant_core.specs.Wide.{tally_of, asks_source, asks_change, tells_source, tells_change}
+use Rattle.plant_core.specs.Wide.{tally_of, asks_change, tells_source, tells_change}
 use Rattle.plant_core.specs.Connects.{says, source_wanted, change_of, changed, may_make, connected}
 use Rattle.plant_core.specs.Step.{step, dest_of}
 use Rattle.plant_core.specs.Laws.{AnswersWith, HasTie, IsConnectable, IsFree, MayConnect, IsMade, IsNotMade}

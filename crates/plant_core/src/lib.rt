@@ -46,3 +46,4 @@ pub use protect_laws::{
 pub use request::Request;
 pub use salvo_laws::{entries_are_kept, goes_are_answered, goes_are_whole};
 pub use state::PlantState;
+pub use wide::{is_short_dest, is_short_source};

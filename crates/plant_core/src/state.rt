@@ -18,7 +18,7 @@ ghost use Rattle.plant_core.specs.AnswerInside.{AsksOther, SaysAtMost};
 use crate::answer::{Answer, put};
 use crate::place::place_of;
 use crate::request::Request;
-use crate::tables::Tables;
+use crate::tables::{Beside, Tables};
 use crate::wide::{is_wide, tells_source};
 use change_boards::{Notices, Shown};
 use crosspoint_state::Crosspoints;
@@ -87,8 +87,7 @@ impl PlantState {
         let groups = Groups::new(alloc)?;
         let notices = Notices::new(alloc, plant)?;
         let shown = Shown::new(alloc, plant)?;
-        let tables = Box::new(alloc, Tables::new(alloc, plant)?)?;
-        let due = Box::new(alloc, DueDisplays::new(alloc, plant, &tables.screens)?)?;
+        let beside = Beside::new(alloc, plant)?;
         let plant = plant.copy(alloc)?;
         Ok(PlantState {
             plant,
@@ -97,8 +96,8 @@ impl PlantState {
             groups,
             notices,
             shown,
-            tables,
-            due,
+            tables: beside.tables,
+            due: beside.due,
         })
     }
 
@@ -186,6 +185,7 @@ impl PlantState {
     }
 
     // The tally of a place, for an extended command or another.
+    #[inline(always)]
     pub(crate) fn tally(&self, extended: bool, at: Point) -> Message
         ensures tally { result ≡ tells_source extended at (standing self.now at) }
         ensures valid { IsValid self.now }

@@ -1,12 +1,13 @@
 //! What is kept beside the state of a plant, so that nothing is looked for in it.
 
-ghost use Rattle.std.specs.Prelude.{◌≡◌, true, All, IfOk};
+ghost use Rattle.std.specs.Prelude.{◌≡◌, ◌<◌, ℕ, true, All, IfOk, length};
 ghost use Rattle.std.specs.FinMap.{empty};
 ghost use Rattle.plant_config.specs.IsPlant.{IsPlant};
 ghost use Rattle.crosspoint_state.specs.Crosspoints.{NamesOnce};
 ghost use Rattle.crosspoint_state.specs.Taps.{ArePointsOf};
 ghost use Rattle.crosspoint_state.specs.Ties.{HaveValidTies};
 ghost use Rattle.crosspoint_state.specs.Applied.{applied, are_enough};
+ghost use Rattle.due_displays.specs.Due.{AreDueOf, is_due};
 ghost use Rattle.plant_core.specs.State.{AreCrosspoints, IsChangeOf};
 ghost use Rattle.plant_core.specs.StateInside.{AreTablesOf};
 ghost use Rattle.plant_core.specs.DueInside.{HaveTurned};
@@ -14,6 +15,7 @@ ghost use Rattle.plant_core.specs.DueInside.{HaveTurned};
 use crate::tallies::Tallies;
 use change_boards::Screens;
 use crosspoint_state::Crosspoints;
+use due_displays::DueDisplays;
 use mixer_effects::{Graph, Mixers};
 use plant_config::{Change, Plant};
 use std::alloc::{AllocError, Global};
@@ -26,6 +28,30 @@ pub(crate) struct Tables {
     pub(crate) mixers: Mixers,
     pub(crate) tallies: Tallies,
     pub(crate) screens: Screens,
+}
+
+/// What is kept beside a state: its tables, and which displays are due.
+#[derive(Debug, Drop)]
+pub(crate) struct Beside {
+    pub(crate) tables: Box<Tables>,
+    pub(crate) due: Box<DueDisplays>,
+}
+
+impl Beside {
+    // What is kept for a plant of which all destinations are parked: all displays are due.
+    pub(crate) fn new(alloc: Global, plant: &Plant) -> Result<Beside, AllocError>
+        requires { IsPlant plant.now }
+        ensures tables { IfOk result
+            (λ beside. AreTablesOf plant.now empty beside.tables.value) }
+        ensures due { IfOk result (λ beside. AreDueOf plant.now beside.due.value) }
+        ensures all { IfOk result (λ beside.
+            (display : ℕ) → display < length plant.now.displays
+            → is_due plant.now beside.due.value display ≡ true) }
+    {
+        let tables = Box::new(alloc, Tables::new(alloc, plant)?)?;
+        let due = Box::new(alloc, DueDisplays::new(alloc, plant, &tables.screens)?)?;
+        Ok(Beside { tables, due })
+    }
 }
 
 impl Tables {

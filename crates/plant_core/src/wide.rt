@@ -9,15 +9,16 @@ use swp08_messages::{Message, PARKED, Point};
 // The destinations of a level that those commands can tell are numbered below this.
 const SHORT_DESTS: u16 = 1024;
 
-// Whether they can tell a destination's number.
-fn is_short_dest(number: u16) -> bool
+/// Whether the commands that aren't extended can tell the number of a destination in its level: those below 1024.
+pub fn is_short_dest(number: u16) -> bool
     ensures { result ≡ wide.is_short_dest number }
 {
     number < SHORT_DESTS
 }
 
-// Whether they can tell a source.
-fn is_short_source(source: Option<u16>) -> bool
+/// Whether those commands can tell the source of a destination by its number in its level: those below 1023, and `None`, for
+/// a parked one.
+pub fn is_short_source(source: Option<u16>) -> bool
     ensures { result ≡ wide.is_short_source source }
 {
     match source {
@@ -34,7 +35,7 @@ pub(crate) fn is_wide(level: &Level) -> bool
 }
 
 /// What answers whoever interrogates a place, by an extended command or another.
-#[inline]
+#[inline(always)]
 pub(crate) fn tells_source(extended: bool, at: Point, source: Option<u16>) -> Message
     ensures { result ≡ wide.tells_source extended at source }
 {

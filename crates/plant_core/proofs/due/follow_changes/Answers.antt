@@ -1,6 +1,6 @@
 use Rattle.std.proofs.Common.{ℕ, List, subst, sym}
 use Rattle.std.specs.Prelude.{Contains}
-use Rattle.plant_core.specs.DueInside.{AreWatchersDue, AreTappedDue, StayDue}
+use Rattle.plant_core.specs.DueInside.{StayDue}
 use Rattle.plant_core.proofs.DueLemmas.{stay_then, watchers_stay, tapped_stay}
 use Rattle.plant_core.proofs.TurnLemmas.{values_followed}
 use Rattle.plant_core.proofs.due.follow_changes.Goals as goal

@@ -13,6 +13,6 @@ invariant_of-result c = record {
     crosspoints = rw c.in_ok-plant.ensures.equal c.in_ok-crosspoints.ensures.kept;
     protects = c.in_ok-protects.ensures.room ∙ c.destination_count-destinations.ensures.count ∙ ap destinations_of (sym c.in_ok-plant.ensures.equal);
   };
-  beside = rw (c.in_ok-crosspoints.ensures.parked, c.in_ok-plant.ensures.equal, c.in_ok-tables.ensures.ok) c.in_ok-new.ensures;
-  due = rw (c.in_ok-plant.ensures.equal, c.in_ok-due.ensures.ok) (kept_start c.args.plant.now _ _ _ c.in_ok-new-2.ensures.kept c.in_ok-new-2.ensures.all);
+  beside = rw (c.in_ok-crosspoints.ensures.parked, c.in_ok-plant.ensures.equal) c.in_ok-beside.ensures.tables;
+  due = rw c.in_ok-plant.ensures.equal (kept_start c.args.plant.now _ _ _ c.in_ok-beside.ensures.due c.in_ok-beside.ensures.all);
 }
