@@ -76,6 +76,8 @@ impl Session<'_> {
     }
 
     // Makes the pages of names from this one on what is to be sent, as many as go at once.
+    #[cold]
+    #[inline(never)]
     pub(super) fn name_on(&mut self, page: NamePage)
         ensures { NamesOn page self.old self.new }
     {
