@@ -1,18 +1,18 @@
 -- The connect that names ask for, on a plant.
-use Rattle.std.proofs.Common.{◌≡◌, ℕ, ◌+◌, ◌<◌, ◌≤◌, ◌⊎◌, Bool, true, false, cond, ◌&&◌, List, [], ◌∷◌, length, Option, Some, None, refl, sym, ◌∙◌, ap, subst, arith, ltb-true}
+use Rattle.std.proofs.Common.{◌≡◌, ℕ, ◌+◌, ◌<◌, ◌≤◌, ◌⊎◌, Bool, true, false, cond, ◌&&◌, List, length, Option, Some, None, refl, sym, ◌∙◌, ap, subst, arith, ltb-true}
 use Rattle.std.proofs.lemmas.Bool.{and_parts}
 use Rattle.std.specs.Option.{option_map, option_and_then}
 use Rattle.plant_config.specs.declared.records.Level.{Level}
 use Rattle.plant_config.specs.declared.records.Point.{Point}
 use Rattle.plant_config.specs.Limits.{level_destination_limit}
-use Rattle.plant_config.specs.Plant.{PlantData, dest_numbers, destinations_of, sources_of}
+use Rattle.plant_config.specs.Plant.{PlantData, dest_numbers}
 use Rattle.plant_config.specs.IsPlant.{IsPlant}
-use Rattle.plant_config.specs.Sites.{point_of, source_number_of}
+use Rattle.plant_config.specs.Sites.{point_of}
 use Rattle.plant_config.specs.NamesOfLevel.{dest_names}
-use Rattle.plant_config.proofs.SiteLemmas.{dests_are, number_at-site_of, site_of-IsSite, dest_at-point_of, dest_at-below, source_at-below}
-use Rattle.plant_names.specs.Lookup.{place_among, dest_named, source_named}
+use Rattle.plant_config.proofs.SiteLemmas.{dests_are, number_at-site_of, site_of-IsSite, dest_at-point_of}
+use Rattle.plant_names.specs.Lookup.{place_among, dest_named}
 use Rattle.plant_names.proofs.LevelLemmas.{level_at-none}
-use Rattle.plant_names.proofs.LookupLemmas.{dests_are_named, sources_are_named}
+use Rattle.plant_names.proofs.LookupLemmas.{dests_are_named}
 use Rattle.swp08_messages.specs.declared.message.Message.{Message}
 use Rattle.swp08_messages.specs.declared.message.Message.TheVariants.{Connect, ExtConnect}
 use Rattle.swp08_messages.specs.declared.point.Point as messages
@@ -21,18 +21,7 @@ use Rattle.plant_core.specs.Wide.{is_short_dest, is_short_source}
 use Rattle.record_replay.specs.Take.{dest_number_named, carried, connect_of, connect_named}
 
 module _ (plant : PlantData) (is : IsPlant plant) (matrix level : ℕ) (name : List ℕ) where
-  -- What a name leads to is in the plant.
-  pub dest_has : (dest : ℕ) → dest_named plant matrix level name ≡ Some dest → dest < destinations_of plant
-  dest_has dest named =
-      let found = (dests_are_named plant is).of_level matrix level dest name named in
-      dest_at-below plant matrix level found.0 dest is found.1
-
-  pub source_has : (source : ℕ) → source_named plant matrix level name ≡ Some source → source < sources_of plant
-  source_has source named =
-      let found = (sources_are_named plant is).of_level matrix level source name named in
-      source_at-below plant matrix level found.0 source is found.1
-
-  -- Its number in the level is small.
+  -- The number, in its level, of what a name leads to is small.
   pub dest_small : (dest : ℕ) (at : Point) → dest_named plant matrix level name ≡ Some dest → point_of plant dest ≡ Some at → at.dest < level_destination_limit
   dest_small dest at named point =
       let found = (dests_are_named plant is).of_level matrix level dest name named in
@@ -42,25 +31,9 @@ module _ (plant : PlantData) (is : IsPlant plant) (matrix level : ℕ) (name : L
       let number : found.0 ≡ at.dest = cc in
       subst (λ (number : ℕ). number < level_destination_limit) number within
 
--- The number of a destination by its name, and of a source.
-pub dest_is : (plant : PlantData) (matrix level : ℕ) (name : List ℕ) (dest : ℕ) (at : Point) → dest_named plant matrix level name ≡ Some dest → point_of plant dest ≡ Some at → dest_number_named plant matrix level name ≡ Some at.dest
-dest_is plant matrix level name dest at named point =
-    ap (option_and_then (λ (dest : ℕ). option_map (λ (place : Point). place.dest) (point_of plant dest))) named
-    ∙ ap (option_map (λ (place : Point). place.dest)) point
-
+-- What has no name in its level has no number.
 pub dest_isnt : (plant : PlantData) (matrix level : ℕ) (name : List ℕ) → dest_named plant matrix level name ≡ None → dest_number_named plant matrix level name ≡ None
 dest_isnt plant matrix level name none = ap (option_and_then (λ (dest : ℕ). option_map (λ (place : Point). place.dest) (point_of plant dest))) none
-
-pub carried-some : (plant : PlantData) (matrix level : ℕ) (name : List ℕ) (source number : ℕ) → 1 ≤ length name → source_named plant matrix level name ≡ Some source → source_number_of plant source ≡ Some number
-    → carried plant matrix level name ≡ Some (Some number)
-carried-some plant matrix level [] source number some named number_is = absurd (omega (arith, some))
-carried-some plant matrix level (byte ∷ name) source number some named number_is =
-    ap (option_map (λ (number : ℕ). Some number)) (ap (option_and_then (source_number_of plant)) named ∙ number_is)
-
-pub carried-none : (plant : PlantData) (matrix level : ℕ) (name : List ℕ) → 1 ≤ length name → source_named plant matrix level name ≡ None → carried plant matrix level name ≡ None
-carried-none plant matrix level [] some none = absurd (omega (arith, some))
-carried-none plant matrix level (byte ∷ name) some none =
-    ap (option_map (λ (number : ℕ). Some number)) (ap (option_and_then (source_number_of plant)) none)
 
 -- a source that a connect can tell which isn't extended
 short-IsSource : (source : Option ℕ) → is_short_source source ≡ true → IsSource source
@@ -96,14 +69,3 @@ module _ (plant : PlantData) (matrix level : ℕ) (dest source : List ℕ) where
   connect-no_level is out =
       connect-no_dest (dest_isnt plant matrix level dest
       (ap (option_and_then (λ (at : Level). option_map (λ place. at.first_dest + place) (place_among dest (dest_names plant at)))) (level_at-none plant is matrix level out)))
-
-  pub connect-no_source : (number : ℕ) → dest_number_named plant matrix level dest ≡ Some number → carried plant matrix level source ≡ None → connect_named plant matrix level dest source ≡ None
-  connect-no_source number is none =
-      ap (option_and_then (with_number matrix level (carried plant matrix level source))) is
-      ∙ ap (λ (found : Option (Option ℕ)). with_number matrix level found number) none
-
-  pub connect-some : (number : ℕ) (found : Option ℕ) → dest_number_named plant matrix level dest ≡ Some number → carried plant matrix level source ≡ Some found
-      → connect_named plant matrix level dest source ≡ Some (connect_of (record { matrix = matrix; level = level; dest = number }) found)
-  connect-some number found is carries =
-      ap (option_and_then (with_number matrix level (carried plant matrix level source))) is
-      ∙ ap (λ (found : Option (Option ℕ)). with_number matrix level found number) carries

@@ -15,11 +15,9 @@ use crate::number::{read_number, read_panel};
 use crate::script::TAB;
 use line_text::{SPACE, split_at};
 use plant_config::{PanelNo, Plant};
+use plant_core::{is_short_dest, is_short_source};
 use plant_names::Names;
-use swp08_messages::{Message, PARKED, Point};
-
-// The destinations of a level that a connect can tell which isn't extended are numbered below this.
-const SHORT_DESTS: u16 = 1024;
+use swp08_messages::{Message, Point};
 
 // The parts of a take.
 #[derive(Clone, Copy)]
@@ -126,11 +124,7 @@ fn connect_of(at: Point, source: Option<u16>) -> Message
     ensures connect { result ≡ connect_of at source }
     ensures in_range { InRange result }
 {
-    let is_short = match source {
-        Some(number) => number < PARKED,
-        None => true,
-    };
-    if at.dest < SHORT_DESTS && is_short {
+    if is_short_dest(at.dest) && is_short_source(source) {
         Message::Connect { at, source }
     } else {
         Message::ExtConnect { at, source }
