@@ -3,4 +3,5 @@ pub mod InputLemmas
 pub mod LinkEventsLemmas
 pub mod MemAcceptorLemmas
 pub mod MemLinkLemmas
+pub mod MemNetLemmas
 pub mod MemPortLemmas

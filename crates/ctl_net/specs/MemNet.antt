@@ -1,7 +1,7 @@
 -- What a net in memory holds, and what it answers.
-use Rattle.std.specs.Prelude.{ℕ, ◌+◌, ◌-◌, ◌==◌, Bool, ◌||◌, List, [], ◌∷◌, ◌++◌, map, drop, slice_get, Option, Some, None, if◌then◌else◌}
+use Rattle.std.specs.Prelude.{ℕ, ◌+◌, ◌-◌, ◌==◌, Bool, ◌||◌, List, [], ◌∷◌, ◌++◌, map, drop, min, slice_get, Option, Some, None, if◌then◌else◌}
 use Rattle.std.specs.List.{AllByRecursion}
-use Rattle.std.specs.Option.{option_map}
+use Rattle.std.specs.Option.{option_map, option_map_or}
 use Rattle.ctl_io.specs.Calls.{Calls, next_fails, called, uncalled}
 use Rattle.ctl_io.specs.Custody.{Custody}
 use Rattle.ctl_io.specs.Faults.{count_after, is_faulty}
@@ -62,6 +62,13 @@ acceptor_answer net sessions = option_map (at_most sessions) (found net net.acce
 -- what the opening of a port answers
 abbrev pub port_answer : NetState → Option PortState
 port_answer net = found net net.ports
+
+-- how many sessions the next acceptor has that is opened for so many: of the first that waits as many as it has left, and no
+-- more than these
+abbrev pub sessions_for : NetState → ℕ → ℕ
+sessions_for net sessions =
+    option_map_or (λ (acceptor : AcceptorState). min acceptor.sessions sessions)
+    (slice_get net.acceptors 0) sessions
 
 -- the net without the acceptor, or the port, that is handed out, with its opening
 abbrev pub without_acceptor : Option AcceptorState → Opening → NetState → NetState

@@ -25,6 +25,9 @@ pub trait Net {
     /// The display ports that were handed out and taken back, each as it was given back.
     ghost ports: { Self → Custody Self.P };
 
+    /// How many sessions the next acceptor has that is opened for so many.
+    ghost sessions_for: { Self → ℕ → ℕ };
+
     /// How often an opening was refused.
     ghost open_faults: { Self → ℕ };
 
@@ -45,6 +48,8 @@ pub trait Net {
         ensures new { IfSome result (λ acceptor. IsFreshAcceptor (Self.A.links acceptor)
             (Self.A.next_faults acceptor) (Self.A.done_faults acceptor)) }
         ensures sessions { IfSome result (λ acceptor. Self.A.sessions acceptor ≤ sessions) }
+        ensures asked { IfSome result (λ acceptor.
+            Self.A.sessions acceptor ≡ sessions_for self.old sessions) }
         ensures told { openings self.new ≡ opened result
             (Opening.Acceptor panel address.now port sessions idle_ms) (openings self.old) }
         ensures lent { acceptors self.new ≡ opening_lent result (acceptors self.old) }

@@ -67,6 +67,8 @@ where
 
     ghost ports = { λ n. only_out n.ports_out };
 
+    ghost sessions_for = { λ _ sessions. sessions };
+
     ghost open_faults = { λ n. n.open_faults };
 
     ghost close_faults = { λ n. n.close_faults };

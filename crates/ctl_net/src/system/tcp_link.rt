@@ -99,6 +99,7 @@ impl<S: io::Read + io::Write + OpenStream + Drop> TcpLink<S> {
     /// A link over a connection of which a read waits at most `timeout`. It is refused where that is 0, and where the
     /// system doesn't take it.
     pub fn new(stream: S, timeout: Duration) -> io::Result<TcpLink<S>>
+        ensures stream { IfOk result (λ link. link.stream ≡ stream) }
         ensures read_faults { IfOk result (λ link. link.read_faults ≡ 0) }
         ensures write_faults { IfOk result (λ link. link.write_faults ≡ 0) }
         ensures idles { IfOk result (λ link. link.idles ≡ 0) }
