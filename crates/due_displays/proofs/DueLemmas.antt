@@ -1,12 +1,13 @@
 -- Displays become due, and lose it, one by one.
-use Rattle.std.proofs.Common.{◌≡◌, ◌≢◌, ◌⊎◌, ℕ, ◌<◌, ◌≤◌, ◌==◌, Bool, true, false, not, ◌&&◌, ◌||◌, List, [], ◌∷◌, All, length, get_or, set, slice_get, zero, suc, is_some, Option, Some, None, inl, inr, refl, sym, ap, ◌∙◌, arith, eq-eqb, eqb-true, get_or-set_same, get_or-set_other, length-set}
+use Rattle.std.proofs.Common.{◌≡◌, ◌≢◌, ℕ, ◌<◌, ◌≤◌, ◌==◌, Bool, true, false, not, ◌&&◌, ◌||◌, List, [], ◌∷◌, All, length, get_or, set, slice_get, zero, suc, Option, Some, inl, inr, refl, sym, ap, ◌∙◌, arith, eq-eqb, eqb-true, get_or-set_same, get_or-set_other, length-set}
 use Rattle.std.specs.Option.{option_map_or}
-use Rattle.std.specs.FinSet.{contains, insert, remove}
+use Rattle.std.specs.FinSet.{empty, contains, insert, contains-empty}
+use Rattle.std.specs.Ordering.{nat_cmp}
 use Rattle.std.proofs.lemmas.Bool.{cases_eq, cases_lt, ne_eqb, both_ways}
 use Rattle.std.proofs.lemmas.List.{get_or_past, get_or_read}
 use Rattle.std.proofs.lemmas.Option.{slice_get_within, slice_get-get_or}
 use Rattle.number_tables.specs.Numbers.{Numbers}
-use Rattle.number_tables.proofs.Members.{contains_inserted, contains_removed}
+use Rattle.number_tables.proofs.Members.{contains_inserted}
 use Rattle.plant_config.specs.declared.records.Display.{Display}
 use Rattle.plant_config.specs.Plant.{PlantData}
 use Rattle.plant_config.specs.IsPlant.{IsPlant}
@@ -17,6 +18,7 @@ use Rattle.due_displays.specs.Due.{Due, AreDueOf, row_of, screen_at, position_of
 use Rattle.due_displays.specs.Changed.{BecomeDue, LosesDue, IsFirstDue}
 use Rattle.due_displays.specs.TablesInside.{AreRowsOf, ArePositionsOf}
 use Rattle.due_displays.proofs.PositionLemmas.{of_screen, on_screen}
+use Rattle.due_displays.proofs.NotedLemmas.{AreNoted, AreNotedBut, true_and, due_there}
 
 -- two displays that stand at one position of one screen are one
 pub same_stand : (plant : PlantData) (due : Due) (one other : ℕ) → AreDueOf plant due → one < length plant.displays → other < length plant.displays → screen_at plant one ≡ screen_at plant other → position_of due one ≡ position_of due other → one ≡ other
@@ -93,13 +95,13 @@ module _ (plant : PlantData) (old new : Due) (display : ℕ) (row : Row) (change
       ]
 
   -- a position is taken only by what the change says
-  pub changed_are : ((screen position : ℕ) → has_at (row_of new screen) position ≡ true → position < length (displays_of plant screen)) → ((screen position : ℕ) → has_at (row_of new screen) position ≡ true → contains new.screens screen ≡ true) → AreDueOf plant new
+  pub changed_are : ((screen position : ℕ) → has_at (row_of new screen) position ≡ true → position < length (displays_of plant screen)) → AreNoted new → AreDueOf plant new
   changed_are within noted = record {
     count = ap length is.positions ∙ are.count;
     listed = λ other beneath. ap (slice_get (displays_of plant (screen_at plant other))) (same_positions other) ∙ are.listed other beneath;
     placed = λ screen position other there.
         let stands = are.placed screen position other there in
-        record { on = stands.on; at = same_positions other ∙ stands.at };
+        record { below = stands.below; on = stands.on; at = same_positions other ∙ stands.at };
     room = λ screen. elim (cases_eq screen (screen_at plant display)) [
       | inl same ↦
           let many : length (row_of new screen) ≡ length (row_of old screen) = ap (λ n. length (row_of new n)) same ∙ ap length here ∙ is.count ∙ ap (λ n. length (row_of old n)) (sym same) in
@@ -111,10 +113,6 @@ module _ (plant : PlantData) (old new : Due) (display : ℕ) (row : Row) (change
     noted = noted;
     watched = rw (is.lasts, is.befores) are.watched;
   }
-
-true_and : (a b : Bool) → (a && b) ≡ true → (a ≡ true) × (b ≡ true)
-true_and true b is = (refl, is)
-true_and false b is = cc
 
 -- a display became due
 pub added : (plant : PlantData) (old new : Due) (display : ℕ) (row : Row) → AreDueOf plant old → display < length plant.displays → ChangesAt old new (screen_at plant display) row (position_of old display) (λ a b. a || b) →
@@ -139,17 +137,32 @@ added plant old new display row are below is noted = record {
 
     or_noted : (screen position : ℕ) (a b : Bool) → (screen == screen_at plant display) ≡ a → ((a && b) || has_at (row_of old screen) position) ≡ true → (a || contains old.screens screen) ≡ true
     or_noted screen position true b s holds = refl
-    or_noted screen position false b s holds = are.noted screen position holds
+    or_noted screen position false b s holds = (are.noted screen).1 (position, holds)
 
-    notes : (screen position : ℕ) → has_at (row_of new screen) position ≡ true → contains new.screens screen ≡ true
-    notes screen position holds =
-        ap (λ (s : Numbers). contains s screen) noted ∙ contains_inserted old.screens (screen_at plant display) screen
-        ∙ or_noted screen position (screen == screen_at plant display) (position == position_of old display) refl
-        (sym (changed_has plant old new display row (λ a b. a || b) are below (λ b. refl) is screen position) ∙ holds)
+    has : (screen position : ℕ) → has_at (row_of new screen) position ≡ (((screen == screen_at plant display) && (position == position_of old display)) || has_at (row_of old screen) position)
+    has = changed_has plant old new display row (λ a b. a || b) are below (λ b. refl) is
+
+    now_noted : (screen : ℕ) → contains new.screens screen ≡ ((screen == screen_at plant display) || contains old.screens screen)
+    now_noted screen = ap (λ (s : Numbers). contains s screen) noted ∙ contains_inserted old.screens (screen_at plant display) screen
+
+    some : (screen : ℕ) (a : Bool) → (screen == screen_at plant display) ≡ a → (a || contains old.screens screen) ≡ true → (position : ℕ) × (has_at (row_of new screen) position ≡ true)
+    some screen true s holds = (
+      position_of old display,
+      has screen (position_of old display) ∙ ap (λ b. (b && (position_of old display == position_of old display)) || has_at (row_of old screen) (position_of old display)) s
+          ∙ ap (λ b. b || has_at (row_of old screen) (position_of old display)) (eq-eqb (position_of old display) (position_of old display) refl),
+    )
+    some screen false s holds =
+        let found = (are.noted screen).0 holds in
+        (found.0, has screen found.0 ∙ ap (λ b. (b && (found.0 == position_of old display)) || has_at (row_of old screen) found.0) s ∙ found.1)
+
+    notes : AreNoted new
+    notes screen = (
+      λ holds. some screen (screen == screen_at plant display) refl (sym (now_noted screen) ∙ holds),
+      λ found. now_noted screen ∙ or_noted screen found.0 (screen == screen_at plant display) (found.0 == position_of old display) refl (sym (has screen found.0) ∙ found.1),
+    )
 
 -- a display isn't due any more
-pub lost : (plant : PlantData) (old new : Due) (display : ℕ) (row : Row) → AreDueOf plant old → display < length plant.displays → ChangesAt old new (screen_at plant display) row (position_of old display) (λ a b. not a && b) →
-    ((screen : ℕ) → contains old.screens screen ≡ true → (contains new.screens screen ≡ true) ⊎ ((screen ≡ screen_at plant display) × ((position : ℕ) → has_at row position ≡ false))) → LosesDue plant old new display
+pub lost : (plant : PlantData) (old new : Due) (display : ℕ) (row : Row) → AreDueOf plant old → display < length plant.displays → ChangesAt old new (screen_at plant display) row (position_of old display) (λ a b. not a && b) → AreNotedBut old new (screen_at plant display) row → LosesDue plant old new display
 lost plant old new display row are below is noted = record {
   kept = changed_are plant old new display row (λ a b. not a && b) are below (λ b. refl) is within notes;
   each = changed_each plant old new display row (λ a b. not a && b) are below (λ b. refl) is;
@@ -163,47 +176,50 @@ lost plant old new display row are below is noted = record {
     within : (screen position : ℕ) → has_at (row_of new screen) position ≡ true → position < length (displays_of plant screen)
     within screen position holds = are.within screen position (was screen position holds)
 
-    notes : (screen position : ℕ) → has_at (row_of new screen) position ≡ true → contains new.screens screen ≡ true
-    notes screen position holds = elim (noted screen (are.noted screen position (was screen position holds))) [
+    here_row : row_of new (screen_at plant display) ≡ row
+    here_row = here plant old new display row (λ a b. not a && b) are below (λ b. refl) is
+
+    kept : (screen position : ℕ) → has_at (row_of new screen) position ≡ true → contains new.screens screen ≡ true
+    kept screen position holds = elim (noted.still screen ((are.noted screen).1 (position, was screen position holds))) [
       | inl still ↦ still
       | inr gone ↦
           absurd (both_ways (has_at (row_of new screen) position)
-          (ap (λ n. has_at (row_of new n) position) gone.0 ∙ ap (λ r. has_at r position) (here plant old new display row (λ a b. not a && b) are below (λ b. refl) is) ∙ gone.1 position) holds)
+          (ap (λ n. has_at (row_of new n) position) gone.0 ∙ ap (λ r. has_at r position) here_row ∙ gone.1 position) holds)
     ]
+
+    some : (screen : ℕ) → contains new.screens screen ≡ true → (position : ℕ) × (has_at (row_of new screen) position ≡ true)
+    some screen holds = elim (cases_eq screen (screen_at plant display)) [
+      | inl same ↦
+          let found = noted.some (ap (contains new.screens) (sym same) ∙ holds) in
+          (found.0, ap (λ n. has_at (row_of new n) found.0) same ∙ ap (λ r. has_at r found.0) here_row ∙ found.1)
+      | inr apart ↦
+          let found = (are.noted screen).0 (noted.was screen holds) in
+          (found.0, ap (λ r. has_at r found.0) (elsewhere plant old new display row (λ a b. not a && b) are below (λ b. refl) is screen apart) ∙ found.1)
+    ]
+
+    notes : AreNoted new
+    notes screen = (some screen, λ found. kept screen found.0 found.1)
 
 -- the first display that is due
 pub first_due : (plant : PlantData) (due : Due) (screen : ℕ) (found : Option ℕ) → AreDueOf plant due → IsLowestOf (row_of due screen) found → IsFirstDue plant due screen found
 first_due plant due screen found are is = record {
   within = λ position at. are.within screen position (is.there position at);
-  is = λ position display at there. due_at position display there ∙ is.there position at;
+  is = λ position display at there. due_there plant due screen position display are there ∙ is.there position at;
   passed = λ position before at less display there. not_due before display there (λ holds. absurd (omega (arith, is.least position before at holds, less)));
   none = λ position at display there. not_due position display there (λ holds. is.none position at holds);
 }
   where
-    due_at : (position display : ℕ) → slice_get (displays_of plant screen) position ≡ Some display → is_due plant due display ≡ has_at (row_of due screen) position
-    due_at position display there =
-        let stands = are.placed screen position display there in
-        ap (λ n. has_at (row_of due n) (position_of due display)) stands.on ∙ ap (has_at (row_of due screen)) stands.at
-
     not_due : (position display : ℕ) → slice_get (displays_of plant screen) position ≡ Some display → (has_at (row_of due screen) position ≡ true → ⊥) → is_due plant due display ≡ false
-    not_due position display there fails = due_at position display there ∙ by (has_at (row_of due screen) position) refl
+    not_due position display there fails = due_there plant due screen position display are there ∙ by (has_at (row_of due screen) position) refl
       where
         by : (b : Bool) → has_at (row_of due screen) position ≡ b → b ≡ false
         by true holds = absurd (fails holds)
         by false off = refl
 
--- where no screen is noted, no display is due
-pub none_due : (plant : PlantData) (due : Due) (display : ℕ) → AreDueOf plant due → ((screen : ℕ) → contains due.screens screen ≡ false) → is_due plant due display ≡ false
-none_due plant due display are none = by (is_due plant due display) refl
-  where
-    by : (b : Bool) → is_due plant due display ≡ b → b ≡ false
-    by true holds = absurd (both_ways (contains due.screens (screen_at plant display)) (none (screen_at plant display)) (are.noted (screen_at plant display) (position_of due display) holds))
-    by false off = refl
-
 -- at first no display is due
 pub start_due : (plant : PlantData) (screens : Screens) (due : Due) (count : ℕ) → IsPlant plant → AreScreensOf plant screens → All (λ (display : Display). display.screen < count) plant.displays → count ≤ 65536 →
-    AreWatchersOf plant.displays due.lasts due.befores → ArePositionsOf plant count due.positions → AreRowsOf screens count due.rows → AreDueOf plant due
-start_due plant screens due count is screened above most watched placed rowed = record {
+    AreWatchersOf plant.displays due.lasts due.befores → ArePositionsOf plant count due.positions → AreRowsOf screens count due.rows → due.screens ≡ empty → AreDueOf plant due
+start_due plant screens due count is screened above most watched placed rowed none = record {
   count = placed.many;
   listed = λ display below.
       let at = on_screen plant display is below in
@@ -212,6 +228,7 @@ start_due plant screens due count is screened above most watched placed rowed = 
   placed = λ screen position display there.
       let of = of_screen plant screen position display is there in
       record {
+        below = of.below;
         on = of.on;
         at = placed.each screen position display (omega (arith, screen_below display of.below, of.on)) there;
       };
@@ -221,7 +238,10 @@ start_due plant screens due count is screened above most watched placed rowed = 
   ];
   few = omega (arith, rowed.many, most);
   within = λ screen position holds. absurd (both_ways (has_at (row_of due screen) position) (rowed.none screen position) holds);
-  noted = λ screen position holds. absurd (both_ways (has_at (row_of due screen) position) (rowed.none screen position) holds);
+  noted = λ screen. (
+    λ holds. absurd (both_ways (contains due.screens screen) (ap (λ (s : Numbers). contains s screen) none ∙ contains-empty nat_cmp screen) holds),
+    λ found. absurd (both_ways (has_at (row_of due screen) found.0) (rowed.none screen found.0) found.1),
+  );
   watched = watched;
 }
   where
@@ -253,20 +273,3 @@ read_position plant due display number position are below same is =
 pub read_row : (plant : PlantData) (due : Due) (display screen : ℕ) (row : Row) → AreDueOf plant due → display < length plant.displays → screen ≡ screen_at plant display → row ≡ get_or due.rows screen row → row ≡ row_of due (screen_at plant display)
 read_row plant due display screen row are below same is =
     get_or_read due.rows (screen_at plant display) row (screen_within plant due display are below) (is ∙ ap (λ n. get_or due.rows n row) same) []
-
--- a row that is empty now
-pub emptied : (plant : PlantData) (old new : Due) (display : ℕ) (row : Row) → new.screens ≡ remove old.screens (screen_at plant display) → ((position : ℕ) → has_at row position ≡ true → ⊥) →
-    (screen : ℕ) → contains old.screens screen ≡ true → (contains new.screens screen ≡ true) ⊎ ((screen ≡ screen_at plant display) × ((position : ℕ) → has_at row position ≡ false))
-emptied plant old new display row noted none screen was = elim (cases_eq screen (screen_at plant display)) [
-  | inl same ↦ inr (same, λ position. by position (has_at row position) refl)
-  | inr apart ↦ inl (ap (λ (s : Numbers). contains s screen) noted ∙ contains_removed old.screens (screen_at plant display) screen ∙ ap (λ b. not b && contains old.screens screen) (ne_eqb screen (screen_at plant display) apart) ∙ was)
-]
-  where
-    by : (position : ℕ) (b : Bool) → has_at row position ≡ b → b ≡ false
-    by position true holds = absurd (none position holds)
-    by position false off = refl
-
-pub none_from : (found : Option ℕ) (none : Bool) → is_some found ≡ not none → none ≡ true → found ≡ None
-none_from None none is holds = refl
-none_from (Some n) true is holds = cc
-none_from (Some n) false is holds = cc

@@ -1,5 +1,5 @@
 -- Which displays of a plant are due.
-use Rattle.std.specs.Prelude.{◌≡◌, ℕ, ◌<◌, ◌≤◌, Bool, true, false, List, [], length, slice_get, slice_index_or, Option, Some, None, refl}
+use Rattle.std.specs.Prelude.{◌≡◌, ◌↔◌, ℕ, ◌<◌, ◌≤◌, Bool, true, List, [], length, slice_get, slice_index_or, Option, Some, refl}
 use Rattle.std.specs.Option.{option_map_or}
 use Rattle.std.specs.FinSet.{contains, code as set_code}
 use Rattle.std.specs.Coded.{Coded, code_by, coded×, coded_ℕ, coded_list, coded_option}
@@ -51,13 +51,14 @@ position_of due display = slice_index_or due.positions display 0
 abbrev pub is_due : PlantData → Due → ℕ → Bool
 is_due plant due display = has_at (row_of due (screen_at plant display)) (position_of due display)
 
--- A display is on this screen, and this is its position there.
+-- A display of a plant is on this screen, and this is its position there.
 pub record StandsAt (plant : PlantData) (due : Due) (screen position display : ℕ) : Type 0 where
+  pub below : display < length plant.displays
   pub on : screen_at plant display ≡ screen
   pub at : position_of due display ≡ position
 
 -- Due displays are kept for a plant: each display has its position, each screen has room for its displays, positions are of
--- displays, the screens with some are noted, and destinations lead to the displays that watch them.
+-- displays, just the screens with some are noted, and destinations lead to the displays that watch them.
 pub record AreDueOf (plant : PlantData) (due : Due) : Type 0 where
   pub count : length due.positions ≡ length plant.displays
   pub listed : (display : ℕ) → display < length plant.displays
@@ -70,6 +71,6 @@ pub record AreDueOf (plant : PlantData) (due : Due) : Type 0 where
   pub few : length due.rows ≤ number_limit
   pub within : (screen position : ℕ) → has_at (row_of due screen) position ≡ true
       → position < length (displays_of plant screen)
-  pub noted : (screen position : ℕ) → has_at (row_of due screen) position ≡ true
-      → contains due.screens screen ≡ true
+  pub noted : (screen : ℕ) → (contains due.screens screen ≡ true)
+      ↔ ((position : ℕ) × (has_at (row_of due screen) position ≡ true))
   pub watched : AreWatchersOf plant.displays due.lasts due.befores

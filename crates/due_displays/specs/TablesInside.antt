@@ -1,5 +1,5 @@
 -- How it is found where displays stand.
-use Rattle.std.specs.Prelude.{◌≡◌, ◌≢◌, ℕ, ◌<◌, ◌≤◌, false, List, [], length, slice_get, slice_index_or, Option, Some}
+use Rattle.std.specs.Prelude.{◌≡◌, ◌≢◌, ℕ, ◌<◌, ◌≤◌, false, List, [], length, slice_get, slice_index_or, Some}
 use Rattle.plant_config.specs.Plant.{PlantData}
 use Rattle.change_boards.specs.Screens.{Screens, displays_at, displays_of}
 use Rattle.due_displays.specs.Row.{Row, has_at, row_room}

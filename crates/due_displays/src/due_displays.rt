@@ -1,6 +1,6 @@
 //! Which displays of a plant are due.
 
-ghost use Rattle.std.specs.Prelude.{◌≡◌, ◌<◌, ◌==◌, ℕ, true, false, All, length, IfOk, IsTrue};
+ghost use Rattle.std.specs.Prelude.{◌≡◌, ◌↔◌, ◌<◌, ◌==◌, ℕ, true, false, All, length, IfOk, IsTrue};
 ghost use Rattle.plant_config.specs.Plant.{PlantData};
 ghost use Rattle.plant_config.specs.IsPlant.{IsPlant};
 ghost use Rattle.change_boards.specs.Screens.{AreScreensOf};
@@ -140,9 +140,9 @@ impl DueDisplays {
 
     /// Whether no display of any screen is due.
     pub fn is_empty(&self) -> bool
-        ensures { (plant : PlantData) → AreDueOf plant self.now → IsTrue result
-            → (display : ℕ) → display < length plant.displays
-            → is_due plant self.now display ≡ false }
+        ensures { (plant : PlantData) → AreDueOf plant self.now
+            → (IsTrue result ↔ ((display : ℕ) → display < length plant.displays
+            → is_due plant self.now display ≡ false)) }
     {
         self.screens.is_empty()
     }

@@ -1,6 +1,6 @@
 //! A tally that is kept up to date.
 
-ghost use Rattle.std.specs.Prelude.{◌≡◌, ◌+◌, ◌<◌, ◌≤◌, ℕ, List, All, IfOk};
+ghost use Rattle.std.specs.Prelude.{◌≡◌, ◌+◌, ◌<◌, ◌≤◌, ℕ, List, [], All, IfOk};
 ghost use Rattle.std.specs.FinMap.{empty};
 ghost use Rattle.plant_config.specs.Plant.{PlantData, sources_of};
 ghost use Rattle.plant_config.specs.IsPlant.{IsPlant, IsDest};
@@ -59,10 +59,11 @@ impl Model for Tally {
 }
 
 impl Tally {
-    /// The tally for these roots of a plant of which all destinations are parked.
+    /// The tally for these roots of a plant of which all destinations are parked. Nothing has flipped yet.
     pub fn new(alloc: Global, plant: &Plant, roots: Roots) -> Result<Tally, AllocError>
         requires { IsPlant plant.now }
-        ensures { IfOk result (IsKeptFor plant.now empty (roots_of plant.now roots)) }
+        ensures kept { IfOk result (IsKeptFor plant.now empty (roots_of plant.now roots)) }
+        ensures still { IfOk result (λ tally. tally.flipped ≡ []) }
     {
         let dests = roots.of(plant);
         let marks = Marks::new(alloc, plant, dests)?;

@@ -1,9 +1,10 @@
-use Rattle.std.proofs.Common.{◌≡◌, ◌==◌, ◌&&◌, not, length, get_or, set, inl, subst, sym, ap, refl, ◌∙◌, arith}
+use Rattle.std.proofs.Common.{◌≡◌, ◌==◌, ◌&&◌, not, length, get_or, set, subst, sym, ap, refl, ◌∙◌, arith}
 use Rattle.std.specs.FinSet.{remove}
 use Rattle.due_displays.specs.Row.{Row, has_at}
 use Rattle.due_displays.specs.Due.{Due, AreDueOf, row_of, screen_at, position_of}
 use Rattle.due_displays.specs.Changed.{LosesDue}
-use Rattle.due_displays.proofs.DueLemmas.{ChangesAt, screen_within, stand_room, lost, emptied, none_from, read_screen, read_position, read_row}
+use Rattle.due_displays.proofs.DueLemmas.{ChangesAt, screen_within, stand_room, lost, read_screen, read_position, read_row}
+use Rattle.due_displays.proofs.NotedLemmas.{emptied, still_some, none_from}
 use Rattle.due_displays.proofs.due_displays.DueDisplays.remove.Goals as goal
 
 pub index_mut-row-requires : goal.index_mut-row-requires
@@ -46,7 +47,7 @@ returns-then-is_none c =
     } in
     subst (λ (old : Due). LosesDue plant old new c.args.display) is
     (lost plant due new c.args.display c.remove.new.self are c.requires.display changes
-    (emptied plant due new c.args.display c.remove.new.self (c.remove-then-is_none.ensures ∙ ap (remove due.screens) screen) (λ position holds. c.lowest.ensures.none position (none_from c.lowest.result c.is_none.result c.is_none.ensures c.if-is_none.true) holds)))
+    (emptied due new (screen_at plant c.args.display) c.remove.new.self (c.remove-then-is_none.ensures ∙ ap (remove due.screens) screen) (λ position holds. c.lowest.ensures.none position (none_from c.lowest.result c.is_none.result c.is_none.ensures c.if-is_none.true) holds)))
 
 pub returns-else-is_none : goal.returns-else-is_none
 returns-else-is_none c =
@@ -67,4 +68,5 @@ returns-else-is_none c =
       each = λ other. c.remove.ensures.each other ∙ ap (λ p. not (other == p) && has_at c.index_mut-row.result.now other) position ∙ ap (λ (r : Row). not (other == position_of due c.args.display) && has_at r other) row;
     } in
     subst (λ (old : Due). LosesDue plant old new c.args.display) is
-    (lost plant due new c.args.display c.remove.new.self are c.requires.display changes (λ screen was. inl was))
+    (lost plant due new c.args.display c.remove.new.self are c.requires.display changes
+    (still_some due new (screen_at plant c.args.display) c.remove.new.self c.lowest.result c.is_none.result refl c.lowest.ensures c.is_none.ensures c.if-is_none.false))

@@ -25,6 +25,6 @@ returns-then-is_empty c =
     let before : State = state_of c.self.inside.plant c.self.inside.crosspoints c.self.inside.protects c.self.inside.groups c.self.inside.notices c.self.inside.shown in
     let kept : AreKeptDue c.self.inside.plant c.self.inside.crosspoints.entries c.self.inside.shown c.deref.result.now = subst (AreKeptDue c.self.inside.plant c.self.inside.crosspoints.entries c.self.inside.shown) (sym c.deref.ensures) c.self.invariant.due in
     let none : (n : ℕ) → n < length before.plant.displays → differs before n ≡ false =
-    λ n below. not_due before.plant (value_in before.plant before.crosspoints) before.shown c.deref.result.now kept.differing n below (c.is_empty.ensures before.plant kept.tables c.if-is_empty.true n below) in
+    λ n below. not_due before.plant (value_in before.plant before.crosspoints) before.shown c.deref.result.now kept.differing n below ((c.is_empty.ensures before.plant kept.tables).0 c.if-is_empty.true n below) in
     sym (none_differs (differs before) (length before.plant.displays) none)
     ∙ ap (λ (state : State). list_any (differs state) (range_with_len 0 (length state.plant.displays))) c.self.view_is
