@@ -2,8 +2,8 @@
 
 ghost use Rattle.std.specs.Prelude.{◌≡◌, ◌-◌, ◌<◌, false, drop, length, option_map, IfOk};
 ghost use Rattle.std.specs.Prelude.{MatchOption, MatchResult, Some};
-ghost use Rattle.clap.specs.Words.{app_of, found_of, kind_of, rows_of, rule_of};
-ghost use Rattle.clap.specs.Words.{subcommand_rows_of};
+ghost use Rattle.clap.specs.Words.{App, app_of, found_of, kind_of, rows_of, rule_of};
+ghost use Rattle.clap.specs.Words.{subcommand_rows_of, with_subcommand};
 ghost use Rattle.command_words.specs.Words.{Command as Commands, Ask, texts};
 ghost use Rattle.command_words.specs.Read.{asked};
 ghost use Rattle.command_words.specs.WordsInside.{IsArg, IsForm, audit, check, command_in};
@@ -29,18 +29,23 @@ pub(crate) fn parse<'a>(alloc: Global, words: &'a [String]) -> Result<ArgMatches
 fn forms<'a>(alloc: Global) -> Result<clap::Command<'a>, AllocError>
     ensures { IfOk result (λ command. app_of command ≡ program) }
 {
-    let check = check_form(alloc)?;
-    let replay = replay_form(alloc)?;
-    let audit = audit_form(alloc)?;
-    let stream = stream_form(alloc)?;
-    let monitor = monitor_form(alloc)?;
-    clap::Command::new(alloc, "plantctl")
-        .no_binary_name(true)
-        .subcommand(check)?
-        .subcommand(replay)?
-        .subcommand(audit)?
-        .subcommand(stream)?
-        .subcommand(monitor)
+    let command = clap::Command::new(alloc, "plantctl").no_binary_name(true);
+    let with_check = with_form(command, check_form(alloc))?;
+    let with_replay = with_form(with_check, replay_form(alloc))?;
+    let with_audit = with_form(with_replay, audit_form(alloc))?;
+    let with_stream = with_form(with_audit, stream_form(alloc))?;
+    with_form(with_stream, monitor_form(alloc))
+}
+
+// The command with one more form, if that one was made.
+fn with_form<'a>(
+    command: clap::Command<'a>,
+    form: Result<clap::Command<'a>, AllocError>,
+) -> Result<clap::Command<'a>, AllocError>
+    ensures { (app own : App) → IsForm app command.entry → IfOk form.entry (IsForm own)
+        → IfOk result (IsForm (with_subcommand app own.top)) }
+{
+    command.subcommand(form?)
 }
 
 fn check_form<'a>(alloc: Global) -> Result<clap::Command<'a>, AllocError>
