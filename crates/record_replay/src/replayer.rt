@@ -54,12 +54,15 @@ impl<'p> Replayer<'p> {
         requires { names.now ≡ plant.now }
         ensures { IfOk result (λ replayer. StandsAt plant.now replayer (begun plant.now) 0) }
     {
+        let packet = PacketRoom::new(alloc)?;
+        let outbox = OutBox::new(alloc, PlantState::room_of(plant))?;
+        let sessions = start_sessions(alloc, plant, names)?;
         Ok(Replayer {
             plant,
             state: PlantState::start(alloc, plant)?,
-            sessions: start_sessions(alloc, plant, names)?,
-            outbox: OutBox::new(alloc, PlantState::room_of(plant))?,
-            packet: PacketRoom::new(alloc)?,
+            sessions,
+            outbox,
+            packet,
         })
     }
 

@@ -107,8 +107,8 @@ fn replay_lines<K: Sink, P: DisplayPort>(
     ensures count { K.faults out.new ≡ count_after (stream_failed result) (K.faults out.old) }
     ensures port_count { PortCounts result (P.faults port.old) (P.faults port.new) }
 {
-    let mut replayer = Replayer::start(alloc, plant, names)?;
     let mut room = Room::new(alloc)?;
+    let mut replayer = Replayer::start(alloc, plant, names)?;
     let mut output = Output::new(&mut room, out);
     let sent = replayer.work(script, names, digits, &mut output, port);
     if !output.finish() {

@@ -9,12 +9,12 @@ pub returns : goal.returns
 returns c = record {
   plant_is = refl;
   state_is = c.in_ok-start.ensures;
-  valid = IsValid-start c.args.plant.now c.in_ok-start_sessions.ensures.plant;
+  valid = IsValid-start c.args.plant.now c.in_ok-sessions.ensures.plant;
   short = StaysShort-start c.args.plant.now;
   settled = settled-begun c.args.plant.now;
-  count = c.in_ok-start_sessions.ensures.sessions.count;
-  each = c.in_ok-start_sessions.ensures.sessions.each;
+  count = c.in_ok-sessions.ensures.sessions.count;
+  each = c.in_ok-sessions.ensures.sessions.each;
   small = λ panel. small_nothing 0;
-  empty = c.in_ok-new.ensures.empty;
-  places = omega (arith, c.in_ok-new.ensures.places, c.room_of.ensures);
+  empty = c.in_ok-outbox.ensures.empty;
+  places = omega (arith, c.in_ok-outbox.ensures.places, c.room_of.ensures);
 }
