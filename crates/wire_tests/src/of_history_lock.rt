@@ -111,13 +111,11 @@ fn are_answered<R: Wait + Abort>(
     ensures second { (second.new.lock ≡ second.old.lock)
         × (second.new.number ≡ second.old.number) }
 {
-    assert!(rt; lock.call(rt, first, &(), out) == Ok(0));
-    assert!(rt; out.items() == [0].as_slice());
+    assert!(rt; lock.call(rt, first, &(), out) == Ok(0) && out.items() == [0].as_slice());
     out.clear();
     assert!(rt; lock.call(rt, second, &(), out) == Ok(1));
     out.clear();
-    assert!(rt; lock.try_call(first, &(), out) == Ok(2));
-    assert!(rt; out.items() == [2].as_slice());
+    assert!(rt; lock.try_call(first, &(), out) == Ok(2) && out.items() == [2].as_slice());
     let note = lock.note(first);
     lock.meet(second, note);
 }
@@ -156,7 +154,10 @@ fn ask<R: Wait>(
     } else {
         lock.try_call(seat, &(), out).ok()
     };
-    answer.filter(|number| out.items() == [*number].as_slice())
+    match answer {
+        Some(number) if out.items() == [number].as_slice() => Some(number),
+        _ => None,
+    }
 }
 
 /// Asks so often, and answers how often it was answered with a number above the last.

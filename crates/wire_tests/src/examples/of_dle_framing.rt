@@ -14,8 +14,8 @@ fn a_frame_in_two_pieces(rt: HostRuntime) -> Result<(), Fail> {
     assert!(rt; frame.as_slice() == SPELLED);
 
     let mut framer = Framer::new();
-    assert!(rt; framer.feed(&SPELLED[..7]) == (7, None));
+    let (front, rest) = SPELLED.split_at(7);
     let item = Item::Good(INTERROGATE.as_slice());
-    assert!(rt; framer.feed(&SPELLED[7..]) == (3, Some(item)));
+    assert!(rt; framer.feed(front) == (7, None) && framer.feed(rest) == (3, Some(item)));
     Ok(())
 }

@@ -12,8 +12,7 @@ fn a_number_has_its_last_value(rt: HostRuntime) -> Result<(), Fail> {
     seats.set(2, Some('c'));
     seats.set(0, None);
 
-    assert!(rt; seats.get(2) == Some('c'));
-    assert!(rt; seats.get(0) == None);
+    assert!(rt; seats.get(2) == Some('c') && seats.get(0) == None);
     // Past the room no number has a value.
     assert!(rt; seats.get(3) == None);
     Ok(())
@@ -29,8 +28,7 @@ fn the_lowest_member_goes_first(rt: HostRuntime) -> Result<(), Fail> {
     assert!(rt; numbers.lowest() == Some(5));
 
     numbers.remove(5);
-    assert!(rt; !numbers.contains(5));
-    assert!(rt; numbers.lowest() == Some(64));
+    assert!(rt; !numbers.contains(5) && numbers.lowest() == Some(64));
 
     numbers.clear();
     assert!(rt; numbers.is_empty());

@@ -74,8 +74,7 @@ fn the_last_linked_is_first(rt: HostRuntime) -> Result<(), Fail> {
     put_under(&mut taps, 1, 3);
     put_under(&mut taps, 1, 2);
     put_under(&mut taps, 0, 3);
-    assert!(rt; taps.head_of(3) == Some(0));
-    assert!(rt; taps.head_of(1) == None);
+    assert!(rt; taps.head_of(3) == Some(0) && taps.head_of(1) == None);
 
     let members = counted::<Brand>(rt.alloc(), &taps, 1, Blank::new(1))?;
     assert!(rt; members.as_slice() == [2, 0].as_slice());

@@ -62,14 +62,18 @@ fn are_read<F: Files>(rt: &impl Abort, alloc: Global, files: &mut F, rows: &[Rea
     }
 }
 
+// Whether a file of three bytes is made, and says what it has left; none can be made in a folder that is missing.
+fn is_made<F: Files>(files: &mut F) -> bool {
+    !write_text("missing/text", files)
+        && write_text("text", files)
+        && hints("text", files) == Some((3, 1))
+}
+
 #[test]
 fn real_files_are_written_and_read(rt: HostRuntime) -> Result<(), Fail> {
     let mut files = StdFiles::new(rt.clone()?);
     are_read(&rt, rt.alloc(), &mut files, &BEFORE);
-    // No file can be made in a folder that is missing.
-    assert!(rt; !write_text("missing/text", &mut files));
-    assert!(rt; write_text("text", &mut files));
-    assert!(rt; hints("text", &mut files) == Some((3, 1)));
+    assert!(rt; is_made(&mut files));
     are_read(&rt, rt.alloc(), &mut files, &AFTER);
     assert!(rt; files.faults() == 2);
     fs::remove_file(&rt, "text")?;

@@ -168,8 +168,7 @@ fn is_made_and_found<F: Files>(name: &str, files: &mut F) -> bool {
 #[test]
 fn an_interrupted_opening_is_made_again(rt: HostRuntime) -> Result<(), Fail> {
     let mut files = StdFiles::new(Halting::new(rt.clone()?));
-    assert!(rt; is_made_and_found("interrupted", &mut files));
-    assert!(rt; files.faults() == 0);
+    assert!(rt; is_made_and_found("interrupted", &mut files) && files.faults() == 0);
     std::fs::remove_file(&rt, "interrupted")?;
     Ok(())
 }

@@ -1,41 +1,62 @@
 //! Ports in memory, and over a socket of this machine.
 
+ghost use Rattle.std.specs.Prelude.{◌<◌, length};
+
 use ctl_net::{DisplayPort, MemPort, Sent, UdpPort};
+use std::io;
 use std::net::UdpSocket;
+use std::process::Abort;
 use std::test::Fail;
+
+// Packets, and what is answered to each. The second send fails, and the last packet has no room.
+const PACKETS: &[(&[u8], Sent)] = &[
+    (b"ab", Sent::Done),
+    (b"c", Sent::Failed),
+    (b"def", Sent::Done),
+    (b"g", Sent::Failed),
+];
+
+fn are_taken(rt: &impl Abort, port: &mut MemPort) {
+    for (packet, sent) in PACKETS {
+        port.pause();
+        assert!(rt; port.take(packet) == *sent);
+    }
+}
 
 #[test]
 fn a_port_in_memory_keeps_its_packets(rt: HostRuntime) -> Result<(), Fail> {
-    let alloc = rt.alloc();
-    let mut port = MemPort::new(alloc, 5, vec![in alloc; 1]?)?;
-    for (packet, sent) in [
-        (b"ab".as_slice(), Sent::Done),
-        (b"c".as_slice(), Sent::Failed),
-        (b"def".as_slice(), Sent::Done),
-        (b"g".as_slice(), Sent::Failed),
-    ] {
-        port.pause();
-        assert!(rt; port.take(packet) == sent);
-    }
-    assert!(rt; port.bytes() == b"abdef".as_slice());
-    assert!(rt; port.lengths() == [2, 3].as_slice());
+    let failing = vec![in rt.alloc(); 1]?;
+    let mut port = MemPort::new(rt.alloc(), 5, failing)?;
+    are_taken(&rt, &mut port);
+    assert!(rt; port.bytes() == b"abdef".as_slice() && port.lengths() == [2, 3].as_slice());
     assert!(rt; port.faults() == 2);
     Ok(())
 }
 
+// Two sockets, of which the second sends to the first.
+fn connected(rt: &HostRuntime) -> io::Result<(UdpSocket, UdpSocket)> {
+    let display = UdpSocket::bind(rt, "127.0.0.1:0")?;
+    let socket = UdpSocket::bind(rt, "127.0.0.1:0")?;
+    socket.connect(display.local_addr()?)?;
+    Ok((display, socket))
+}
+
+// Whether a packet comes to a display as it is, and alone.
+fn comes(port: &mut UdpPort<HostRuntime>, display: &UdpSocket, packet: &[u8]) -> bool
+    requires { 0 < length packet.now }
+{
+    let mut into = [0; 8];
+    let sent = port.send(packet) == Sent::Done;
+    let came = matches!(display.recv(&mut into), Ok(n) if n == packet.len());
+    port.pause();
+    sent && came && into.starts_with(packet)
+}
+
 #[test]
 fn a_packet_goes_as_one_datagram(rt: HostRuntime) -> Result<(), Fail> {
-    let display = UdpSocket::bind(&rt, "127.0.0.1:0")?;
-    let socket = UdpSocket::bind(&rt, "127.0.0.1:0")?;
-    socket.connect(display.local_addr()?)?;
+    let (display, socket) = connected(&rt)?;
     let mut port = UdpPort::new(rt.clone()?, socket);
-    let mut into = [0; 8];
-    for packet in [b"abc".as_slice(), b"de".as_slice()] {
-        assert!(rt; port.send(packet) == Sent::Done);
-        assert!(rt; display.recv(&mut into)? == packet.len());
-        port.pause();
-    }
-    assert!(rt; into == *b"dec\0\0\0\0\0");
+    assert!(rt; comes(&mut port, &display, b"abc") && comes(&mut port, &display, b"de"));
     assert!(rt; port.faults() == 0);
     Ok(())
 }
