@@ -66,7 +66,6 @@ impl<'p> Worker<'p> {
         ensures ready { IfOk result (IsReady load.now panel) }
         ensures seat { IfOk result (λ worker. worker.seat ≡ seat) }
     {
-        let session = Session::start(alloc, plant, names, PanelNo::of(panel))?;
         let bytes = stream(alloc, load.number, panel, load.each)?;
         let events = in_pieces(alloc, bytes.as_slice())?;
         let each = load.each as usize;
@@ -75,6 +74,7 @@ impl<'p> Worker<'p> {
         let traced = TRACE_ROOM_OF_MESSAGE * each + TRACE_ROOM_OF_PIECE * pieces;
         let link = PanelLink::new(alloc, events, written)?;
         let trace = Tape::new(alloc, traced)?;
+        let session = Session::start(alloc, plant, names, PanelNo::of(panel))?;
         Ok(Worker {
             session,
             seat,
