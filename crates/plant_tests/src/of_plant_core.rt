@@ -1,6 +1,6 @@
 //! The plant's answers, what stands behind them, and who is told of what, each by a table.
 
-ghost use Rattle.std.specs.Prelude.{◌≤◌};
+ghost use Rattle.std.specs.Prelude.{◌≤◌, IfOk};
 ghost use Rattle.plant_core.specs.Answer.{room_of};
 
 mod day;
@@ -164,7 +164,7 @@ fn is_answered(rt: &impl Abort, state: &mut PlantState, out: &mut OutBox<Answer>
         dest,
     };
     ask(rt, state, out, &request_of(panel, at, act));
-    assert_eq!(rt; said(out), message_of(at, reply));
+    assert!(rt; said(out) == message_of(at, reply));
 }
 
 // The rows are answered one after the other.
@@ -185,6 +185,15 @@ fn plant_of(alloc: Global, text: Option<&str>) -> Result<Plant, Fail> {
     }
 }
 
+// A plant at its start, and room for its answers.
+fn started(alloc: Global, plant: &Plant) -> Result<(PlantState, OutBox<Answer>), AllocError>
+    ensures { IfOk result (λ made. room_of made.0.plant ≤ made.1.places) }
+{
+    let state = PlantState::start(alloc, plant)?;
+    let out = OutBox::new(alloc, state.room())?;
+    Ok((state, out))
+}
+
 // The rows are answered from the start of a plant on.
 fn is_worked(
     rt: &impl Abort,
@@ -192,8 +201,7 @@ fn is_worked(
     plant: &Plant,
     rows: &[Row],
 ) -> Result<(), AllocError> {
-    let mut state = PlantState::start(alloc, plant)?;
-    let mut out = OutBox::new(alloc, state.room())?;
+    let (mut state, mut out) = started(alloc, plant)?;
     are_answered(rt, &mut state, &mut out, rows);
     Ok(())
 }
@@ -270,9 +278,8 @@ fn is_dumped(rt: &impl Abort, state: &mut PlantState, out: &mut OutBox<Answer>)
 #[test]
 fn a_large_plant_fills_a_group_and_a_dump(rt: HostRuntime) -> Result<(), Fail> {
     let plant = Plant::from_toml(rt.alloc(), LARGE)?;
-    let mut state = PlantState::start(rt.alloc(), &plant)?;
+    let (mut state, mut out) = started(rt.alloc(), &plant)?;
     assert!(rt; state.room() == 257);
-    let mut out = OutBox::new(rt.alloc(), state.room())?;
     fill(&rt, &mut state, &mut out, 256);
     are_answered(&rt, &mut state, &mut out, &rows::FULL);
     is_dumped(&rt, &mut state, &mut out);

@@ -4,8 +4,8 @@
 ghost use Rattle.std.specs.Prelude.{◌≤◌};
 ghost use Rattle.plant_core.specs.Answer.{room_of};
 
-use super::{Act, Reply, Row, is_answered};
-use history_lock::{Machine, OutBox};
+use super::{Act, Reply, Row, is_answered, started};
+use history_lock::OutBox;
 use plant_config::Plant;
 use plant_core::{Answer, PlantState};
 use std::process::Abort;
@@ -147,8 +147,7 @@ fn passes(rt: &impl Abort, state: &mut PlantState, out: &mut OutBox<Answer>, tur
 #[test]
 fn a_day_is_answered_by_a_plain_count(rt: HostRuntime) -> Result<(), Fail> {
     let plant = Plant::from_toml(rt.alloc(), PLANT)?;
-    let mut state = PlantState::start(rt.alloc(), &plant)?;
-    let mut out = OutBox::new(rt.alloc(), state.room())?;
+    let (mut state, mut out) = started(rt.alloc(), &plant)?;
     passes(&rt, &mut state, &mut out, 4_000);
     Ok(())
 }

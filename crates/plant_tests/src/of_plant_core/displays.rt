@@ -3,9 +3,9 @@
 ghost use Rattle.std.specs.Prelude.{◌≤◌};
 ghost use Rattle.plant_core.specs.Answer.{room_of};
 
-use super::{Act, ask, request_of};
+use super::{Act, ask, request_of, started};
 use change_boards::Value;
-use history_lock::{Machine, OutBox};
+use history_lock::OutBox;
 use plant_config::{DestId, PanelNo, Plant};
 use plant_core::{Answer, PlantState, Request};
 use std::alloc::Global;
@@ -169,6 +169,16 @@ fn is_lamp(answer: &Answer, shown: &Shown) -> bool {
     }
 }
 
+// Whether these are the lamps of displays that are shown this, and no more.
+fn are_lamps(answers: &[Answer], wanted: &[Shown]) -> bool {
+    for (answer, shown) in answers.iter().zip(wanted) {
+        if !is_lamp(answer, shown) {
+            return false;
+        }
+    }
+    answers.len() == wanted.len()
+}
+
 // Panel 0 connects all of these.
 fn connect_all(
     rt: &impl Abort,
@@ -192,13 +202,7 @@ fn are_told(rt: &impl Abort, state: &mut PlantState, out: &mut OutBox<Answer>)
     for (connects, refresh, shown) in ROWS {
         connect_all(rt, state, out, connects);
         ask(rt, state, out, &shows(refresh));
-        assert!(rt; out.items().len() == shown.len());
-        assert!(rt;
-            out.items()
-                .iter()
-                .zip(shown)
-                .all(|(answer, shown)| is_lamp(answer, shown))
-        );
+        assert!(rt; are_lamps(out.items(), shown));
     }
 }
 
@@ -219,11 +223,10 @@ fn are_finished(rt: &impl Abort, state: &mut PlantState, out: &mut OutBox<Answer
 #[test]
 fn displays_are_told_until_all_is_finished(rt: HostRuntime) -> Result<(), Fail> {
     let plant = Plant::from_toml(rt.alloc(), STUDIO.as_bytes())?;
-    let mut state = PlantState::start(rt.alloc(), &plant)?;
-    let mut out = OutBox::new(rt.alloc(), state.room())?;
+    let (mut state, mut out) = started(rt.alloc(), &plant)?;
     are_told(&rt, &mut state, &mut out);
-    assert!(rt; state.is_live(Roots::Air, DestId::of(12)));
-    assert!(rt; !state.is_live(Roots::Preview, DestId::of(12)));
+    let dest = DestId::of(12);
+    assert!(rt; state.is_live(Roots::Air, dest) && !state.is_live(Roots::Preview, dest));
     are_finished(&rt, &mut state, &mut out);
     Ok(())
 }
@@ -257,8 +260,7 @@ fn are_counted(rt: &impl Abort, state: &mut PlantState, out: &mut OutBox<Answer>
 #[test]
 fn a_poll_tells_64_displays_at_most(rt: HostRuntime) -> Result<(), Fail> {
     let plant = many(rt.alloc())?;
-    let mut state = PlantState::start(rt.alloc(), &plant)?;
-    let mut out = OutBox::new(rt.alloc(), state.room())?;
+    let (mut state, mut out) = started(rt.alloc(), &plant)?;
     are_counted(&rt, &mut state, &mut out);
     Ok(())
 }

@@ -3,8 +3,8 @@
 ghost use Rattle.std.specs.Prelude.{◌≤◌};
 ghost use Rattle.plant_core.specs.Answer.{room_of};
 
-use super::{Act, ask, request_of};
-use history_lock::{Machine, OutBox};
+use super::{Act, ask, request_of, started};
+use history_lock::OutBox;
 use plant_config::{DestId, Plant, SourceId};
 use plant_core::{Answer, PlantState};
 use std::process::Abort;
@@ -56,8 +56,7 @@ fn take_turns(rt: &impl Abort, state: &mut PlantState, out: &mut OutBox<Answer>,
 #[test]
 fn a_step_costs_the_same_on_many_destinations(rt: HostRuntime) -> Result<(), Fail> {
     let plant = Plant::from_toml(rt.alloc(), LARGEST)?;
-    let mut state = PlantState::start(rt.alloc(), &plant)?;
-    let mut out = OutBox::new(rt.alloc(), state.room())?;
+    let (mut state, mut out) = started(rt.alloc(), &plant)?;
     take_turns(&rt, &mut state, &mut out, 2_000_000);
     assert!(rt; state.source_at(DestId::of(5)) == Some(SourceId::of(2)));
     Ok(())
