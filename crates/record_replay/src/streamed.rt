@@ -1,10 +1,12 @@
 //! A replay whose display polls are sent to a port.
 
-ghost use Rattle.std.specs.Prelude.{◌≡◌, ◌≢◌, Err, ℕ, OnOk, IsErrOf};
+ghost use Rattle.std.specs.Prelude.{◌≡◌, ◌≢◌, Err, [], ℕ, OnOk, IsErrOf};
 ghost use Rattle.ctl_io.specs.Faults.{count_after};
 ghost use Rattle.record_replay.specs.declared.streamed.StreamedFault.TheVariants.{NoMemory};
 ghost use Rattle.record_replay.specs.Script.{IsFirstBad};
 ghost use Rattle.record_replay.specs.LineInside.{HasWorks};
+ghost use Rattle.record_replay.specs.Replay.{begun};
+ghost use Rattle.record_replay.specs.ReplayerInside.{StandsAt};
 ghost use Rattle.record_replay.specs.Streamed.{HasStreamed, HasStreamedFront, HasStoppedAtPort};
 ghost use Rattle.record_replay.specs.Streamed.{TakesLamps, StaysBoth};
 ghost use Rattle.ctl_net.specs.Port.{SendsOn};
@@ -109,7 +111,39 @@ fn replay_lines<K: Sink, P: DisplayPort>(
 {
     let mut room = Room::new(alloc)?;
     let mut replayer = Replayer::start(alloc, plant, names)?;
-    let mut output = Output::new(&mut room, out);
+    work_lines(script, names, digits, &mut replayer, &mut room, out, port)
+}
+
+// So by a replayer for which nothing happened yet, and with room that is empty. They are lent, so that no exit lets them go.
+fn work_lines<K: Sink, P: DisplayPort>(
+    script: &[u8],
+    names: &Names,
+    digits: &mut Digits,
+    replayer: &mut Replayer<'_>,
+    room: &mut Room,
+    out: &mut K,
+    port: &mut P,
+) -> Result<(), StreamedFault>
+    requires names { names.now ≡ replayer.old.plant.now }
+    requires form { HasWorks replayer.old.plant.now script.now }
+    requires takes { TakesLamps replayer.old.plant.now P.takes }
+    requires begun { StandsAt replayer.old.plant.now replayer.old
+        (begun replayer.old.plant.now) 0 }
+    requires empty { room.old ≡ [] }
+    ensures ok { OnOk result (HasStreamed replayer.old.plant.now script.now
+        (K.written out.old) (K.written out.new) (SendsOn P.was_sent port.old port.new)) }
+    ensures no_bad_line { (number : ℕ) → result ≢ Err (StreamedFault.BadLine number) }
+    ensures output_fault { IsErrOf result StreamedFault.OutputFault
+        → HasStreamedFront replayer.old.plant.now script.now
+        (K.written out.old) (K.written out.new) (SendsOn P.was_sent port.old port.new) }
+    ensures port_fault { IsErrOf result StreamedFault.PortFault
+        → HasStoppedAtPort replayer.old.plant.now script.now
+        (K.written out.old) (K.written out.new) (SendsOn P.was_sent port.old port.new) }
+    ensures no_want { result ≢ Err StreamedFault.NoMemory }
+    ensures count { K.faults out.new ≡ count_after (stream_failed result) (K.faults out.old) }
+    ensures port_count { PortCounts result (P.faults port.old) (P.faults port.new) }
+{
+    let mut output = Output::new(room, out);
     let sent = replayer.work(script, names, digits, &mut output, port);
     if !output.finish() {
         return Err(StreamedFault::OutputFault);

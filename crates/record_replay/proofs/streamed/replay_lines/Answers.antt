@@ -1,52 +1,35 @@
-use Rattle.std.proofs.Common.{rules, arith}
-use Rattle.record_replay.proofs.ReplayScriptLemmas.{may_begin, streamed, stopped, cut_short}
+use Rattle.std.proofs.Common.{rules, sym, ◌∙◌, subst}
+use Rattle.plant_config.specs.Plant.{PlantData}
+use Rattle.record_replay.specs.LineInside.{HasWorks}
+use Rattle.record_replay.specs.Replay.{begun}
+use Rattle.record_replay.specs.ReplayerInside.{StandsAt}
+use Rattle.record_replay.specs.Streamed.{TakesLamps}
 use Rattle.record_replay.proofs.streamed.replay_lines.Goals as goal
 
-pub work-sent-requires-clause-may : goal.work-sent-requires-clause-may
-work-sent-requires-clause-may g c =
-    let may = may_begin c.args.plant.now c.in_ok-replayer.replayer c.args.script.now c.in_ok-replayer.ensures (omega arith) in search rules
+pub work_lines-requires-clause-names : goal.work_lines-requires-clause-names
+work_lines-requires-clause-names g c =
+    let names = c.requires.names ∙ sym c.in_ok-replayer.ensures.plant_is in search rules
 
-pub returns-then-not-finish-clause-output_fault : goal.returns-then-not-finish-clause-output_fault
-returns-then-not-finish-clause-output_fault g c = λ is.
-    let done = (cut_short g.K.Sink.written g.K.Sink.faults g.P.DisplayPort.was_sent g.P.DisplayPort.faults c.args.plant.now c.args.script.now c.in_ok-replayer.replayer c.args.out.now _ c.new-output.result c.work-sent.new.out c.args.port.now c.work-sent.new.port
-    c.in_ok-replayer.ensures (omega arith) c.requires.form c.new-output.ensures.nothing c.work-sent.result c.work-sent.ensures.does c.work-sent.ensures.stops c.if-not-finish.ensures.cut).0 in search rules
+pub work_lines-requires-clause-form : goal.work_lines-requires-clause-form
+work_lines-requires-clause-form g c =
+    let form = subst (λ (plant : PlantData). HasWorks plant c.args.script.now) (sym c.in_ok-replayer.ensures.plant_is) c.requires.form in search rules
 
-pub returns-then-not-finish-clause-count : goal.returns-then-not-finish-clause-count
-returns-then-not-finish-clause-count g c =
-    let done = (cut_short g.K.Sink.written g.K.Sink.faults g.P.DisplayPort.was_sent g.P.DisplayPort.faults c.args.plant.now c.args.script.now c.in_ok-replayer.replayer c.args.out.now _ c.new-output.result c.work-sent.new.out c.args.port.now c.work-sent.new.port
-    c.in_ok-replayer.ensures (omega arith) c.requires.form c.new-output.ensures.nothing c.work-sent.result c.work-sent.ensures.does c.work-sent.ensures.stops c.if-not-finish.ensures.cut).1 in search rules
+pub work_lines-requires-clause-takes : goal.work_lines-requires-clause-takes
+work_lines-requires-clause-takes g c =
+    let takes = subst (λ (plant : PlantData). TakesLamps plant g.P.DisplayPort.takes) (sym c.in_ok-replayer.ensures.plant_is) c.requires.takes in search rules
 
-pub returns-then-not-finish-clause-port_count : goal.returns-then-not-finish-clause-port_count
-returns-then-not-finish-clause-port_count g c =
-    let done = (cut_short g.K.Sink.written g.K.Sink.faults g.P.DisplayPort.was_sent g.P.DisplayPort.faults c.args.plant.now c.args.script.now c.in_ok-replayer.replayer c.args.out.now _ c.new-output.result c.work-sent.new.out c.args.port.now c.work-sent.new.port
-    c.in_ok-replayer.ensures (omega arith) c.requires.form c.new-output.ensures.nothing c.work-sent.result c.work-sent.ensures.does c.work-sent.ensures.stops c.if-not-finish.ensures.cut).2 in search rules
+pub work_lines-requires-clause-begun : goal.work_lines-requires-clause-begun
+work_lines-requires-clause-begun g c =
+    let stands = subst (λ (plant : PlantData). StandsAt plant c.in_ok-replayer.replayer (begun plant) 0) (sym c.in_ok-replayer.ensures.plant_is) c.in_ok-replayer.ensures in search rules
 
-pub returns-then-sent-clause-ok : goal.returns-then-sent-clause-ok
-returns-then-sent-clause-ok g c =
-    let done = (streamed g.K.Sink.written g.K.Sink.faults g.P.DisplayPort.was_sent g.P.DisplayPort.faults c.args.plant.now c.args.script.now c.in_ok-replayer.replayer c.args.out.now _ c.new-output.result c.work-sent.new.out c.args.port.now c.work-sent.new.port
-    c.in_ok-replayer.ensures (omega arith) c.requires.form c.new-output.ensures.nothing c.if-sent.ensures.does c.if-not-finish.ensures.failed c.if-not-finish.ensures.whole).0 in search rules
+pub returns-clause-ok : goal.returns-clause-ok
+returns-clause-ok g c = rw (← c.in_ok-replayer.ensures.plant_is) c.work_lines.ensures.ok
 
-pub returns-then-sent-clause-count : goal.returns-then-sent-clause-count
-returns-then-sent-clause-count g c =
-    let done = (streamed g.K.Sink.written g.K.Sink.faults g.P.DisplayPort.was_sent g.P.DisplayPort.faults c.args.plant.now c.args.script.now c.in_ok-replayer.replayer c.args.out.now _ c.new-output.result c.work-sent.new.out c.args.port.now c.work-sent.new.port
-    c.in_ok-replayer.ensures (omega arith) c.requires.form c.new-output.ensures.nothing c.if-sent.ensures.does c.if-not-finish.ensures.failed c.if-not-finish.ensures.whole).1 in search rules
-
-pub returns-then-sent-clause-port_count : goal.returns-then-sent-clause-port_count
-returns-then-sent-clause-port_count g c =
-    let done = (streamed g.K.Sink.written g.K.Sink.faults g.P.DisplayPort.was_sent g.P.DisplayPort.faults c.args.plant.now c.args.script.now c.in_ok-replayer.replayer c.args.out.now _ c.new-output.result c.work-sent.new.out c.args.port.now c.work-sent.new.port
-    c.in_ok-replayer.ensures (omega arith) c.requires.form c.new-output.ensures.nothing c.if-sent.ensures.does c.if-not-finish.ensures.failed c.if-not-finish.ensures.whole).2 in search rules
+pub returns-clause-output_fault : goal.returns-clause-output_fault
+returns-clause-output_fault g c = rw (← c.in_ok-replayer.ensures.plant_is) c.work_lines.ensures.output_fault
 
 pub returns-clause-port_fault : goal.returns-clause-port_fault
-returns-clause-port_fault g c = λ is.
-    let done = (stopped g.K.Sink.written g.K.Sink.faults g.P.DisplayPort.was_sent g.P.DisplayPort.faults c.args.plant.now c.args.script.now c.in_ok-replayer.replayer c.args.out.now _ c.new-output.result c.work-sent.new.out c.args.port.now c.work-sent.new.port
-    c.in_ok-replayer.ensures (omega arith) c.requires.form c.new-output.ensures.nothing c.if-sent.ensures.stops c.if-not-finish.ensures.whole).0 in search rules
+returns-clause-port_fault g c = rw (← c.in_ok-replayer.ensures.plant_is) c.work_lines.ensures.port_fault
 
-pub returns-clause-count : goal.returns-clause-count
-returns-clause-count g c =
-    let done = (stopped g.K.Sink.written g.K.Sink.faults g.P.DisplayPort.was_sent g.P.DisplayPort.faults c.args.plant.now c.args.script.now c.in_ok-replayer.replayer c.args.out.now _ c.new-output.result c.work-sent.new.out c.args.port.now c.work-sent.new.port
-    c.in_ok-replayer.ensures (omega arith) c.requires.form c.new-output.ensures.nothing c.if-sent.ensures.stops c.if-not-finish.ensures.whole).1 in search rules
-
-pub returns-clause-port_count : goal.returns-clause-port_count
-returns-clause-port_count g c =
-    let done = (stopped g.K.Sink.written g.K.Sink.faults g.P.DisplayPort.was_sent g.P.DisplayPort.faults c.args.plant.now c.args.script.now c.in_ok-replayer.replayer c.args.out.now _ c.new-output.result c.work-sent.new.out c.args.port.now c.work-sent.new.port
-    c.in_ok-replayer.ensures (omega arith) c.requires.form c.new-output.ensures.nothing c.if-sent.ensures.stops c.if-not-finish.ensures.whole).2 in search rules
+pub returns-clause-no_memory : goal.returns-clause-no_memory
+returns-clause-no_memory g c = λ is. absurd (c.work_lines.ensures.no_want is)
