@@ -82,11 +82,12 @@ impl PlantState {
         ensures { IfOk result (λ state. state ≡ start plant.now) }
     {
         let destinations = plant.destination_count();
-        let crosspoints = Crosspoints::new(alloc, plant)?;
-        let protects = Protects::new(alloc, destinations)?;
-        let groups = Groups::new(alloc)?;
-        let notices = Notices::new(alloc, plant)?;
+        // What has most in it is made last: each part is let go where a later one has no memory.
         let shown = Shown::new(alloc, plant)?;
+        let notices = Notices::new(alloc, plant)?;
+        let groups = Groups::new(alloc)?;
+        let protects = Protects::new(alloc, destinations)?;
+        let crosspoints = Crosspoints::new(alloc, plant)?;
         let beside = Beside::new(alloc, plant)?;
         let plant = plant.copy(alloc)?;
         Ok(PlantState {

@@ -60,9 +60,10 @@ impl Tables {
         requires { IsPlant plant.now }
         ensures { IfOk result (AreTablesOf plant.now empty) }
     {
+        // What has most in it is made last: each part is let go where a later one has no memory.
+        let screens = Screens::new(alloc, plant)?;
         let ties = Ties::new(alloc, plant)?;
         let mixers = Mixers::new(alloc, plant)?;
-        let screens = Screens::new(alloc, plant)?;
         let tallies = Tallies::new(alloc, plant)?;
         Ok(Tables {
             ties,
