@@ -40,7 +40,7 @@ pub(crate) const WHOLE_PART: u16 = 256;
 /// What one byte behind a command says, and of what. A number is sent in two parts: the high parts, DIV 128, of one or
 /// two numbers share a byte, the multiplier, and each low part, MOD 128, has a byte. Of a name's number, and of each number
 /// of the extended commands, each part, DIV 256 and MOD 256, has a byte of its own.
-#[derive(Clone, Copy, Debug, PartialEq, Eq)]
+#[derive(Clone, Copy)]
 pub(crate) enum Field {
     /// A matrix in bits 4 to 7, a level in bits 0 to 3.
     MatrixLevel(u8, u8),

@@ -35,9 +35,7 @@ pub(crate) fn source_names_ask<V: View>(matrix: u8, level: u8, size: u8) -> View
 pub(crate) fn source_name_ask<V: View>(matrix: u8, level: u8, size: u8, number: u16) -> Views<V>
     ensures { result.items ≡ map V.view_of (source_name_ask matrix level size number) }
 {
-    let mut fields = Views::new();
-    fields.push(V::of(Field::MatrixLevel(matrix, level)));
-    fields.push(V::of(Field::NameSize(size)));
+    let mut fields = source_names_ask(matrix, level, size);
     fields.push(V::of(Field::NumberHigh(number)));
     fields.push(V::of(Field::NumberLow(number)));
     fields
@@ -59,9 +57,7 @@ pub(crate) fn dest_names_ask<V: View>(matrix: u8, size: u8) -> Views<V>
 pub(crate) fn dest_name_ask<V: View>(matrix: u8, size: u8, number: u16) -> Views<V>
     ensures { result.items ≡ map V.view_of (dest_name_ask matrix size number) }
 {
-    let mut fields = Views::new();
-    fields.push(V::of(Field::Matrix(matrix)));
-    fields.push(V::of(Field::NameSize(size)));
+    let mut fields = dest_names_ask(matrix, size);
     fields.push(V::of(Field::NumberHigh(number)));
     fields.push(V::of(Field::NumberLow(number)));
     fields
