@@ -17,6 +17,8 @@ pub fn split_line(text: &[u8]) -> (&[u8], &[u8])
     ensures lines { lines text.now ≡ result.0.now ∷ lines result.1.now }
     ensures shorter { length result.1.now < length text.now }
     ensures within { length result.0.now + length result.1.now ≤ length text.now }
+    // No more than the LF is left out.
+    ensures whole { length text.now ≤ length result.0.now + length result.1.now + 1 }
 {
     match memchr(LF, text) {
         Some(end) => (&text[..end], &text[end + 1..]),
