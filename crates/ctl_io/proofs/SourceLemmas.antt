@@ -1,9 +1,9 @@
 -- Bytes that are taken from a source piece by piece.
-use Rattle.std.proofs.Common.{◌≡◌, ℕ, ◌+◌, ◌≤◌, List, ◌++◌, length, take, drop, Option, Some, None, refl, sym, ◌∙◌, ap, arith, length-take-le, take-append-drop}
+use Rattle.std.proofs.Common.{◌≡◌, ℕ, ◌+◌, ◌≤◌, List, ◌++◌, length, take, drop, Option, Some, None, IfSome, refl, sym, subst, ◌∙◌, ap, arith, length-append, length-take-le, take-append-drop}
 use Rattle.std.proofs.lemmas.List.{drop-drop, drop_at}
 use Rattle.std.specs.Option.{option_map}
 use Rattle.std.proofs.Math.Seq.{take-append-add}
-use Rattle.ctl_io.specs.Source.{got, behind, IsWithin, AreNext, TakesAtMost}
+use Rattle.ctl_io.specs.Source.{got, behind, IsWithin, AreNext, TakesAtMost, TakesJust}
 use Rattle.ctl_io.specs.SourceInside.{Takes, TakesPiece}
 use Rattle.ctl_io.specs.declared.source.Read.{Read}
 use Rattle.ctl_io.specs.declared.source.Read.TheVariants.{Got, End, Failed}
@@ -24,6 +24,20 @@ takes_further most more taken before mid now first second few = record {
   count = length taken + second.count;
   within = omega (arith, second.within);
   takes = second.takes ∙ ap (behind second.count) (behind_taken taken before mid first) ∙ behind-behind (length taken) second.count before;
+}
+
+-- one byte more that is taken behind others
+behind_further : (n : ℕ) (taken : List ℕ) (before mid now : Option (List ℕ)) → Takes taken before mid → now ≡ behind 1 mid → length taken ≡ n → now ≡ behind (n + 1) before
+behind_further n taken before mid now first second long = second ∙ ap (behind 1) (behind_taken taken before mid first) ∙ behind-behind (length taken) 1 before ∙ ap (λ k. behind (k + 1) before) long
+
+pub just_further : (n : ℕ) (taken : List ℕ) (before mid now : Option (List ℕ)) → Takes taken before mid → TakesJust 1 mid now → length taken ≡ n → TakesJust (n + 1) before now
+just_further n taken before None now first second long = record {
+  had = subst (λ (left : Option (List ℕ)). IfSome left (λ all. n + 1 ≤ length all)) (sym first) tt;
+  takes = behind_further n taken before None now first second.takes long;
+}
+just_further n taken before (Some rest) now first second long = record {
+  had = subst (λ (left : Option (List ℕ)). IfSome left (λ all. n + 1 ≤ length all)) (sym first) (omega (arith, second.had, long, length-append taken rest));
+  takes = behind_further n taken before (Some rest) now first second.takes long;
 }
 
 -- bytes that were taken are at most as many

@@ -1,13 +1,13 @@
 //! Sinks written and sources read as a whole.
 
-ghost use Rattle.std.specs.Prelude.{◌≡◌, ◌+◌, ◌-◌, ◌<◌, ◌≤◌, min, max, not, [], length, take};
-ghost use Rattle.std.specs.Prelude.{IfOk, OnOk, OnErr, IsErrOf, vec_capacity};
+ghost use Rattle.std.specs.Prelude.{◌≡◌, ◌+◌, ◌-◌, ◌<◌, ◌≤◌, min, max, not, false, [], length, take};
+ghost use Rattle.std.specs.Prelude.{IfOk, OnOk, OnErr, IsErrOf, IsTrue, vec_capacity};
 ghost use Rattle.std.specs.Bool.{OnFalse, OnTrue};
 ghost use Rattle.ctl_io.specs.Faults.{count_after};
 ghost use Rattle.ctl_io.specs.Sink.{appended, AppendsPart};
 ghost use Rattle.ctl_io.specs.Source.{got, read_failed, AreLeft, IsWithin, IsAtEnd};
 ghost use Rattle.ctl_io.specs.Source.{TakesAtMost, TakesJust};
-ghost use Rattle.ctl_io.specs.SourceInside.{TakesPiece};
+ghost use Rattle.ctl_io.specs.SourceInside.{Takes, TakesPiece};
 ghost use Rattle.ctl_io.specs.WholeFile.{whole_failed};
 ghost use Rattle.ctl_io.specs.declared.transfer.WholeFault.TheVariants.{NoMemory};
 
@@ -78,21 +78,58 @@ pub fn read_whole<S: Source>(
         ≡ count_after (whole_failed result) (S.faults source.old) }
 {
     let mut whole = first_room(alloc, source.left_hint(), limit)?;
+    if !read_up_to(source, &mut whole, limit)? {
+        see_end(source)?;
+    }
+    Ok(whole)
+}
+
+// Reads until the source ends, and answers true, or until there are `limit` bytes, and answers false.
+fn read_up_to<S: Source>(
+    source: &mut S,
+    whole: &mut Vec<u8>,
+    limit: usize,
+) -> Result<bool, WholeFault>
+    requires fits { length whole.old.items ≤ limit }
+    ensures taken { OnOk result
+        (Takes whole.new.items (S.left source.old) (S.left source.new)) }
+    ensures fits { OnOk result (length whole.new.items ≤ limit) }
+    ensures end { IfOk result (λ ended. IsTrue ended → IsAtEnd (S.left source.new)) }
+    ensures full { IfOk result (λ ended. ended ≡ false → length whole.new.items ≡ limit) }
+    ensures most { OnErr result (TakesAtMost limit (S.left source.old) (S.left source.new)) }
+    ensures fault { ¬ IsErrOf result WholeFault.TooLong }
+    ensures name { S.name source.new ≡ S.name source.old }
+    ensures count { S.faults source.new
+        ≡ count_after (whole_failed result) (S.faults source.old) }
+{
     let mut count = 0;
     while count < limit {
-        match read_piece(source, &mut whole, count, limit)? {
+        match read_piece(source, whole, count, limit)? {
             Read::Got(n) => count += n,
             Read::End => {
                 whole.truncate(count);
-                return Ok(whole);
+                return Ok(true);
             }
             Read::Failed => return Err(WholeFault::Failed),
         }
     }
-    // One byte more tells a source that is too long from one that just fits.
+    Ok(false)
+}
+
+// Reads one byte more, which tells a source that is too long from one that just fits.
+fn see_end<S: Source>(source: &mut S) -> Result<(), WholeFault>
+    ensures end { OnOk result (IsAtEnd (S.left source.new)) }
+    ensures too_long { IsErrOf result WholeFault.TooLong →
+        TakesJust 1 (S.left source.old) (S.left source.new) }
+    ensures taken { ¬ IsErrOf result WholeFault.TooLong →
+        S.left source.new ≡ S.left source.old }
+    ensures name { S.name source.new ≡ S.name source.old }
+    ensures count { S.faults source.new
+        ≡ count_after (whole_failed result) (S.faults source.old) }
+{
     match source.read(&mut [0]) {
         Read::Got(_) => Err(WholeFault::TooLong),
-        Read::End => Ok(whole),
+        Read::End => Ok(()),
         Read::Failed => Err(WholeFault::Failed),
     }
 }

@@ -1,13 +1,15 @@
-use Rattle.std.proofs.Common.{◌≡◌, ◌∙◌, ap, length, take, arith, length-take-le}
-use Rattle.ctl_io.specs.Source.{got}
-use Rattle.ctl_io.proofs.SourceLemmas.{takes_all, takes_further}
+use Rattle.std.proofs.Common.{rules, sym, subst}
+use Rattle.ctl_io.specs.Source.{TakesAtMost}
+use Rattle.ctl_io.proofs.SourceLemmas.{just_further, takes_all}
 use Rattle.ctl_io.proofs.transfer.read_whole.Goals as goal
 
--- a read that failed took nothing
-pub returns-in-Failed-clause-taken : goal.returns-in-Failed-clause-taken
-returns-in-Failed-clause-taken g c = λ _.
-    let piece = c.in_ok-n.ensures.piece in
-    let read = take c.loop-count.count c.loop-count.whole.items in
-    let long : length read ≡ c.loop-count.count = length-take-le _ _ c.loop-count.invariant.read in
-    let none : length piece.piece ≡ 0 = piece.counted ∙ ap got c.in-Failed.is in
-    takes_further c.args.limit 0 read _ _ _ c.loop-count.invariant.taken (takes_all 0 piece.piece _ _ piece.taken (omega (arith, none))) (omega (arith, long, c.loop-count-test.true))
+-- the bytes that were read, and one more
+pub returns-in_err-see_end-clause-too_long : goal.returns-in_err-see_end-clause-too_long
+returns-in_err-see_end-clause-too_long g c = λ is.
+    just_further c.args.limit _ _ _ _ c.in_ok-read_up_to.ensures.taken (c.see_end.ensures.too_long (search rules)) (c.in_ok-read_up_to.ensures.full (search rules))
+
+-- the bytes that were read, where no byte more was taken
+pub returns-in_err-see_end-clause-taken : goal.returns-in_err-see_end-clause-taken
+returns-in_err-see_end-clause-taken g c = λ no.
+    subst (TakesAtMost c.args.limit _) (sym (c.see_end.ensures.taken (search rules)))
+    (takes_all c.args.limit _ _ _ c.in_ok-read_up_to.ensures.taken c.in_ok-read_up_to.ensures.fits)

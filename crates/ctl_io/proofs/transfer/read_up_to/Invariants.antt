@@ -1,6 +1,6 @@
 use Rattle.std.proofs.Common.{◌≡◌, ◌-◌, ◌≤◌, length, take}
 use Rattle.ctl_io.specs.SourceInside.{Takes}
-use Rattle.ctl_io.proofs.transfer.read_whole.Given as goal
+use Rattle.ctl_io.proofs.transfer.read_up_to.Given as goal
 
 abbrev pub invariant-loop-count : goal.invariant-loop-count
 invariant-loop-count g l = record {
