@@ -93,18 +93,20 @@ impl Message {
     {
         match *self {
             Message::Interrogate { at } | Message::ProtectAsk { at } => destination(at),
-            Message::Connect { at, source } => crosspoint(at, source),
-            Message::Tally { at, source } => crosspoint(at, source),
-            Message::Connected { at, source } => crosspoint(at, source),
-            Message::ProtectTally { at, owned, device } => protect_told(at, owned, device),
-            Message::ProtectConnect { at, device } => protect(at, device),
-            Message::ProtectConnected { at, owned, device } => protect_told(at, owned, device),
-            Message::ProtectDisconnect { at, device } => protect(at, device),
-            Message::ProtectDisconnected { at, owned, device } => protect_told(at, owned, device),
+            Message::Connect { at, source }
+            | Message::Tally { at, source }
+            | Message::Connected { at, source } => crosspoint(at, source),
+            Message::ProtectTally { at, owned, device }
+            | Message::ProtectConnected { at, owned, device }
+            | Message::ProtectDisconnected { at, owned, device } => protect_told(at, owned, device),
+            Message::ProtectConnect { at, device } | Message::ProtectDisconnect { at, device } => {
+                protect(at, device)
+            }
             Message::DumpAsk { matrix, level } => one_level(matrix, level),
-            Message::Store { at, source, salvo } => stored_crosspoint(at, source, salvo),
+            Message::Store { at, source, salvo } | Message::Stored { at, source, salvo } => {
+                stored_crosspoint(at, source, salvo)
+            }
             Message::Go { clear, salvo } => go(clear, salvo),
-            Message::Stored { at, source, salvo } => stored_crosspoint(at, source, salvo),
             Message::GoDone { status, salvo } => go_done(status, salvo),
             Message::EntryAsk { salvo, index } => entry_ask(salvo, index),
             Message::Entry {
@@ -115,9 +117,9 @@ impl Message {
                 validity,
             } => entry(at, source, salvo, index, validity),
             Message::ExtInterrogate { at } => ext_destination(at),
-            Message::ExtConnect { at, source } => ext_crosspoint(at, source),
-            Message::ExtTally { at, source } => ext_crosspoint(at, source),
-            Message::ExtConnected { at, source } => ext_crosspoint(at, source),
+            Message::ExtConnect { at, source }
+            | Message::ExtTally { at, source }
+            | Message::ExtConnected { at, source } => ext_crosspoint(at, source),
             Message::SourceNamesAsk { .. } | Message::SourceNameAsk { .. } => self.name_fields(),
             Message::DestNamesAsk { .. } | Message::DestNameAsk { .. } => self.name_fields(),
         }
