@@ -37,11 +37,7 @@ pub(crate) fn ext_destination<V: View>(at: Point) -> Views<V>
 pub(crate) fn ext_crosspoint<V: View>(at: Point, source: Option<u16>) -> Views<V>
     ensures { result.items ≡ map V.view_of (ext_crosspoint at source) }
 {
-    let mut fields = Views::new();
-    fields.push(V::of(Field::ExtMatrix(at.matrix)));
-    fields.push(V::of(Field::ExtLevel(at.level)));
-    fields.push(V::of(Field::NumberHigh(at.dest)));
-    fields.push(V::of(Field::NumberLow(at.dest)));
+    let mut fields = ext_destination(at);
     fields.push(V::of(Field::ExtSourceHigh(source)));
     fields.push(V::of(Field::ExtSourceLow(source)));
     fields
