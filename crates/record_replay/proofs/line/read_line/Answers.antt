@@ -1,6 +1,6 @@
 use Rattle.std.proofs.Common.{arith}
 use Rattle.std.specs.Prelude.{codes}
-use Rattle.record_replay.proofs.LineSpellsLemmas.{not_skipped, with_front, without_front, no_turn, no_take, no_leave, take_spells}
+use Rattle.record_replay.proofs.LineSpellsLemmas.{not_skipped, with_front, without_front, no_turn, no_take, no_poll, no_leave, turn_spells, take_spells}
 use Rattle.record_replay.proofs.SpelledLines.{show_found}
 use Rattle.record_replay.proofs.line.read_line.Goals as goal
 
@@ -11,6 +11,14 @@ returns-in_err-read_turn c =
       no_turn c.args.plant.now c.args.line.now c.in-Some.behind.now (with_front (codes "> ") c.args.line.now c.in-Some.behind.now c.in-Some.ensures.cases.0 c.in-Some.ensures.cases.1)
           c.in_err-read_turn.ensures,
     )
+
+pub returns-in-Some : goal.returns-in-Some
+returns-in-Some c = (
+  not_skipped c.args.line.now c.in-len1-up.len_at_least c.if-first-eq-HASH.false,
+  turn_spells c.args.plant.now c.args.line.now c.in-Some.behind.now _ _ (omega (arith, c.if-line-gt-MAX_LINE.false))
+      (with_front (codes "> ") c.args.line.now c.in-Some.behind.now c.in-Some.ensures.cases.0 c.in-Some.ensures.cases.1)
+      c.in_ok-read_turn.ensures,
+)
 
 pub returns-in_err-read_take : goal.returns-in_err-read_take
 returns-in_err-read_take c =
@@ -28,6 +36,15 @@ returns-in-Some-strip_prefix c = (
       (with_front (codes "take ") c.args.line.now c.in-Some-strip_prefix.behind.now c.in-Some-strip_prefix.ensures.cases.0 c.in-Some-strip_prefix.ensures.cases.1)
       c.in_ok-read_take.ensures,
 )
+
+pub returns-in_err-read_panel : goal.returns-in_err-read_panel
+returns-in_err-read_panel c =
+    rw c.from_residual-in_err-read_panel.ensures (
+      not_skipped c.args.line.now c.in-len1-up.len_at_least c.if-first-eq-HASH.false,
+      no_poll c.args.plant.now c.args.line.now c.in-Some-strip_prefix-2.number.now
+          (with_front (codes "poll ") c.args.line.now c.in-Some-strip_prefix-2.number.now c.in-Some-strip_prefix-2.ensures.cases.0 c.in-Some-strip_prefix-2.ensures.cases.1)
+          c.in_err-read_panel.ensures.panel,
+    )
 
 pub returns-in_err-read_panel-2 : goal.returns-in_err-read_panel-2
 returns-in_err-read_panel-2 c =
