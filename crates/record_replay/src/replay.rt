@@ -35,7 +35,6 @@ impl From<AllocError> for ReplayFault {
 /// Does the works of a script's lines in order on one plant, from its start, with one session a panel, and writes an output
 /// line for each. The names are those of the plant, by which takes are read. All memory is taken before the first line is
 /// worked.
-#[tactic(auto, using(crate::proofs::ReplayScriptLemmas::streamed_whole, crate::proofs::ReplayScriptLemmas::streamed_front, crate::proofs::ReplayScriptLemmas::never_rises))]
 pub fn replay_script<K: Sink>(
     alloc: Global,
     plant: &Plant,
