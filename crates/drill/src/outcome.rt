@@ -1,7 +1,11 @@
 //! What the workers of a drill left, all together.
 
-ghost use Rattle.std.specs.Prelude.{◌≡◌, ◌*◌, ◌≤◌, ◌%◌, ◌^◌, ℕ, length, IfOk, map};
+ghost use Rattle.std.specs.Prelude.{◌≡◌, ◌*◌, ◌<◌, ◌≤◌, ◌%◌, ◌^◌, ℕ, length, All, IfOk, map};
 ghost use Rattle.std.specs.List.{sum_by};
+ghost use mathlib.Core.List.{IsPrefix};
+ghost use Rattle.history_lock.specs.Calls.{HasOwn};
+ghost use Rattle.history_lock.specs.Closing.{FullByTicket, HasAll, IsOf};
+ghost use Rattle.history_lock.specs.History.{IsLegal};
 ghost use Rattle.plant_config.specs.DrillPlant.{drill_plant, drill_panel_limit};
 ghost use Rattle.plant_core.specs.State.{start};
 ghost use Rattle.drill.specs.WorkerInside.{EachWorker, HasDrilled, WasServed, seats_of, traces_of};
@@ -9,7 +13,7 @@ ghost use Rattle.drill.specs.Drilled.{most_messages};
 
 use crate::laws::messages_ask_the_plant;
 use crate::worker::{Worker, Workload};
-use history_lock::{Closed, HistoryLock, Past, Seat};
+use history_lock::{Closed, HistoryLock, Machine, Past, Seat};
 use plant_core::PlantState;
 use std::alloc::{AllocError, Global};
 
@@ -44,11 +48,7 @@ pub(crate) fn gather(
     let trace = joined(alloc, workers.as_slice())?;
     let seats = into_seats(alloc, workers)?;
     messages_ask_the_plant();
-    let Closed {
-        machine: _,
-        entries: _,
-        past,
-    } = lock.close(seats);
+    let past = past_of(lock, seats);
     Ok(Outcome {
         goods,
         bads,
@@ -93,5 +93,30 @@ fn joined(alloc: Global, workers: &[Worker<'_>]) -> Result<Vec<u8>, AllocError>
 fn into_seats(alloc: Global, workers: Vec<Worker<'_>>) -> Result<Vec<Seat<PlantState>>, AllocError>
     ensures { IfOk result (λ seats. seats.items ≡ seats_of workers.entry.items) }
 {
-    workers.into_iter().map(|worker| worker.seat).collect(alloc)
+    let mut seats = Vec::with_capacity(alloc, workers.len())?;
+    let mut left = workers.into_iter();
+    while let Some(worker) = left.next() {
+        seats.push_reserved(worker.into_seat());
+    }
+    left.destroy_empty();
+    Ok(seats)
+}
+
+// The history that a lock answered, closed with its seats. Its machine is let go.
+fn past_of<M: Machine + Drop>(lock: HistoryLock<M>, seats: Vec<Seat<M>>) -> Past<M>
+    requires own { All (IsOf lock.id) seats.items }
+    requires all { HasAll lock.seats seats.items }
+    ensures legal { IsLegal M.step M.Fits lock.first result }
+    ensures few { length result ≤ 2 ^ 62 }
+    ensures seen { All (λ seat. IsPrefix seat.seen result) seats.items }
+    ensures own { All (HasOwn result) seats.items }
+    ensures by_seats { All (λ entry. entry.seat < lock.seats) result }
+    ensures full { All (FullByTicket (length result)) seats.items }
+{
+    let Closed {
+        machine: _,
+        entries: _,
+        past,
+    } = lock.close(seats);
+    past
 }

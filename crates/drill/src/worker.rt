@@ -120,4 +120,11 @@ impl<'p> Worker<'p> {
         self.link.keeps();
         self.trace.keeps();
     }
+
+    // Its seat. All else of it is let go.
+    pub(crate) fn into_seat(self) -> Seat<PlantState>
+        ensures { result ≡ self.entry.seat }
+    {
+        self.seat
+    }
 }
