@@ -149,7 +149,7 @@ fn hire<'p>(
     for panel in 0..load.panels {
         let seat = seats.remove(0);
         let worker = Worker::new(alloc, plant, names, seat, load, panel)?;
-        workers.push(worker)?;
+        workers.push_reserved(worker);
     }
     Ok(workers)
 }
