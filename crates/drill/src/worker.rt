@@ -1,9 +1,13 @@
 //! The workers of a drill: each serves the session of one panel.
 
-ghost use Rattle.std.specs.Prelude.{◌≡◌, ◌<◌, ◌≤◌, ◌^◌, IfOk};
+ghost use Rattle.std.specs.Prelude.{◌≡◌, ◌<◌, ◌≤◌, ◌^◌, [], IfOk};
+ghost use Rattle.ctl_net.specs.MemLink.{new_link};
 ghost use Rattle.plant_config.specs.DrillPlant.{drill_plant, drill_panel_limit};
 ghost use Rattle.drill.specs.WorkerInside.{IsReady, MayWork, WasServed, most_pieces};
+ghost use Rattle.drill.specs.WorkerInside.{bytes_of_panel, link_room, trace_room};
 ghost use Rattle.drill.specs.Drilled.{most_messages};
+ghost use Rattle.drill.specs.Pieces.{in_pieces};
+ghost use Rattle.drill.specs.TapeInside.{new_tape};
 
 use crate::panel_bytes::stream;
 use crate::panel_link::PanelLink;
@@ -66,14 +70,7 @@ impl<'p> Worker<'p> {
         ensures ready { IfOk result (IsReady load.now panel) }
         ensures seat { IfOk result (λ worker. worker.seat ≡ seat) }
     {
-        let bytes = stream(alloc, load.number, panel, load.each)?;
-        let events = in_pieces(alloc, bytes.as_slice())?;
-        let each = load.each as usize;
-        let pieces = events.as_slice().len();
-        let written = LINK_ROOM_OF_MESSAGE * each + LINK_ROOM_OF_PIECE * pieces;
-        let traced = TRACE_ROOM_OF_MESSAGE * each + TRACE_ROOM_OF_PIECE * pieces;
-        let link = PanelLink::new(alloc, events, written)?;
-        let trace = Tape::new(alloc, traced)?;
+        let (link, trace) = link_and_trace(alloc, load, panel)?;
         let session = Session::start(alloc, plant, names, PanelNo::of(panel))?;
         Ok(Worker {
             session,
@@ -127,4 +124,27 @@ impl<'p> Worker<'p> {
     {
         self.seat
     }
+}
+
+// The link of a panel, which has in pieces what the panel sends, and its trace. Nothing was read, written or traced.
+fn link_and_trace(
+    alloc: Global,
+    load: &Workload,
+    panel: u32,
+) -> Result<(PanelLink, Tape), AllocError>
+    requires panel { panel < drill_panel_limit }
+    requires each { load.now.each ≤ most_messages }
+    ensures link { IfOk result (λ made. made.0 ≡ new_link (in_pieces
+        (bytes_of_panel load.now panel)) (link_room load.now panel) [] []) }
+    ensures trace { IfOk result (λ made. made.1 ≡ new_tape (trace_room load.now panel)) }
+{
+    let bytes = stream(alloc, load.number, panel, load.each)?;
+    let events = in_pieces(alloc, bytes.as_slice())?;
+    let each = load.each as usize;
+    let pieces = events.as_slice().len();
+    let written = LINK_ROOM_OF_MESSAGE * each + LINK_ROOM_OF_PIECE * pieces;
+    let traced = TRACE_ROOM_OF_MESSAGE * each + TRACE_ROOM_OF_PIECE * pieces;
+    let link = PanelLink::new(alloc, events, written)?;
+    let trace = Tape::new(alloc, traced)?;
+    Ok((link, trace))
 }
