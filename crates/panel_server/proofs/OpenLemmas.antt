@@ -14,7 +14,7 @@ use Rattle.plant_config.specs.declared.records.Panel.{Panel}
 use Rattle.plant_file.specs.declared.entries.Server.{Server}
 use Rattle.panel_server.specs.PanelServed.{all_returned}
 use Rattle.panel_server.specs.PlantServed.{RefusesOpening, NetData, acceptor_openings, opened_all}
-use Rattle.panel_server.specs.ServeInside.{ComeBackFresh, WasRefused, opened_acceptors, with_acceptor, with_closed, with_refusal}
+use Rattle.panel_server.specs.ServeInside.{ComeBackFresh, WasRefused, opened_acceptors, with_acceptor, with_closed, with_port, with_refusal}
 
 -- two nets that show the same are the same
 pub same_net : {P : Type 0} (one other : NetData P) → one.openings ≡ other.openings → one.acceptors ≡ other.acceptors → one.ports ≡ other.ports
@@ -204,3 +204,20 @@ all_and_last Is [] x all = ((λ k d below. absurd (omega (arith, below))), All-h
 all_and_last Is (y ∷ xs) x all =
     let rest = all_and_last Is xs x (All-tail Is y (xs ++ x ∷ []) all) in
     (All-cons Is y xs (All-head Is y (xs ++ x ∷ []) all) rest.0, rest.1)
+
+-- the refusal of the acceptor behind those of the panels below a number
+pub refused_step : {P : Type 0} (plant : PlantData) (net mid next : NetData P) (number count : ℕ) → mid ≡ opened_acceptors plant number net → count ≡ number
+    → next ≡ with_refusal mid → WasRefused plant count net next
+refused_step {P} plant net mid next number count before counted is =
+    is ∙ ap (λ (mid : NetData P). with_refusal mid) before ∙ ap (λ (count : ℕ). with_refusal (opened_acceptors plant count net)) (sym counted)
+
+-- those that were opened are out
+pub refused_out : {P : Type 0} (plant : PlantData) (count : ℕ) (net mid : NetData P) → WasRefused plant count net mid → count ≤ mid.acceptors.out
+refused_out {P} plant count net mid is = omega (arith, ap (λ (net : NetData P). net.acceptors.out) is)
+
+-- all acceptors were opened, and then the port
+pub opened_whole : {P : Type 0} (plant : PlantData) (count : ℕ) (net mid next : NetData P) (server : Server) → server ≡ plant.server → count ≡ length plant.panels
+    → mid ≡ opened_acceptors plant count net → next ≡ with_port server mid → next ≡ with_port plant.server (opened_acceptors plant (length plant.panels) net)
+opened_whole {P} plant count net mid next server server_is counted before is =
+    is ∙ ap (λ (server : Server). with_port server mid) server_is ∙ ap (λ (mid : NetData P). with_port plant.server mid) before
+    ∙ ap (λ (count : ℕ). with_port plant.server (opened_acceptors plant count net)) counted

@@ -1,10 +1,10 @@
-use Rattle.std.proofs.Common.{rules, ◌≡◌, ◌≤◌, length, All, List, sym, subst, arith}
+use Rattle.std.proofs.Common.{rules, ◌≡◌, ℕ, ◌≤◌, length, All, List, sym, ap, ◌∙◌, subst, arith}
 use Rattle.std.proofs.lemmas.List.Elements.{All-push}
 use Rattle.plant_file.specs.declared.entries.Server.{Server}
 use Rattle.plant_config.specs.declared.records.Panel.{Panel}
 use Rattle.panel_server.specs.PlantServed.{net_shows}
-use Rattle.panel_server.specs.ServeInside.{IsFreshFor}
-use Rattle.panel_server.proofs.OpenLemmas.{opened_begins, opened_step}
+use Rattle.panel_server.specs.ServeInside.{IsFreshFor, opened_acceptors}
+use Rattle.panel_server.proofs.OpenLemmas.{opened_begins, opened_step, refused_step}
 use Rattle.panel_server.proofs.open.open_acceptors.Goals as goal
 
 pub loop-number-init : goal.loop-number-init
@@ -33,3 +33,20 @@ loop-number-preserved g c =
           (All-push Fresh _ _ c.loop-number.invariant.fresh (subst FreshBy c.server-server.ensures.server c.in-Some.ensures.fresh));
       places = search rules;
     }
+
+pub returns-in-None-clause-some : goal.returns-in-None-clause-some
+returns-in-None-clause-some g c =
+    let shows = net_shows g.N.Net.openings g.N.Net.acceptors g.N.Net.ports g.N.Net.open_faults g.N.Net.close_faults in
+    refused_step c.args.plant.now (shows c.args.net.now) (shows c.loop-number.net) (shows c.open_acceptor.new.net) c.loop-number.number (length c.loop-number.acceptors.items)
+    c.loop-number.invariant.net c.loop-number.invariant.count c.in-None.ensures.refused
+
+pub returns-in-None-clause-fresh : goal.returns-in-None-clause-fresh
+returns-in-None-clause-fresh g c = c.loop-number.invariant.fresh
+
+pub returns-clause-all : goal.returns-clause-all
+returns-clause-all g c =
+    let net = net_shows g.N.Net.openings g.N.Net.acceptors g.N.Net.ports g.N.Net.open_faults g.N.Net.close_faults c.args.net.now in
+    c.loop-number.invariant.net ∙ ap (λ (count : ℕ). opened_acceptors c.args.plant.now count net) (sym c.loop-number.invariant.count)
+
+pub returns-clause-fresh : goal.returns-clause-fresh
+returns-clause-fresh g c = c.loop-number.invariant.fresh
