@@ -60,6 +60,14 @@ answer_of plant seat seat_then screen refresh answers is legal sees =
       answers_are = last.1;
     }
 
+-- What was read of an outbox that a lock answered a poll by is that.
+pub told_is : (plant : PlantData) (seat seat_then : PlantSeat) (screen : ℕ) (refresh : Bool) (answers told : List Answer) → told ≡ answers → IsPlant plant → seat.first ≡ start plant → IsLegal step Takes seat.first seat_then.seen
+    → SeesAnswers seat (DisplayPoll screen refresh) answers seat_then → IsAnswerOf plant screen refresh told
+told_is plant seat seat_then screen refresh answers told same is first legal sees =
+    let Legal : State → Type 0 = λ first. IsLegal step Takes first seat_then.seen in
+    let Is : List Answer → Type 0 = λ answers. IsAnswerOf plant screen refresh answers in
+    subst Is (sym same) (answer_of plant seat seat_then screen refresh answers is (subst Legal first legal) sees)
+
 -- It can be said,
 pub answer_sayable : (plant : PlantData) (screen : ℕ) (refresh : Bool) (answers : List Answer) → IsAnswerOf plant screen refresh answers → All IsSayable answers
 answer_sayable plant screen refresh answers is =

@@ -116,18 +116,11 @@ pub(crate) fn poll_screen<W: Wait, P: DisplayPort, K: Sink>(
     let Ok(position) = lock.call(rt, seat, &request, answers) else {
         return Err(DriverEnd::Full);
     };
-    if !trace_poll(
-        plant,
-        position,
-        &request,
-        answers.items(),
-        lines,
-        line,
-        trace,
-    ) {
+    let told = answers.items();
+    if !trace_poll(plant, position, &request, told, lines, line, trace) {
         return Err(DriverEnd::TraceFault);
     }
-    Ok(tell(plant, screen, answers.items(), packet, port))
+    Ok(tell(plant, screen, told, packet, port))
 }
 
 // Writes the line of a poll's entry. False where that failed.

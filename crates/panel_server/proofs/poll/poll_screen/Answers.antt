@@ -1,50 +1,60 @@
-use Rattle.std.proofs.Common.{◌≤◌, List, length, All, sym, ap, ◌∙◌, subst, arith}
-use Rattle.ctl_io.specs.Sink.{appended}
+use Rattle.std.proofs.Common.{List, ap, ◌∙◌, subst, refl, arith}
+use Rattle.ctl_io.specs.Sink.{AppendsPart, appended}
 use Rattle.history_lock.specs.History.{IsLegal}
-use Rattle.plant_core.specs.Answer.{IsSayable}
-use Rattle.plant_core.specs.Displays.{lamp_limit}
 use Rattle.plant_core.specs.State.{State, Fits as Takes}
 use Rattle.plant_core.specs.Step.{step}
 use Rattle.plant_core.specs.declared.answer.Answer.{Answer}
 use Rattle.plant_core.specs.declared.request.Request.TheVariants.{DisplayPoll}
-use Rattle.panel_session.specs.DisplayPacket.{AreLamps}
 use Rattle.panel_session.specs.TraceLine.{trace_line}
 use Rattle.panel_server.specs.DrivenInside.{TellsLamps, polled_by}
-use Rattle.panel_server.proofs.AnswerLemmas.{answer_few, answer_lamps, answer_of, answer_sayable}
+use Rattle.panel_server.proofs.AnswerLemmas.{answer_few, answer_lamps, answer_sayable, told_is}
 use Rattle.panel_server.proofs.poll.poll_screen.Goals as goal
 
 pub trace_poll-requires-clause-sayable : goal.trace_poll-requires-clause-sayable
 trace_poll-requires-clause-sayable g c κs within =
-    let Legal : State → Type 0 = λ first. IsLegal step Takes first c.call.new.seat.seen in
-    let is = answer_of c.args.plant.now c.args.seat.now c.call.new.seat c.args.screen c.args.refresh c.call.new.out.items c.requires.plant (subst Legal c.requires.seat.first c.in-Ok.ensures.legal) c.in-Ok.ensures.seen in
-    let Sayable : List Answer → Type 0 = λ answers. All IsSayable answers in
-    subst Sayable (sym c.items.ensures) (answer_sayable c.args.plant.now c.args.screen c.args.refresh c.call.new.out.items is)
+    let is = told_is c.args.plant.now c.args.seat.now c.call.new.seat c.args.screen c.args.refresh c.call.new.out.items c.items-told.result.now c.items-told.ensures c.requires.plant c.requires.seat.first c.in-Ok.ensures.legal c.in-Ok.ensures.seen in
+    answer_sayable c.args.plant.now c.args.screen c.args.refresh c.items-told.result.now is
 
 pub trace_poll-requires-clause-few : goal.trace_poll-requires-clause-few
 trace_poll-requires-clause-few g c κs within =
-    let Legal : State → Type 0 = λ first. IsLegal step Takes first c.call.new.seat.seen in
-    let is = answer_of c.args.plant.now c.args.seat.now c.call.new.seat c.args.screen c.args.refresh c.call.new.out.items c.requires.plant (subst Legal c.requires.seat.first c.in-Ok.ensures.legal) c.in-Ok.ensures.seen in
-    omega (arith, answer_few c.args.plant.now c.args.screen c.args.refresh c.call.new.out.items is, ap (length {A = Answer}) c.items.ensures)
+    let is = told_is c.args.plant.now c.args.seat.now c.call.new.seat c.args.screen c.args.refresh c.call.new.out.items c.items-told.result.now c.items-told.ensures c.requires.plant c.requires.seat.first c.in-Ok.ensures.legal c.in-Ok.ensures.seen in
+    omega (arith, answer_few c.args.plant.now c.args.screen c.args.refresh c.items-told.result.now is)
 
 pub trace_poll-requires-clause-reply : goal.trace_poll-requires-clause-reply
 trace_poll-requires-clause-reply g c κs within =
-    let Legal : State → Type 0 = λ first. IsLegal step Takes first c.call.new.seat.seen in
-    let is = answer_of c.args.plant.now c.args.seat.now c.call.new.seat c.args.screen c.args.refresh c.call.new.out.items c.requires.plant (subst Legal c.requires.seat.first c.in-Ok.ensures.legal) c.in-Ok.ensures.seen in
-    let Reply : List Answer → Type 0 = λ answers. (length answers ≤ lamp_limit) × AreLamps c.args.plant.now answers in
-    subst Reply (sym c.items.ensures) (answer_few c.args.plant.now c.args.screen c.args.refresh c.call.new.out.items is, answer_lamps c.args.plant.now c.args.screen c.args.refresh c.call.new.out.items is)
+    let is = told_is c.args.plant.now c.args.seat.now c.call.new.seat c.args.screen c.args.refresh c.call.new.out.items c.items-told.result.now c.items-told.ensures c.requires.plant c.requires.seat.first c.in-Ok.ensures.legal c.in-Ok.ensures.seen in
+    (answer_few c.args.plant.now c.args.screen c.args.refresh c.items-told.result.now is, answer_lamps c.args.plant.now c.args.screen c.args.refresh c.items-told.result.now is)
 
 pub tell-requires-clause-lamps : goal.tell-requires-clause-lamps
 tell-requires-clause-lamps g c κs within =
-    let Legal : State → Type 0 = λ first. IsLegal step Takes first c.call.new.seat.seen in
-    let is = answer_of c.args.plant.now c.args.seat.now c.call.new.seat c.args.screen c.args.refresh c.call.new.out.items c.requires.plant (subst Legal c.requires.seat.first c.in-Ok.ensures.legal) c.in-Ok.ensures.seen in
-    let Lamps : List Answer → Type 0 = λ answers. AreLamps c.args.plant.now answers in
-    subst Lamps (sym c.items-2.ensures) (answer_lamps c.args.plant.now c.args.screen c.args.refresh c.call.new.out.items is)
+    let is = told_is c.args.plant.now c.args.seat.now c.call.new.seat c.args.screen c.args.refresh c.call.new.out.items c.items-told.result.now c.items-told.ensures c.requires.plant c.requires.seat.first c.in-Ok.ensures.legal c.in-Ok.ensures.seen in
+    answer_lamps c.args.plant.now c.args.screen c.args.refresh c.items-told.result.now is
 
 pub tell-requires-clause-few : goal.tell-requires-clause-few
 tell-requires-clause-few g c κs within =
+    let is = told_is c.args.plant.now c.args.seat.now c.call.new.seat c.args.screen c.args.refresh c.call.new.out.items c.items-told.result.now c.items-told.ensures c.requires.plant c.requires.seat.first c.in-Ok.ensures.legal c.in-Ok.ensures.seen in
+    answer_few c.args.plant.now c.args.screen c.args.refresh c.items-told.result.now is
+
+pub returns-then-not-trace_poll-clause-ends : goal.returns-then-not-trace_poll-clause-ends
+returns-then-not-trace_poll-clause-ends g c =
     let Legal : State → Type 0 = λ first. IsLegal step Takes first c.call.new.seat.seen in
-    let is = answer_of c.args.plant.now c.args.seat.now c.call.new.seat c.args.screen c.args.refresh c.call.new.out.items c.requires.plant (subst Legal c.requires.seat.first c.in-Ok.ensures.legal) c.in-Ok.ensures.seen in
-    omega (arith, answer_few c.args.plant.now c.args.screen c.args.refresh c.call.new.out.items is, ap (length {A = Answer}) c.items-2.ensures)
+    let Part : List Answer → Type 0 = λ answers. AppendsPart (trace_line c.args.plant.now c.in-Ok.position (DisplayPoll c.args.screen c.args.refresh) answers) (g.K.Sink.written c.args.trace.now)
+    (g.K.Sink.written c.trace_poll.new.trace) in
+    record {
+      answers = c.call.new.out.items;
+      number = c.in-Ok.position;
+      given = record {
+        numbered = c.in-Ok.ensures.number;
+        legal = subst Legal c.requires.seat.first c.in-Ok.ensures.legal;
+        sees = c.in-Ok.ensures.seen;
+        own = c.in-Ok.ensures.own;
+        rest = c.in-Ok.ensures.rest;
+      };
+      part = subst Part c.items-told.ensures c.if-not-trace_poll.ensures.part;
+    }
+
+pub returns-in_default-clause-ends : goal.returns-in_default-clause-ends
+returns-in_default-clause-ends g c = (c.in_default.ensures.full, refl)
 
 pub returns-clause-polled : goal.returns-clause-polled
 returns-clause-polled g c =
@@ -63,7 +73,7 @@ returns-clause-polled g c =
         rest = c.in-Ok.ensures.rest;
       };
       line = c.if-not-trace_poll.ensures.all
-          ∙ ap (λ (answers : List Answer). appended (g.K.Sink.written c.args.trace.now) (trace_line c.args.plant.now c.in-Ok.position (DisplayPoll c.args.screen c.args.refresh) answers)) c.items.ensures;
+          ∙ ap (λ (answers : List Answer). appended (g.K.Sink.written c.args.trace.now) (trace_line c.args.plant.now c.in-Ok.position (DisplayPoll c.args.screen c.args.refresh) answers)) c.items-told.ensures;
       trace_count = c.if-not-trace_poll.ensures.count;
-      told = subst Tells c.items-2.ensures (c.tell.ensures.told seat.number c.args.refresh);
+      told = subst Tells c.items-told.ensures (c.tell.ensures.told seat.number c.args.refresh);
     }
