@@ -28,11 +28,12 @@ impl PollRoom {
     pub(crate) fn new(alloc: Global, plant: &Plant) -> Result<PollRoom, AllocError>
         ensures { IfOk result (HasRoomFor plant.now) }
     {
+        // What has most in it is made last: each part is let go where a later one has no memory.
         Ok(PollRoom {
-            answers: OutBox::new(alloc, PlantState::room_of(plant))?,
-            lines: TraceLines::new(alloc)?,
             line: Vec::with_capacity(alloc, MAX_LINE)?,
             packet: Vec::with_capacity(alloc, MAX_PACKET)?,
+            lines: TraceLines::new(alloc)?,
+            answers: OutBox::new(alloc, PlantState::room_of(plant))?,
         })
     }
 }
