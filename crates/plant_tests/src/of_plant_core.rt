@@ -1,10 +1,11 @@
 //! The plant's answers, what stands behind them, and who is told of what, each by a table.
 
-ghost use Rattle.std.specs.Prelude.{◌≤◌, IfOk};
+ghost use Rattle.std.specs.Prelude.{◌≤◌};
 ghost use Rattle.plant_core.specs.Answer.{room_of};
 
 mod day;
 mod displays;
+mod large;
 mod long_runs;
 mod rows;
 
@@ -185,25 +186,58 @@ fn plant_of(alloc: Global, text: Option<&str>) -> Result<Plant, Fail> {
     }
 }
 
-// A plant at its start, and room for its answers.
-fn started(alloc: Global, plant: &Plant) -> Result<(PlantState, OutBox<Answer>), AllocError>
-    ensures { IfOk result (λ made. room_of made.0.plant ≤ made.1.places) }
-{
-    let state = PlantState::start(alloc, plant)?;
-    let out = OutBox::new(alloc, state.room())?;
-    Ok((state, out))
+// The start of a text's plant, and of the bench plant where there is no text.
+fn start(alloc: Global, text: Option<&str>) -> Result<PlantState, Fail> {
+    let plant = plant_of(alloc, text)?;
+    Ok(PlantState::start(alloc, &plant)?)
 }
 
-// The rows are answered from the start of a plant on.
-fn is_worked(
+/// What is done on a plant from its start on.
+#[derive(Clone, Copy)]
+enum Work {
+    /// Rows are answered one after the other.
+    Rows(&'static [Row]),
+    /// A group is filled, and a level dumped.
+    Large,
+    /// Displays are told until all is finished.
+    Displays,
+    /// Polls tell 70 displays.
+    Polls,
+    /// A day on a pool that keeps ties.
+    Day,
+    /// Two connects in turn, two million times.
+    Turns,
+}
+
+fn work_on(rt: &impl Abort, state: &mut PlantState, out: &mut OutBox<Answer>, work: Work)
+    requires { room_of state.old.plant ≤ out.old.places }
+{
+    match work {
+        Work::Rows(rows) => are_answered(rt, state, out, rows),
+        Work::Large => large::is_filled_and_dumped(rt, state, out),
+        Work::Displays => displays::are_told_until_finished(rt, state, out),
+        Work::Polls => displays::are_counted(rt, state, out),
+        Work::Day => day::passes(rt, state, out, 4_000),
+        Work::Turns => long_runs::take_turns(rt, state, out, 2_000_000),
+    }
+}
+
+// The work is done with room for the answers.
+fn work_in_room(
     rt: &impl Abort,
     alloc: Global,
-    plant: &Plant,
-    rows: &[Row],
+    state: &mut PlantState,
+    work: Work,
 ) -> Result<(), AllocError> {
-    let (mut state, mut out) = started(alloc, plant)?;
-    are_answered(rt, &mut state, &mut out, rows);
+    let mut out = OutBox::new(alloc, state.room())?;
+    work_on(rt, state, &mut out, work);
     Ok(())
+}
+
+// The work is done from the start of that plant on.
+fn is_worked(rt: &impl Abort, alloc: Global, text: Option<&str>, work: Work) -> Result<(), Fail> {
+    let mut state = start(alloc, text)?;
+    Ok(work_in_room(rt, alloc, &mut state, work)?)
 }
 
 // The plants by their texts, none for the bench plant, and what is answered on each from its start.
@@ -220,68 +254,7 @@ const TABLES: [(Option<&str>, &[Row]); 7] = [
 #[test]
 fn tables_are_answered(rt: HostRuntime) -> Result<(), Fail> {
     for (text, rows) in TABLES {
-        let plant = plant_of(rt.alloc(), text)?;
-        is_worked(&rt, rt.alloc(), &plant, rows)?;
+        is_worked(&rt, rt.alloc(), text, Work::Rows(rows))?;
     }
-    Ok(())
-}
-
-// A plant of one level with this many destinations and one source.
-const LARGE: &[u8] = br#"
-title = "Large"
-[[level]]
-matrix = 0
-level = 0
-sources = 1
-destinations = 257
-[[panel]]
-device = 1
-port = 9001
-"#;
-
-// The destinations below a count are stored in group 3.
-fn fill(rt: &impl Abort, state: &mut PlantState, out: &mut OutBox<Answer>, count: u16)
-    requires { room_of state.old.plant ≤ out.old.places }
-    ensures { room_of state.new.plant ≤ out.new.places }
-{
-    for dest in 0..count {
-        let row = (
-            0,
-            (0, 0, dest),
-            Act::Stores(Some(0), 3),
-            Reply::Stored(Some(0), 3),
-        );
-        is_answered(rt, state, out, &row);
-    }
-}
-
-// A dump of that plant tells all its destinations.
-fn is_dumped(rt: &impl Abort, state: &mut PlantState, out: &mut OutBox<Answer>)
-    requires { room_of state.old.plant ≤ out.old.places }
-{
-    let at = Point {
-        matrix: 0,
-        level: 0,
-        dest: 0,
-    };
-    ask(rt, state, out, &request_of(0, at, Act::Dumps));
-    assert!(rt; out.items().len() == 257);
-    let last = Answer::Dumped {
-        matrix: 0,
-        level: 0,
-        dest: 256,
-        source: None,
-    };
-    assert!(rt; out.items().last() == Some(&last));
-}
-
-#[test]
-fn a_large_plant_fills_a_group_and_a_dump(rt: HostRuntime) -> Result<(), Fail> {
-    let plant = Plant::from_toml(rt.alloc(), LARGE)?;
-    let (mut state, mut out) = started(rt.alloc(), &plant)?;
-    assert!(rt; state.room() == 257);
-    fill(&rt, &mut state, &mut out, 256);
-    are_answered(&rt, &mut state, &mut out, &rows::FULL);
-    is_dumped(&rt, &mut state, &mut out);
     Ok(())
 }

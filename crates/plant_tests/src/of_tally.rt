@@ -13,6 +13,7 @@ use crate::of_plant_core::STUDIO;
 use crosspoint_state::{Crosspoints, Spot};
 use mixer_effects::{Graph, Mixers};
 use plant_config::{Change, DestId, Plant, SourceId};
+use std::alloc::{AllocError, Global};
 use std::marker::Brand;
 use std::process::Abort;
 use std::slice;
@@ -84,13 +85,35 @@ fn is_quiet<L: Ledger>(
     assert!(rt; tally.flipped().is_empty());
 }
 
+// The same by a tally of its own.
+fn is_quiet_on(
+    rt: &impl Abort,
+    alloc: Global,
+    plant: &Plant,
+    mixers: &Mixers,
+    points: &mut Crosspoints,
+) -> Result<(), AllocError>
+    requires plant { IsPlant plant.now }
+    requires wired { IsWiringOf plant.now mixers.now }
+    requires kept { ArePointsOf plant.now points.old }
+    requires parked { points.old.entries ≡ empty }
+{
+    let mut tally = Tally::new(alloc, plant, Roots::Air)?;
+    is_quiet::<Brand>(rt, plant, mixers, points, &mut tally, Blank::new(1));
+    Ok(())
+}
+
+// The same by mixers and crosspoints of its own.
+fn is_quiet_in(rt: &impl Abort, alloc: Global, plant: &Plant) -> Result<(), AllocError>
+    requires plant { IsPlant plant.now }
+{
+    let mixers = Mixers::new(alloc, plant)?;
+    let mut points = Crosspoints::new(alloc, plant)?;
+    is_quiet_on(rt, alloc, plant, &mixers, &mut points)
+}
+
 #[test]
 fn a_move_off_air_reads_32_at_most(rt: HostRuntime) -> Result<(), Fail> {
     let plant = Plant::from_toml(rt.alloc(), STUDIO.as_bytes())?;
-    let mixers = Mixers::new(rt.alloc(), &plant)?;
-    let mut points = Crosspoints::new(rt.alloc(), &plant)?;
-    let mut tally = Tally::new(rt.alloc(), &plant, Roots::Air)?;
-    let blank = Blank::new(1);
-    is_quiet::<Brand>(&rt, &plant, &mixers, &mut points, &mut tally, blank);
-    Ok(())
+    Ok(is_quiet_in(&rt, rt.alloc(), &plant)?)
 }

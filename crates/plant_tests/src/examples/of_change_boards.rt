@@ -2,12 +2,13 @@
 
 use change_boards::{Notices, Screens, Shown, Sort, Value};
 use plant_config::{DestId, DisplayId, PanelNo, Plant};
+use std::alloc::{AllocError, Global};
+use std::process::Abort;
 use std::test::Fail;
 
 #[test]
 fn a_panel_hears_each_change_once(rt: HostRuntime) -> Result<(), Fail> {
-    let plant = Plant::bench(rt.alloc())?;
-    let mut notices = Notices::new(rt.alloc(), &plant)?;
+    let mut notices = Notices::new(rt.alloc(), &Plant::bench(rt.alloc())?)?;
     let panel = PanelNo::of(1);
     let (fourth, fifth) = (DestId::of(4), DestId::of(5));
 
@@ -44,15 +45,19 @@ device = 1
 port = 9001
 "#;
 
-#[test]
-fn a_display_is_shown_what_it_does_not_show(rt: HostRuntime) -> Result<(), Fail> {
-    let plant = Plant::from_toml(rt.alloc(), MONITORS)?;
+// A screen has its displays by their index.
+fn are_listed(rt: &impl Abort, alloc: Global, plant: &Plant) -> Result<(), AllocError> {
+    let screens = Screens::new(alloc, plant)?;
     let (first, second) = (DisplayId::of(0), DisplayId::of(1));
-    let screens = Screens::new(rt.alloc(), &plant)?;
     assert!(rt; screens.displays(3) == [second, first].as_slice());
+    Ok(())
+}
 
+// A display is shown what it does not show.
+fn is_shown(rt: &impl Abort, alloc: Global, plant: &Plant) -> Result<(), AllocError> {
     assert!(rt; plant.displays().len() == 2);
-    let mut shown = Shown::new(rt.alloc(), &plant)?;
+    let mut shown = Shown::new(alloc, plant)?;
+    let first = DisplayId::of(0);
     let parked = &Value {
         source: None,
         air: false,
@@ -64,4 +69,11 @@ fn a_display_is_shown_what_it_does_not_show(rt: HostRuntime) -> Result<(), Fail>
     shown.forget(&[first]);
     assert!(rt; shown.differs(first, *parked));
     Ok(())
+}
+
+#[test]
+fn a_display_is_shown_what_it_does_not_show(rt: HostRuntime) -> Result<(), Fail> {
+    let plant = Plant::from_toml(rt.alloc(), MONITORS)?;
+    are_listed(&rt, rt.alloc(), &plant)?;
+    Ok(is_shown(&rt, rt.alloc(), &plant)?)
 }

@@ -2,13 +2,14 @@
 
 use crosspoint_state::{Crosspoints, Spot};
 use plant_config::{Change, DestId, Plant, SourceId, TieNo};
+use std::alloc::{AllocError, Global};
+use std::process::Abort;
 use std::test::Fail;
 
-#[test]
-fn a_destination_carries_what_it_was_given(rt: HostRuntime) -> Result<(), Fail> {
-    let plant = Plant::bench(rt.alloc())?;
+// Two destinations are given a camera, and one of them is parked.
+fn are_carried(rt: &impl Abort, alloc: Global, plant: &Plant) -> Result<(), AllocError> {
     assert!(rt; 7 < plant.destination_count());
-    let mut crosspoints = Crosspoints::new(rt.alloc(), &plant)?;
+    let mut crosspoints = Crosspoints::new(alloc, plant)?;
     let (fourth, seventh) = (DestId::of(4), DestId::of(7));
     let camera = SourceId::of(20);
     assert!(rt; crosspoints.source_at(fourth) == None);
@@ -17,19 +18,25 @@ fn a_destination_carries_what_it_was_given(rt: HostRuntime) -> Result<(), Fail> 
         source: camera,
         tie: Some(TieNo::of(2)),
     });
-    crosspoints.set(&plant, fourth, spot);
-    crosspoints.set(&plant, seventh, spot);
+    crosspoints.set(plant, fourth, spot);
+    crosspoints.set(plant, seventh, spot);
     let again = Change {
         dest: fourth,
         source: Some(camera),
     };
     assert!(rt; crosspoints.is_idle(&again));
 
-    crosspoints.set(&plant, fourth, None);
+    crosspoints.set(plant, fourth, None);
     assert!(rt; crosspoints.at(fourth) == None);
     assert!(rt; crosspoints.at(seventh) == spot);
     assert!(rt; crosspoints.source_at(seventh) == Some(camera));
     assert!(rt; crosspoints.taps().head_of(4) == None);
     assert!(rt; crosspoints.taps().head_of(7) == Some(20));
     Ok(())
+}
+
+#[test]
+fn a_destination_carries_what_it_was_given(rt: HostRuntime) -> Result<(), Fail> {
+    let plant = Plant::bench(rt.alloc())?;
+    Ok(are_carried(&rt, rt.alloc(), &plant)?)
 }

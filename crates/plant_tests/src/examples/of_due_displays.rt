@@ -1,8 +1,14 @@
 //! `due_displays` in use.
 
+ghost use Rattle.std.specs.Prelude.{IfOk};
+ghost use Rattle.plant_config.specs.IsPlant.{IsPlant};
+ghost use Rattle.due_displays.specs.Due.{AreDueOf};
+
 use change_boards::Screens;
 use due_displays::DueDisplays;
 use plant_config::{DestId, DisplayId, Plant};
+use std::alloc::{AllocError, Global};
+use std::process::Abort;
 use std::test::Fail;
 
 // On screen 3 display 1 stands before display 0, and display 2 is on screen 4. Displays 0 and 2 watch destination 0.
@@ -33,23 +39,36 @@ device = 1
 port = 9001
 "#;
 
-#[test]
-fn a_destination_leads_to_the_displays_that_watch_it(rt: HostRuntime) -> Result<(), Fail> {
-    let plant = Plant::from_toml(rt.alloc(), MONITORS)?;
+// At first all are due.
+fn all(alloc: Global, plant: &Plant) -> Result<DueDisplays, AllocError>
+    requires plant { IsPlant plant.now }
+    ensures { IfOk result (AreDueOf plant.now) }
+{
+    let screens = Screens::new(alloc, plant)?;
+    DueDisplays::new(alloc, plant, &screens)
+}
+
+// They are told, and those that watch destination 0 are due again.
+fn are_due(rt: &impl Abort, alloc: Global, plant: &Plant) -> Result<(), AllocError> {
     assert!(rt; plant.displays().len() == 3);
-    let screens = Screens::new(rt.alloc(), &plant)?;
-    let mut due = DueDisplays::new(rt.alloc(), &plant, &screens)?;
+    let mut due = all(alloc, plant)?;
     assert!(rt; due.first(3) == Some(0));
 
-    due.remove(&plant, DisplayId::of(1));
+    due.remove(plant, DisplayId::of(1));
     assert!(rt; due.first(3) == Some(1));
-    due.remove(&plant, DisplayId::of(0));
-    due.remove(&plant, DisplayId::of(2));
+    due.remove(plant, DisplayId::of(0));
+    due.remove(plant, DisplayId::of(2));
     assert!(rt; due.is_empty());
 
-    due.add_watchers(&plant, DestId::of(0));
+    due.add_watchers(plant, DestId::of(0));
     assert!(rt; due.first(3) == Some(1));
     assert!(rt; due.first(4) == Some(0));
     assert!(rt; due.first(5) == None);
     Ok(())
+}
+
+#[test]
+fn a_destination_leads_to_the_displays_that_watch_it(rt: HostRuntime) -> Result<(), Fail> {
+    let plant = Plant::from_toml(rt.alloc(), MONITORS)?;
+    Ok(are_due(&rt, rt.alloc(), &plant)?)
 }

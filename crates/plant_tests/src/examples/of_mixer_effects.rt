@@ -5,6 +5,7 @@ ghost use Rattle.std.specs.Prelude.{◌≡◌, ◌+◌, ◌<◌};
 use crosspoint_state::Crosspoints;
 use mixer_effects::{Graph, Mixers};
 use plant_config::{DestId, DeviceId, Plant, SourceId};
+use std::alloc::{AllocError, Global};
 use std::marker::Brand;
 use std::process::Abort;
 use std::sync::ledger::{Blank, Ledger};
@@ -36,11 +37,16 @@ fn counted<L: Ledger>(rt: &impl Abort, mixers: &Mixers, points: &Crosspoints, bl
     );
 }
 
+// Of such a plant.
+fn has_no_bus(rt: &impl Abort, alloc: Global, plant: &Plant) -> Result<(), AllocError> {
+    let points = Crosspoints::new(alloc, plant)?;
+    let mixers = Mixers::new(alloc, plant)?;
+    counted::<Brand>(rt, &mixers, &points, Blank::new(1));
+    Ok(())
+}
+
 #[test]
 fn a_router_alone_has_no_bus(rt: HostRuntime) -> Result<(), Fail> {
     let plant = Plant::bench(rt.alloc())?;
-    let points = Crosspoints::new(rt.alloc(), &plant)?;
-    let mixers = Mixers::new(rt.alloc(), &plant)?;
-    counted::<Brand>(&rt, &mixers, &points, Blank::new(1));
-    Ok(())
+    Ok(has_no_bus(&rt, rt.alloc(), &plant)?)
 }

@@ -6,6 +6,7 @@ ghost use Rattle.plant_core.specs.Answer.{room_of};
 use history_lock::{Machine, OutBox};
 use plant_config::{PanelNo, Plant};
 use plant_core::{Answer, PlantState, Request};
+use std::alloc::{AllocError, Global};
 use std::process::Abort;
 use std::test::Fail;
 use swp08_messages::{Message, Point};
@@ -27,11 +28,9 @@ fn is_answered(
     assert!(rt; out.items() == answers);
 }
 
-#[test]
-fn one_panel_connects_and_another_hears_of_it(rt: HostRuntime) -> Result<(), Fail> {
-    let plant = Plant::bench(rt.alloc())?;
-    let mut state = PlantState::start(rt.alloc(), &plant)?;
-    let mut out = OutBox::new(rt.alloc(), state.room())?;
+// Panel 1 connects, and panel 0 hears of it once.
+fn is_heard(rt: &impl Abort, alloc: Global, state: &mut PlantState) -> Result<(), AllocError> {
+    let mut out = OutBox::new(alloc, state.room())?;
     let at = Point {
         matrix: 0,
         level: 0,
@@ -45,14 +44,20 @@ fn one_panel_connects_and_another_hears_of_it(rt: HostRuntime) -> Result<(), Fai
         at: 0,
         message: Message::Connect { at, source },
     };
-    is_answered(&rt, &mut state, &mut out, &connect, &[Answer::Say(made)]);
+    is_answered(rt, state, &mut out, &connect, &[Answer::Say(made)]);
 
     let poll = Request::Poll {
         panel: PanelNo::of(0),
         at: 0,
         turn: 0,
     };
-    is_answered(&rt, &mut state, &mut out, &poll, &[Answer::Say(made)]);
-    is_answered(&rt, &mut state, &mut out, &poll, &[]);
+    is_answered(rt, state, &mut out, &poll, &[Answer::Say(made)]);
+    is_answered(rt, state, &mut out, &poll, &[]);
     Ok(())
+}
+
+#[test]
+fn one_panel_connects_and_another_hears_of_it(rt: HostRuntime) -> Result<(), Fail> {
+    let mut state = PlantState::start(rt.alloc(), &Plant::bench(rt.alloc())?)?;
+    Ok(is_heard(&rt, rt.alloc(), &mut state)?)
 }

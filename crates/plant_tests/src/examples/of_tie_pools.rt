@@ -8,6 +8,7 @@ ghost use Rattle.tie_pools.specs.Counts.{AreCountsOf};
 
 use crosspoint_state::{Crosspoints, Spot, ties_stay_valid};
 use plant_config::{Change, DestId, Plant, PoolId, SourceId, TieNo};
+use std::alloc::{AllocError, Global};
 use std::process::Abort;
 use std::test::Fail;
 use tie_pools::{Exhausted, Ties};
@@ -50,48 +51,84 @@ fn take(
     Ok(())
 }
 
-// Two sources share the tie, of which a third one gets it only when both are parked.
-fn share_a_tie(rt: &impl Abort, plant: &Plant, ties: &mut Ties, points: &mut Crosspoints)
-    requires dests { 2 < destinations_of plant.now }
+/// A destination, the source that it asks for, and the one that it carries then: the same, if a tie is left for it.
+type Row = (u32, Option<u32>, Option<u32>);
+
+// Sources 2 and 3 share the tie, and source 4 gets it once both are parked.
+const ROWS: [Row; 6] = [
+    (1, Some(2), Some(2)),
+    (2, Some(4), None),
+    (2, Some(3), Some(3)),
+    (1, None, None),
+    (2, None, None),
+    (2, Some(4), Some(4)),
+];
+
+// The source of this number.
+fn source_of(number: Option<u32>) -> Option<SourceId> {
+    Some(SourceId::of(number?))
+}
+
+// That source over the tie.
+fn over_the_tie(number: Option<u32>) -> Option<Spot> {
+    Some(Spot {
+        source: source_of(number)?,
+        tie: Some(TieNo::of(0)),
+    })
+}
+
+// How a request is answered: where no tie is left, a second one is wanted.
+fn answer(is_left: bool) -> Result<(), Exhausted> {
+    if is_left {
+        return Ok(());
+    }
+    Err(Exhausted {
+        pool: PoolId::of(0),
+        wanted: 2,
+        limit: 1,
+    })
+}
+
+// A row is answered so.
+fn is_answered(rt: &impl Abort, plant: &Plant, ties: &mut Ties, points: &mut Crosspoints, row: Row)
+    requires kept { ArePointsOf plant.now points.old }
+    requires counts { AreCountsOf plant.now points.old.entries ties.old }
+    requires valid { HaveValidTies plant.now points.old.entries }
+    ensures kept { ArePointsOf plant.now points.new }
+    ensures counts { AreCountsOf plant.now points.new.entries ties.new }
+    ensures valid { HaveValidTies plant.now points.new.entries }
+{
+    let (number, asked, carried) = row;
+    assert!(rt; number < plant.destination_count());
+    let dest = DestId::of(number);
+    let taken = take(plant, ties, points, dest, source_of(asked));
+    assert!(rt; taken == answer(asked == carried));
+    assert!(rt; points.at(dest) == over_the_tie(carried));
+}
+
+// The rows are answered one after the other.
+fn are_answered(rt: &impl Abort, plant: &Plant, ties: &mut Ties, points: &mut Crosspoints)
     requires kept { ArePointsOf plant.now points.old }
     requires counts { AreCountsOf plant.now points.old.entries ties.old }
     requires valid { HaveValidTies plant.now points.old.entries }
 {
-    let (first, second) = (DestId::of(1), DestId::of(2));
-    let (camera, same_camera, replay) = (SourceId::of(2), SourceId::of(3), SourceId::of(4));
-    let over_the_tie = |source| Some(Spot {
-        source,
-        tie: Some(TieNo::of(0)),
-    });
+    for row in ROWS {
+        is_answered(rt, plant, ties, points, row);
+    }
+}
 
-    let taken = take(plant, ties, points, first, Some(camera));
-    assert!(rt; taken == Ok(()));
-    let refused = take(plant, ties, points, second, Some(replay));
-    let fault = Exhausted {
-        pool: PoolId::of(0),
-        wanted: 2,
-        limit: 1,
-    };
-    assert!(rt; refused == Err(fault));
-    let shared = take(plant, ties, points, second, Some(same_camera));
-    assert!(rt; shared == Ok(()));
-    assert!(rt; points.at(second) == over_the_tie(same_camera));
-
-    assert!(rt; take(plant, ties, points, first, None) == Ok(()));
-    assert!(rt; take(plant, ties, points, second, None) == Ok(()));
-    let taken = take(plant, ties, points, second, Some(replay));
-    assert!(rt; taken == Ok(()));
-    assert!(rt; points.at(second) == over_the_tie(replay));
+// The same from the start of the plant on.
+fn are_answered_first(rt: &impl Abort, alloc: Global, plant: &Plant) -> Result<(), AllocError> {
+    let mut points = Crosspoints::new(alloc, plant)?;
+    let mut ties = Ties::new(alloc, plant)?;
+    // The ties are valid where nothing is carried.
+    ties_stay_valid();
+    are_answered(rt, plant, &mut ties, &mut points);
+    Ok(())
 }
 
 #[test]
 fn one_origin_comes_by_one_tie(rt: HostRuntime) -> Result<(), Fail> {
     let plant = Plant::from_toml(rt.alloc(), PLANT)?;
-    let mut points = Crosspoints::new(rt.alloc(), &plant)?;
-    let mut ties = Ties::new(rt.alloc(), &plant)?;
-    // The ties are valid where nothing is carried.
-    ties_stay_valid();
-    assert!(rt; 2 < plant.destination_count());
-    share_a_tie(&rt, &plant, &mut ties, &mut points);
-    Ok(())
+    Ok(are_answered_first(&rt, rt.alloc(), &plant)?)
 }

@@ -4,16 +4,15 @@
 ghost use Rattle.std.specs.Prelude.{◌≤◌};
 ghost use Rattle.plant_core.specs.Answer.{room_of};
 
-use super::{Act, Reply, Row, is_answered, started};
+use super::{Act, Reply, Row, Work, is_answered, is_worked};
 use history_lock::OutBox;
-use plant_config::Plant;
 use plant_core::{Answer, PlantState};
 use std::process::Abort;
 use std::test::Fail;
 use swp08_messages::GoStatus;
 
 // Panel 1 is a master. Of matrix 1 source 0 comes by no tie, and source 8 has the origin of source 1.
-const PLANT: &[u8] = br#"
+const PLANT: &str = r#"
 title = "Day"
 level = [
     { matrix = 0, level = 0, sources = 7, destinations = 1 },
@@ -131,7 +130,7 @@ impl Day {
 }
 
 // A day of so many turns.
-fn passes(rt: &impl Abort, state: &mut PlantState, out: &mut OutBox<Answer>, turns: u32)
+pub(super) fn passes(rt: &impl Abort, state: &mut PlantState, out: &mut OutBox<Answer>, turns: u32)
     requires { room_of state.old.plant ≤ out.old.places }
 {
     let mut day = Day {
@@ -146,8 +145,5 @@ fn passes(rt: &impl Abort, state: &mut PlantState, out: &mut OutBox<Answer>, tur
 
 #[test]
 fn a_day_is_answered_by_a_plain_count(rt: HostRuntime) -> Result<(), Fail> {
-    let plant = Plant::from_toml(rt.alloc(), PLANT)?;
-    let (mut state, mut out) = started(rt.alloc(), &plant)?;
-    passes(&rt, &mut state, &mut out, 4_000);
-    Ok(())
+    is_worked(&rt, rt.alloc(), Some(PLANT), Work::Day)
 }

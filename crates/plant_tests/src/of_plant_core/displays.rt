@@ -3,12 +3,12 @@
 ghost use Rattle.std.specs.Prelude.{◌≤◌};
 ghost use Rattle.plant_core.specs.Answer.{room_of};
 
-use super::{Act, ask, request_of, started};
+use super::{Act, Work, ask, is_worked, request_of};
 use change_boards::Value;
 use history_lock::OutBox;
-use plant_config::{DestId, PanelNo, Plant};
+use plant_config::{DestId, PanelNo};
 use plant_core::{Answer, PlantState, Request};
-use std::alloc::Global;
+use std::alloc::{AllocError, Global};
 use std::process::Abort;
 use std::test::Fail;
 use swp08_messages::Point;
@@ -220,19 +220,27 @@ fn are_finished(rt: &impl Abort, state: &mut PlantState, out: &mut OutBox<Answer
     assert!(rt; out.items() == [Answer::Finished].as_slice());
 }
 
-#[test]
-fn displays_are_told_until_all_is_finished(rt: HostRuntime) -> Result<(), Fail> {
-    let plant = Plant::from_toml(rt.alloc(), STUDIO.as_bytes())?;
-    let (mut state, mut out) = started(rt.alloc(), &plant)?;
-    are_told(&rt, &mut state, &mut out);
+// The rows are told, and then all is finished.
+pub(super) fn are_told_until_finished(
+    rt: &impl Abort,
+    state: &mut PlantState,
+    out: &mut OutBox<Answer>,
+)
+    requires { room_of state.old.plant ≤ out.old.places }
+{
+    are_told(rt, state, out);
     let dest = DestId::of(12);
     assert!(rt; state.is_live(Roots::Air, dest) && !state.is_live(Roots::Preview, dest));
-    are_finished(&rt, &mut state, &mut out);
-    Ok(())
+    are_finished(rt, state, out);
 }
 
-// A plant with 70 displays, of which each watches destination 0.
-fn many(alloc: Global) -> Result<Plant, Fail> {
+#[test]
+fn displays_are_told_until_all_is_finished(rt: HostRuntime) -> Result<(), Fail> {
+    is_worked(&rt, rt.alloc(), Some(STUDIO), Work::Displays)
+}
+
+// The file of a plant with 70 displays, of which each watches destination 0.
+fn many(alloc: Global) -> Result<String, AllocError> {
     let mut text = String::from_str(
         alloc,
         "title = \"Many\"\n[[level]]\nmatrix = 0\nlevel = 0\nsources = 2\ndestinations = 1\n\
@@ -244,11 +252,11 @@ fn many(alloc: Global) -> Result<Plant, Fail> {
         )?;
         text.push_str(&display)?;
     }
-    Ok(Plant::from_toml(alloc, text.as_bytes())?)
+    Ok(text)
 }
 
 // Polls tell the displays of a plant of 70: 64, the others, none, and again 64 where all are told anew.
-fn are_counted(rt: &impl Abort, state: &mut PlantState, out: &mut OutBox<Answer>)
+pub(super) fn are_counted(rt: &impl Abort, state: &mut PlantState, out: &mut OutBox<Answer>)
     requires { room_of state.old.plant ≤ out.old.places }
 {
     for (refresh, count) in [(false, 64), (false, 6), (false, 0), (true, 64)] {
@@ -259,8 +267,6 @@ fn are_counted(rt: &impl Abort, state: &mut PlantState, out: &mut OutBox<Answer>
 
 #[test]
 fn a_poll_tells_64_displays_at_most(rt: HostRuntime) -> Result<(), Fail> {
-    let plant = many(rt.alloc())?;
-    let (mut state, mut out) = started(rt.alloc(), &plant)?;
-    are_counted(&rt, &mut state, &mut out);
-    Ok(())
+    let text = many(rt.alloc())?;
+    is_worked(&rt, rt.alloc(), Some(text.as_str()), Work::Polls)
 }

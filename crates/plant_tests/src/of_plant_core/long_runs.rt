@@ -3,16 +3,16 @@
 ghost use Rattle.std.specs.Prelude.{◌≤◌};
 ghost use Rattle.plant_core.specs.Answer.{room_of};
 
-use super::{Act, ask, request_of, started};
+use super::{Act, Work, ask, is_worked, request_of};
 use history_lock::OutBox;
-use plant_config::{DestId, Plant, SourceId};
+use plant_config::{DestId, SourceId};
 use plant_core::{Answer, PlantState};
 use std::process::Abort;
 use std::test::Fail;
 use swp08_messages::Point;
 
 // Level 0 of all 16 matrices, each with 32 sources and 1,024 destinations. Destination 0 of matrix 0 is on air.
-const LARGEST: &[u8] = br#"
+const LARGEST: &str = r#"
 title = "Long"
 level = [
     { matrix = 0, level = 0, sources = 32, destinations = 1024 },
@@ -37,7 +37,12 @@ panel = [{ device = 1, port = 9001 }]
 "#;
 
 // Destination 5 of matrix 0 carries source 1 and source 2 in turn.
-fn take_turns(rt: &impl Abort, state: &mut PlantState, out: &mut OutBox<Answer>, turns: u32)
+pub(super) fn take_turns(
+    rt: &impl Abort,
+    state: &mut PlantState,
+    out: &mut OutBox<Answer>,
+    turns: u32,
+)
     requires { room_of state.old.plant ≤ out.old.places }
 {
     let at = Point {
@@ -51,13 +56,10 @@ fn take_turns(rt: &impl Abort, state: &mut PlantState, out: &mut OutBox<Answer>,
         ask(rt, state, out, &first);
         ask(rt, state, out, &second);
     }
+    assert!(rt; state.source_at(DestId::of(5)) == Some(SourceId::of(2)));
 }
 
 #[test]
 fn a_step_costs_the_same_on_many_destinations(rt: HostRuntime) -> Result<(), Fail> {
-    let plant = Plant::from_toml(rt.alloc(), LARGEST)?;
-    let (mut state, mut out) = started(rt.alloc(), &plant)?;
-    take_turns(&rt, &mut state, &mut out, 2_000_000);
-    assert!(rt; state.source_at(DestId::of(5)) == Some(SourceId::of(2)));
-    Ok(())
+    is_worked(&rt, rt.alloc(), Some(LARGEST), Work::Turns)
 }
