@@ -1,5 +1,5 @@
 -- From what the getters of the matches give to the command.
-use Rattle.std.proofs.Common.{◌≡◌, ◌<◌, ◌+◌, ◌-◌, ◌∙◌, sym, ap, arith, false, List, ◌∷◌, Option, Some, None, map, length, drop, option_map, codes}
+use Rattle.std.proofs.Common.{◌≡◌, ◌<◌, ◌+◌, ◌-◌, ◌∙◌, sym, ap, arith, Bool, false, List, ◌∷◌, Option, Some, None, map, length, drop, option_map, codes}
 use Rattle.std.specs.Prelude.{option_and_then, if◌then◌else◌}
 use Rattle.std.specs.Str.{bytes_eq}
 use Rattle.std.specs.Borrow.{Bor}
@@ -36,46 +36,36 @@ other_named name rows other = ap (λ b. if b then option_map Monitor (first_of (
 pub no_plant : (name : Text) (rows : List Row) → None ≡ first_of (codes "plant") rows → None ≡ command_of_plant name rows
 no_plant name rows none = ap (option_and_then (command_on name rows)) none
 
-pub check_named : (name : Text) (rows : List Row) (plant : Text) → name ≡ codes "check" → Some plant ≡ first_of (codes "plant") rows → Some (Check plant) ≡ command_of_plant name rows
-check_named name rows plant is given = ap (option_and_then (command_on (codes "check") rows)) given ∙ ap (λ (n : Text). command_of_plant n rows) (sym is)
+-- the command of a plant's word, by its name
+module _ (name : Text) (rows : List Row) (plant : Text) where
+  at_name : (known : Text) → name ≡ known → Some plant ≡ first_of (codes "plant") rows → command_on known rows plant ≡ command_of_plant name rows
+  at_name known is given = ap (option_and_then (command_on known rows)) given ∙ ap (λ (n : Text). command_of_plant n rows) (sym is)
 
-pub no_script : (name : Text) (rows : List Row) (plant : Text) → name ≡ codes "replay" → Some plant ≡ first_of (codes "plant") rows → None ≡ first_of (codes "script") rows → None ≡ command_of_plant name rows
-no_script name rows plant is given none =
-    ap (option_map (Replay plant)) none ∙ ap (option_and_then (command_on (codes "replay") rows)) given ∙ ap (λ (n : Text). command_of_plant n rows) (sym is)
+  pub check_named : name ≡ codes "check" → Some plant ≡ first_of (codes "plant") rows → Some (Check plant) ≡ command_of_plant name rows
+  check_named is given = at_name (codes "check") is given
 
-pub replay_named : (name : Text) (rows : List Row) (plant script : Text) → name ≡ codes "replay" → Some plant ≡ first_of (codes "plant") rows → Some script ≡ first_of (codes "script") rows
-    → Some (Replay plant script) ≡ command_of_plant name rows
-replay_named name rows plant script is given found =
-    ap (option_map (Replay plant)) found ∙ ap (option_and_then (command_on (codes "replay") rows)) given ∙ ap (λ (n : Text). command_of_plant n rows) (sym is)
+  pub replay_at : name ≡ codes "replay" → Some plant ≡ first_of (codes "plant") rows → option_map (Replay plant) (first_of (codes "script") rows) ≡ command_of_plant name rows
+  replay_at is given = at_name (codes "replay") is given
 
-pub no_traces : (name : Text) (rows : List Row) (plant : Text) → name ≡ codes "audit" → Some plant ≡ first_of (codes "plant") rows → None ≡ all_of (codes "trace") rows → None ≡ command_of_plant name rows
-no_traces name rows plant is given none =
-    ap (option_map (Audit plant)) none ∙ ap (option_and_then (command_on (codes "audit") rows)) given ∙ ap (λ (n : Text). command_of_plant n rows) (sym is)
+  pub audit_at : name ≡ codes "audit" → Some plant ≡ first_of (codes "plant") rows → option_map (Audit plant) (all_of (codes "trace") rows) ≡ command_of_plant name rows
+  audit_at is given = at_name (codes "audit") is given
 
-pub audit_named : (name : Text) (rows : List Row) (plant : Text) (traces : List Text) → name ≡ codes "audit" → Some plant ≡ first_of (codes "plant") rows → Some traces ≡ all_of (codes "trace") rows
-    → Some (Audit plant traces) ≡ command_of_plant name rows
-audit_named name rows plant traces is given found =
-    ap (option_map (Audit plant)) found ∙ ap (option_and_then (command_on (codes "audit") rows)) given ∙ ap (λ (n : Text). command_of_plant n rows) (sym is)
+  pub stream_at : name ≡ codes "stream" → Some plant ≡ first_of (codes "plant") rows → stream_on rows plant ≡ command_of_plant name rows
+  stream_at is given = at_name (codes "stream") is given
 
--- that of a stream
-stream_at : (name : Text) (rows : List Row) (plant : Text) → name ≡ codes "stream" → Some plant ≡ first_of (codes "plant") rows → stream_on rows plant ≡ command_of_plant name rows
-stream_at name rows plant is given = ap (option_and_then (command_on (codes "stream") rows)) given ∙ ap (λ (n : Text). command_of_plant n rows) (sym is)
+  -- a name that is none of these
+  pub unknown : bytes_eq name (codes "check") ≡ false → bytes_eq name (codes "replay") ≡ false → bytes_eq name (codes "audit") ≡ false → bytes_eq name (codes "stream") ≡ false
+      → Some plant ≡ first_of (codes "plant") rows → None ≡ command_of_plant name rows
+  unknown check replay audit stream given =
+      let by_stream = ap (λ (b : Bool). if b then stream_on rows plant else None) stream in
+      let by_audit = ap (λ (b : Bool). if b then option_map (Audit plant) (all_of (codes "trace") rows) else (if bytes_eq name (codes "stream") then stream_on rows plant else None)) audit in
+      let by_replay = ap (λ (b : Bool). if b then option_map (Replay plant) (first_of (codes "script") rows) else (if bytes_eq name (codes "audit") then option_map (Audit plant) (all_of (codes "trace") rows) else (if bytes_eq name (codes "stream") then stream_on rows plant else None))) replay in
+      let by_check = ap (λ (b : Bool). if b then Some (Check plant) else (if bytes_eq name (codes "replay") then option_map (Replay plant) (first_of (codes "script") rows) else (if bytes_eq name (codes "audit") then option_map (Audit plant) (all_of (codes "trace") rows) else (if bytes_eq name (codes "stream") then stream_on rows plant else None)))) check in
+      sym (by_check ∙ by_replay ∙ by_audit ∙ by_stream) ∙ ap (option_and_then (command_on name rows)) given
 
-abbrev made_in : List Row → Text → Text → Option Command
+-- the stream that is made of this script
+abbrev pub made_in : List Row → Text → Text → Option Command
 made_in rows plant script = option_map (Stream plant script) (first_of (codes "out") rows)
-
-pub no_stream_script : (name : Text) (rows : List Row) (plant : Text) → name ≡ codes "stream" → Some plant ≡ first_of (codes "plant") rows → None ≡ first_of (codes "script") rows → None ≡ command_of_plant name rows
-no_stream_script name rows plant is given none = ap (option_and_then (made_in rows plant)) none ∙ stream_at name rows plant is given
-
-pub no_made : (name : Text) (rows : List Row) (plant script : Text) → name ≡ codes "stream" → Some plant ≡ first_of (codes "plant") rows → Some script ≡ first_of (codes "script") rows
-    → None ≡ first_of (codes "out") rows → None ≡ command_of_plant name rows
-no_made name rows plant script is given found none =
-    ap (option_map (Stream plant script)) none ∙ ap (option_and_then (made_in rows plant)) found ∙ stream_at name rows plant is given
-
-pub stream_named : (name : Text) (rows : List Row) (plant script made : Text) → name ≡ codes "stream" → Some plant ≡ first_of (codes "plant") rows → Some script ≡ first_of (codes "script") rows
-    → Some made ≡ first_of (codes "out") rows → Some (Stream plant script made) ≡ command_of_plant name rows
-stream_named name rows plant script made is given found is_made =
-    ap (option_map (Stream plant script)) is_made ∙ ap (option_and_then (made_in rows plant)) found ∙ stream_at name rows plant is given
 
 -- the words of an audit, of which the last are the traces
 module _ (words : List (String Global)) (plant : Text) (traces : List Text) (command : Command) (ask : Ask (texts words) command) (is : Some (Audit plant traces) ≡ Some command) where

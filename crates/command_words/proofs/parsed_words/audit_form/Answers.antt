@@ -7,7 +7,8 @@ use Rattle.command_words.proofs.parsed_words.audit_form.Goals as goal
 
 pub returns : goal.returns
 returns c =
-    let plant = with_word (new_app (codes "audit")) (word (codes "plant")) c.new.result c.in_ok-arg.field-0 c.word.result (c.new.ensures.app, c.new.ensures.local) c.word.ensures c.in_ok-arg.ensures in
-    let several_is : IsArg (several (word (codes "trace"))) c.several.result = (c.several.ensures.0 ∙ ap several c.word-2.ensures.0, c.several.ensures.1) in
-    IfOk-weaker c.arg-2.result (AddsArg c.in_ok-arg.field-0 c.several.result) (IsForm audit)
-    (λ command adds. with_word (with_rule (new_app (codes "audit")) (word (codes "plant"))) (several (word (codes "trace"))) c.in_ok-arg.field-0 command c.several.result plant several_is adds) c.arg-2.ensures
+    let bare = with_rule (new_app (codes "audit")) (word (codes "plant")) in
+    let traces = several (word (codes "trace")) in
+    let several_is : IsArg traces c.several.result = (c.several.ensures.0 ∙ ap several c.word.ensures.0, c.several.ensures.1) in
+    IfOk-weaker c.arg.result (AddsArg c.in_ok-form.form c.several.result) (IsForm audit)
+    (λ command adds. with_word bare traces c.in_ok-form.form command c.several.result c.in_ok-form.ensures several_is adds) c.arg.ensures
