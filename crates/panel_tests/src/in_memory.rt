@@ -2,13 +2,9 @@
 
 ghost use Rattle.std.specs.Prelude.{IfOk};
 ghost use Rattle.ctl_net.specs.MemLink.{IsNewLink};
-ghost use Rattle.panel_server.specs.Seats.{IsSeatOf};
 
 use ctl_io::{Bytes, MemSink};
 use ctl_net::{LinkEvent, MemAcceptor, MemLink};
-use history_lock::{HistoryLock, Seat};
-use plant_config::Plant;
-use plant_core::PlantState;
 use std::alloc::{AllocError, Global};
 
 /// A kind of call: of a net an opening, of an acceptor one for its next link, a link's reads and writes, writes of the trace at
@@ -67,7 +63,8 @@ fn events_of(alloc: Global, pieces: &[&[u8]]) -> Result<Vec<LinkEvent>, AllocErr
     Ok(events)
 }
 
-fn event_of(alloc: Global, piece: &[u8]) -> Result<LinkEvent, AllocError> {
+/// What comes with a piece.
+pub(crate) fn event_of(alloc: Global, piece: &[u8]) -> Result<LinkEvent, AllocError> {
     if piece.is_empty() {
         return Ok(LinkEvent::Idle);
     }
@@ -80,20 +77,6 @@ pub(crate) fn first_written(acceptor: &MemAcceptor) -> &[u8] {
         return link.written();
     }
     &[]
-}
-
-/// A lock round a plant at its start, with one seat.
-pub(crate) fn locked(
-    alloc: Global,
-    plant: &Plant,
-) -> Result<(HistoryLock<PlantState>, Seat<PlantState>), AllocError>
-    ensures { IfOk result (λ made. IsSeatOf plant.now made.0 made.1) }
-{
-    let (lock, mut seats) = HistoryLock::new(alloc, PlantState::start(alloc, plant)?, 1)?;
-    let Some(seat) = seats.pop() else {
-        unreachable!()
-    };
-    Ok((lock, seat))
 }
 
 /// The first so many bytes.

@@ -7,10 +7,12 @@ mod stadium;
 use crate::examples::of_panel_server::{LINES, TOWER, driven};
 use crate::in_memory::Call::{Line, Send};
 use crate::in_memory::{Failing, NOTHING, front, listed, trace_of};
+use crate::studio::plant_of;
 use ctl_net::MemPort;
 use panel_server::DriverEnd;
 use plant_config::Plant;
 use std::alloc::{AllocError, Global};
+use std::process::Abort;
 use std::sync::Wait;
 use std::test::Fail;
 
@@ -61,12 +63,16 @@ fn drives_so<W: Wait>(
     Ok(end == wanted && port.bytes() == sent && trace.written() == front(LINES, traced))
 }
 
-#[test]
-fn displays_are_driven_as_their_calls_go(rt: HostRuntime) -> Result<(), Fail> {
-    let alloc = rt.alloc();
-    let plant = Plant::from_toml(alloc, TOWER)?;
+// It does as each case says.
+fn all_drive_so<W: Wait + Abort>(rt: &W, alloc: Global, plant: &Plant) -> Result<(), AllocError> {
     for (at, case) in CASES.iter().enumerate() {
-        assert!(rt; drives_so(&rt, alloc, &plant, case)?, "case {at}");
+        assert!(rt; drives_so(rt, alloc, plant, case)?, "case {at}");
     }
     Ok(())
+}
+
+#[test]
+fn displays_are_driven_as_their_calls_go(rt: HostRuntime) -> Result<(), Fail> {
+    let plant = plant_of(rt.alloc(), TOWER)?;
+    Ok(all_drive_so(&rt, rt.alloc(), &plant)?)
 }

@@ -3,12 +3,12 @@
 mod notices;
 mod streams;
 
-use crate::studio::STUDIO;
+use crate::examples::of_record_replay::replay;
+use crate::studio::{STUDIO, plant_of};
 use ctl_io::MemSink;
 use notices::NOTICES;
 use plant_config::Plant;
-use plant_names::Names;
-use record_replay::{ReplayFault, replay_script};
+use record_replay::ReplayFault;
 use std::alloc::{AllocError, Global};
 use std::process::Abort;
 use std::test::Fail;
@@ -98,17 +98,16 @@ const REFUSED: &[&[u8]] = &[
     b"\ntake 0 0 0\tD5\tCAM1\t",
 ];
 
-// How a replay ends of which these writes fail, and its output.
-fn replayed(
+// Whether a replay of which these writes fail ends so, with this output.
+fn goes_so(
     alloc: Global,
     plant: &Plant,
     script: &[u8],
     failing: &[u64],
-) -> Result<(Result<(), ReplayFault>, MemSink), AllocError> {
-    let names = Names::new(alloc, plant)?;
+    (ended, output): (Result<(), ReplayFault>, &[u8]),
+) -> Result<bool, AllocError> {
     let mut out = MemSink::new(alloc, 3000, failing.to_vec(alloc)?)?;
-    let ended = replay_script(alloc, plant, &names, script, &mut out);
-    Ok((ended, out))
+    Ok(replay(alloc, plant, script, &mut out) == ended && out.written() == output)
 }
 
 // Each script of a table gives its output.
@@ -119,8 +118,7 @@ fn give(
     rows: &[(&[u8], &[u8])],
 ) -> Result<(), AllocError> {
     for (script, output) in rows {
-        let (ended, out) = replayed(alloc, plant, script, &[])?;
-        assert_eq!(rt; (ended, out.written()), (Ok(()), *output));
+        assert!(rt; goes_so(alloc, plant, script, &[], (Ok(()), *output))?);
     }
     Ok(())
 }
@@ -132,38 +130,45 @@ fn give_on(
     text: &[u8],
     rows: &[(&[u8], &[u8])],
 ) -> Result<(), Fail> {
-    let plant = Plant::from_toml(alloc, text)?;
+    let plant = plant_of(alloc, text)?;
     Ok(give(rt, alloc, &plant, rows)?)
 }
 
 #[test]
 fn scripts_are_replayed(rt: HostRuntime) -> Result<(), Fail> {
-    let alloc = rt.alloc();
-    give_on(&rt, alloc, STUDIO, DAYS)?;
-    give_on(&rt, alloc, PLANT, TAKES)?;
-    let bench = Plant::bench(alloc)?;
-    Ok(give(&rt, alloc, &bench, NOTICES)?)
+    give_on(&rt, rt.alloc(), STUDIO, DAYS)?;
+    give_on(&rt, rt.alloc(), PLANT, TAKES)?;
+    let bench = Plant::bench(rt.alloc())?;
+    Ok(give(&rt, rt.alloc(), &bench, NOTICES)?)
 }
 
-#[test]
-fn lines_without_a_form_are_refused(rt: HostRuntime) -> Result<(), Fail> {
-    let alloc = rt.alloc();
-    let studio = Plant::from_toml(alloc, STUDIO)?;
-    for script in REFUSED {
-        let (ended, _) = replayed(alloc, &studio, script, &[])?;
-        assert_eq!(rt; ended, Err(ReplayFault::BadLine(2)), "of {script:?}");
+// The second line of each script is refused.
+fn are_refused(
+    rt: &impl Abort,
+    alloc: Global,
+    plant: &Plant,
+    scripts: &[&[u8]],
+) -> Result<(), AllocError> {
+    let refused = Err(ReplayFault::BadLine(2));
+    for script in scripts {
+        assert!(rt;
+            goes_so(alloc, plant, script, &[], (refused, b""))?,
+            "of {script:?}"
+        );
     }
     Ok(())
 }
 
 #[test]
+fn lines_without_a_form_are_refused(rt: HostRuntime) -> Result<(), Fail> {
+    let studio = plant_of(rt.alloc(), STUDIO)?;
+    Ok(are_refused(&rt, rt.alloc(), &studio, REFUSED)?)
+}
+
+#[test]
 fn a_failed_write_ends_a_replay(rt: HostRuntime) -> Result<(), Fail> {
-    let alloc = rt.alloc();
-    let bench = Plant::bench(alloc)?;
-    let (ended, out) = replayed(alloc, &bench, b"poll 0\n", &[0])?;
-    assert_eq!(rt;
-        (ended, out.written()),
-        (Err(ReplayFault::OutputFault), b"".as_slice())
-    );
+    let bench = Plant::bench(rt.alloc())?;
+    let failed = Err(ReplayFault::OutputFault);
+    assert!(rt; goes_so(rt.alloc(), &bench, b"poll 0\n", &[0], (failed, b""))?);
     Ok(())
 }

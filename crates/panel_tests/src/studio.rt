@@ -1,4 +1,13 @@
-//! A studio with two mixers, one bus of which has a switch, and two displays.
+//! Plants of a text, and that of a studio with two mixers, one bus of which has a switch, and two displays.
+
+use plant_config::Plant;
+use std::alloc::Global;
+use std::test::Fail;
+
+/// The plant of a text. No clause says that it is the text's, since all that asks for one would have the whole text before it.
+pub(crate) fn plant_of(alloc: Global, text: &[u8]) -> Result<Plant, Fail> {
+    Ok(Plant::from_toml(alloc, text)?)
+}
 
 pub(crate) const STUDIO: &[u8] = br#"
 title = "Studio"

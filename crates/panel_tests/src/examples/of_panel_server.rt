@@ -41,26 +41,39 @@ pub(crate) const LINES: &[u8] = b"1 show 3 1 = 0A00000003000000C0000000
 3 show 3 0 = finished
 ";
 
-// A lock with one seat round a plant whose panel has left.
-fn after_leave<W: Wait>(
-    rt: &W,
+// A lock round a plant at its start, with one seat.
+pub(crate) fn locked(
     alloc: Global,
     plant: &Plant,
 ) -> Result<(HistoryLock<PlantState>, Seat<PlantState>), AllocError>
     ensures { IfOk result (λ made. IsSeatOf plant.now made.0 made.1) }
 {
     let (lock, mut seats) = HistoryLock::new(alloc, PlantState::start(alloc, plant)?, 1)?;
-    let Some(mut seat) = seats.pop() else {
+    let Some(seat) = seats.pop() else {
         unreachable!()
     };
+    Ok((lock, seat))
+}
+
+// The plant's first panel leaves.
+fn leave<W: Wait>(
+    rt: &W,
+    alloc: Global,
+    plant: &Plant,
+    lock: &HistoryLock<PlantState>,
+    seat: &mut Seat<PlantState>,
+) -> Result<(), AllocError>
+    requires { IsSeatOf plant.now lock.now seat.old }
+    ensures { IfOk result (λ _. IsSeatOf plant.now lock.now seat.new) }
+{
     let mut out = OutBox::new(alloc, PlantState::room_of(plant))?;
     let leave = Request::Leave {
         panel: PanelNo::of(0),
     };
-    if plant.panels().is_empty() || lock.call(rt, &mut seat, &leave, &mut out).is_err() {
+    if plant.panels().is_empty() || lock.call(rt, seat, &leave, &mut out).is_err() {
         return Err(AllocError);
     }
-    Ok((lock, seat))
+    Ok(())
 }
 
 // How the worker of the plant's displays ends, once its panel has left.
@@ -71,19 +84,19 @@ pub(crate) fn driven<W: Wait>(
     port: &mut MemPort,
     trace: &mut MemSink,
 ) -> Result<DriverEnd, AllocError> {
-    let (lock, mut seat) = after_leave(rt, alloc, plant)?;
+    let (lock, mut seat) = locked(alloc, plant)?;
+    leave(rt, alloc, plant, &lock, &mut seat)?;
     Ok(drive_displays(rt, alloc, plant, &lock, &mut seat, port, trace))
 }
 
 #[test]
 fn each_screen_is_told_once(rt: HostRuntime) -> Result<(), Fail> {
     let alloc = rt.alloc();
-    let plant = Plant::from_toml(alloc, TOWER)?;
     let mut port = MemPort::new(alloc, 24, Vec::new(alloc))?;
     let mut trace = MemSink::new(alloc, 1000, Vec::new(alloc))?;
+    let plant = Plant::from_toml(alloc, TOWER)?;
     let end = driven(&rt, alloc, &plant, &mut port, &mut trace)?;
-    assert_eq!(rt; end, DriverEnd::Finished { sent: 2, failed: 0 });
-    assert_eq!(rt; port.lengths(), [12, 12].as_slice());
-    assert_eq!(rt; trace.written(), LINES);
+    assert!(rt; end == DriverEnd::Finished { sent: 2, failed: 0 });
+    assert!(rt; port.lengths() == [12, 12].as_slice() && trace.written() == LINES);
     Ok(())
 }

@@ -27,19 +27,19 @@ fn an_interrogate_is_told(
         level: 0,
         dest: 5,
     };
-    assert_eq!(rt; session.act(INTERROGATE), (10, Act::Send));
-    assert_eq!(rt; session.outgoing(), b"\x10\x06".as_slice());
+    assert!(rt; session.act(INTERROGATE) == (10, Act::Send));
+    assert!(rt; session.outgoing() == b"\x10\x06".as_slice());
     let told = Request::Told {
         panel: PanelNo::of(0),
         at: 0,
         message: Message::Interrogate { at },
     };
-    assert_eq!(rt; session.act(&[]), (0, Act::Ask(told)));
+    assert!(rt; session.act(&[]) == (0, Act::Ask(told)));
     let tally = Message::Tally { at, source: None };
     *session.outbox() = boxed(alloc, Answer::Say(tally))?;
     session.answered();
-    assert_eq!(rt; session.act(&[]), (0, Act::Send));
-    assert_eq!(rt; session.outgoing(), TALLY);
+    assert!(rt; session.act(&[]) == (0, Act::Send));
+    assert!(rt; session.outgoing() == TALLY);
     Ok(())
 }
 
@@ -54,57 +54,55 @@ fn the_turn_ends(
         at: 1,
         turn: 0,
     };
-    assert_eq!(rt; session.act(&[]), (0, Act::Ask(poll)));
+    assert!(rt; session.act(&[]) == (0, Act::Ask(poll)));
     *session.outbox() = OutBox::new(alloc, 0)?;
     session.answered();
-    assert_eq!(rt; session.act(&[]), (0, Act::Rest));
+    assert!(rt; session.act(&[]) == (0, Act::Rest));
     Ok(())
 }
 
+// A turn, call by call.
+fn a_turn_is_worked(
+    rt: &impl Abort,
+    alloc: Global,
+    session: &mut Session<'_>,
+) -> Result<(), AllocError> {
+    an_interrogate_is_told(rt, alloc, session)?;
+    the_turn_ends(rt, alloc, session)
+}
+
+// A turn, and the line of the panel's leave behind its entries.
 #[test]
 fn an_interrogate_is_answered(rt: HostRuntime) -> Result<(), Fail> {
     let alloc = rt.alloc();
     let plant = Plant::bench(alloc)?;
     let names = Names::new(alloc, &plant)?;
     let mut session = Session::start(alloc, &plant, &names, PanelNo::of(0))?;
-    an_interrogate_is_told(&rt, alloc, &mut session)?;
-    the_turn_ends(&rt, alloc, &mut session)?;
+    a_turn_is_worked(&rt, alloc, &mut session)?;
+    assert!(rt; session.leave_line(4) == b"4 leave 0 = -\n".as_slice());
     Ok(())
 }
 
 // The line of the entry.
 #[test]
 fn an_entry_has_its_line(rt: HostRuntime) -> Result<(), Fail> {
-    let alloc = rt.alloc();
-    let plant = Plant::bench(alloc)?;
-    let panel = PanelNo::of(0);
     let at = Point {
         matrix: 0,
         level: 0,
         dest: 5,
     };
     let told = Request::Told {
-        panel,
+        panel: PanelNo::of(0),
         at: 0,
         message: Message::Interrogate { at },
     };
     let tally = Answer::Say(Message::Tally { at, source: None });
-    let mut lines = TraceLines::new(alloc)?;
-    let mut trace = Vec::with_capacity(alloc, 65537)?;
+    let mut trace = Vec::with_capacity(rt.alloc(), 65537)?;
+    let mut lines = TraceLines::new(rt.alloc())?;
+    let plant = Plant::bench(rt.alloc())?;
     lines.append(&plant, 3, &told, &[tally], &mut trace);
     let line = b"3 told 0 0 01000005 = 1002030007057F056D1003\n";
-    assert_eq!(rt; trace.as_slice(), line.as_slice());
-    Ok(())
-}
-
-// The line of the panel's leave behind it.
-#[test]
-fn a_leave_has_its_line(rt: HostRuntime) -> Result<(), Fail> {
-    let alloc = rt.alloc();
-    let plant = Plant::bench(alloc)?;
-    let names = Names::new(alloc, &plant)?;
-    let mut session = Session::start(alloc, &plant, &names, PanelNo::of(0))?;
-    assert_eq!(rt; session.leave_line(4), b"4 leave 0 = -\n".as_slice());
+    assert!(rt; trace.as_slice() == line.as_slice());
     Ok(())
 }
 

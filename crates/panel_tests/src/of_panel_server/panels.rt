@@ -1,8 +1,10 @@
 //! The worker of a panel, of which each call outside fails in turn.
 
 use super::ANSWER;
+use crate::examples::of_panel_server::locked;
 use crate::in_memory::Call::{Line, Link, Read, Write};
-use crate::in_memory::{Failing, NOTHING, first_written, front, link_of, listed, locked, trace_of};
+use crate::in_memory::{Failing, NOTHING, first_written, front, link_of, listed, trace_of};
+use crate::studio::plant_of;
 use ctl_io::MemSink;
 use ctl_net::{MemAcceptor, OpenGate};
 use panel_server::{PanelDone, serve_panel};
@@ -10,6 +12,7 @@ use panel_session::Session;
 use plant_config::{PanelNo, Plant};
 use plant_names::Names;
 use std::alloc::{AllocError, Global};
+use std::process::Abort;
 use std::sync::Wait;
 use std::test::Fail;
 
@@ -112,16 +115,20 @@ fn serves_so<W: Wait>(
     plant: &Plant,
     case: &Case,
 ) -> Result<bool, AllocError> {
-    let (failing, wanted, written, lines, traced) = *case;
+    let (failing, _, _, _, _) = *case;
     let mut acceptor = acceptor_of(alloc, failing)?;
     let mut trace = trace_of(alloc, failing, 0)?;
     let done = served(rt, alloc, plant, &mut acceptor, &mut trace)?;
-    Ok(
-        figures(&done) == wanted
-            && acceptor.back().len() as u64 == done.sessions
-            && first_written(&acceptor) == front(ANSWER, written)
-            && trace.written() == front(lines, traced),
-    )
+    Ok(served_so(&done, &acceptor, &trace, case))
+}
+
+// Whether a worker has done as a case says.
+fn served_so(done: &PanelDone, acceptor: &MemAcceptor, trace: &MemSink, case: &Case) -> bool {
+    let (_, wanted, written, lines, traced) = *case;
+    figures(done) == wanted
+        && acceptor.back().len() as u64 == done.sessions
+        && first_written(acceptor) == front(ANSWER, written)
+        && trace.written() == front(lines, traced)
 }
 
 fn figures(done: &PanelDone) -> Done {
@@ -134,12 +141,16 @@ fn figures(done: &PanelDone) -> Done {
     )
 }
 
-#[test]
-fn a_panel_is_served_as_its_calls_go(rt: HostRuntime) -> Result<(), Fail> {
-    let alloc = rt.alloc();
-    let plant = Plant::from_toml(alloc, BENCH)?;
+// It does as each case says.
+fn all_serve_so<W: Wait + Abort>(rt: &W, alloc: Global, plant: &Plant) -> Result<(), AllocError> {
     for (at, case) in CASES.iter().enumerate() {
-        assert!(rt; serves_so(&rt, alloc, &plant, case)?, "case {at}");
+        assert!(rt; serves_so(rt, alloc, plant, case)?, "case {at}");
     }
     Ok(())
+}
+
+#[test]
+fn a_panel_is_served_as_its_calls_go(rt: HostRuntime) -> Result<(), Fail> {
+    let plant = plant_of(rt.alloc(), BENCH)?;
+    Ok(all_serve_so(&rt, rt.alloc(), &plant)?)
 }

@@ -9,12 +9,14 @@ use super::{ANSWER, INTERROGATE};
 use crate::holding_gate::HoldingGate;
 use crate::in_memory::Call::{Line, Link, Opening, Read, Write};
 use crate::in_memory::{Failing, NOTHING, first_written, front, link_of, listed, trace_of};
+use crate::studio::plant_of;
 use ctl_io::MemSink;
 use ctl_net::{ClosedAcceptor, Gate, MemAcceptor, MemNet, MemPort, OpenGate};
 use panel_server::{PlantDone, ServeFault, serve};
 use plant_config::Plant;
 use plant_names::Names;
 use std::alloc::{AllocError, Global};
+use std::process::Abort;
 use std::sync::Wait;
 use std::test::Fail;
 use std::thread::Threads;
@@ -178,25 +180,37 @@ fn serves_so<R: Threads + Wait + Sync>(
     plant: &Plant,
     case: &Case,
 ) -> Result<bool, AllocError> {
-    let (day, failing, told, written, traced) = *case;
+    let (day, failing, told, _, traced) = *case;
     let mut net = net_of(alloc, day, failing)?;
     let found = served(rt, alloc, plant, &mut net, &OpenGate, failing)?;
+    Ok(found == (told, traced) && is_left_so(&net, case))
+}
+
+// Whether a net is left as a case says.
+fn is_left_so(net: &MemNet, case: &Case) -> bool {
+    let (day, _, _, [first, second], _) = *case;
     let back = net.acceptors_back();
-    Ok(
-        found == (told, traced)
-            && back.len() == net.openings().len().min(2)
-            && written_to(back, 0) == front(day.answer, written[0])
-            && written_to(back, 1) == front(day.answer, written[1]),
-    )
+    back.len() == net.openings().len().min(2)
+        && written_to(back, 0) == front(day.answer, first)
+        && written_to(back, 1) == front(day.answer, second)
+}
+
+// A plant is served as each case says.
+fn all_serve_so<R: Threads + Wait + Sync + Abort>(
+    rt: &R,
+    alloc: Global,
+    plant: &Plant,
+) -> Result<(), AllocError> {
+    for (at, case) in CASES.iter().enumerate() {
+        assert!(rt; serves_so(rt, alloc, plant, case)?, "case {at}");
+    }
+    Ok(())
 }
 
 #[test]
 fn a_plant_is_served_as_its_calls_go(rt: HostRuntime) -> Result<(), Fail> {
-    let plant = Plant::from_toml(rt.alloc(), HASTY)?;
-    for (at, case) in CASES.iter().enumerate() {
-        assert!(rt; serves_so(&rt, rt.alloc(), &plant, case)?, "case {at}");
-    }
-    Ok(())
+    let plant = plant_of(rt.alloc(), HASTY)?;
+    Ok(all_serve_so(&rt, rt.alloc(), &plant)?)
 }
 
 // Whether both panels are served, one of which is held until the other one is done.
@@ -215,9 +229,8 @@ fn serves_both<R: Threads + Wait + Sync>(
 // Panels that were served one after another would make the gate give up in one of the two.
 #[test]
 fn panels_are_served_at_the_same_time(rt: HostRuntime) -> Result<(), Fail> {
-    let plant = Plant::from_toml(rt.alloc(), HASTY)?;
-    for held in [0, 1] {
-        assert!(rt; serves_both(&rt, rt.alloc(), &plant, held)?);
-    }
+    let plant = plant_of(rt.alloc(), HASTY)?;
+    assert!(rt; serves_both(&rt, rt.alloc(), &plant, 0)?);
+    assert!(rt; serves_both(&rt, rt.alloc(), &plant, 1)?);
     Ok(())
 }

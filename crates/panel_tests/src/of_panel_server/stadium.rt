@@ -4,8 +4,11 @@ ghost use Rattle.std.specs.Prelude.{◌<◌, ◌≡◌, IfOk, length};
 ghost use Rattle.ctl_net.specs.MemAcceptor.{AreNewLinks, IsNewAcceptor};
 ghost use Rattle.ctl_net.specs.MemLink.{IsNewLink};
 
-use ctl_io::{Bytes, MemSink};
-use ctl_net::{LinkEvent, MemAcceptor, MemLink, MemNet, MemPort, OpenGate};
+use crate::examples::of_trace_audit::is_confirmed;
+use crate::in_memory::event_of;
+use crate::studio::plant_of;
+use ctl_io::MemSink;
+use ctl_net::{MemAcceptor, MemLink, MemNet, MemPort, OpenGate};
 use drill::stream;
 use panel_server::{PlantDone, ServeFault, serve};
 use plant_config::Plant;
@@ -14,7 +17,6 @@ use std::alloc::{AllocError, Global};
 use std::sync::Wait;
 use std::test::Fail;
 use std::thread::Threads;
-use trace_audit::{Verdict, audit};
 
 // Eight panels, and two screens of displays.
 const STADIUM: &[u8] = br#"
@@ -44,7 +46,7 @@ fn cut_link(alloc: Global, bytes: &[u8], most: usize) -> Result<MemLink, AllocEr
 {
     let mut events = Vec::new(alloc);
     for piece in bytes.chunks(most) {
-        events.push(LinkEvent::Piece(Bytes::of(piece.to_vec(alloc)?)))?;
+        events.push(event_of(alloc, piece)?)?;
     }
     MemLink::new(alloc, events, 100_000, Vec::new(alloc), Vec::new(alloc))
 }
@@ -99,37 +101,45 @@ fn long_traces(alloc: Global, count: usize) -> Result<Vec<MemSink>, AllocError>
     Ok(traces)
 }
 
-// What came of serving a plant over a net, with the traces.
+// What came of a day of the stadium, with its traces.
 fn served<R: Threads + Wait + Sync>(
     rt: &R,
     alloc: Global,
     plant: &Plant,
-    net: &mut MemNet,
 ) -> Result<(Vec<MemSink>, Result<PlantDone, ServeFault>), AllocError> {
     let names = Names::new(alloc, plant)?;
     let traces = long_traces(alloc, plant.panels().len() + 1)?;
-    Ok(serve(rt, alloc, plant, &names, net, &OpenGate, traces))
+    let mut net = day_of(alloc)?;
+    Ok(serve(rt, alloc, plant, &names, &mut net, &OpenGate, traces))
 }
 
 // What traces have, one behind the other.
-fn joined(alloc: Global, traces: &[MemSink]) -> Result<Vec<u8>, AllocError> {
-    let mut all = Vec::new(alloc);
+fn join(traces: &[MemSink], all: &mut Vec<u8>) -> Result<(), AllocError> {
     for trace in traces {
         all.extend_from_slice(trace.written())?;
     }
-    Ok(all)
+    Ok(())
+}
+
+// What came of a day of the stadium, whose traces are joined.
+fn joined<R: Threads + Wait + Sync>(
+    rt: &R,
+    alloc: Global,
+    plant: &Plant,
+    all: &mut Vec<u8>,
+) -> Result<PlantDone, Fail> {
+    let (traces, answer) = served(rt, alloc, plant)?;
+    join(&traces, all)?;
+    Ok(answer?)
 }
 
 #[test]
 fn the_traces_of_a_day_are_confirmed(rt: HostRuntime) -> Result<(), Fail> {
-    let alloc = rt.alloc();
-    let plant = Plant::from_toml(alloc, STADIUM)?;
-    let mut net = day_of(alloc)?;
-    let (traces, answer) = served(&rt, alloc, &plant, &mut net)?;
-    let done = answer?;
-    assert_eq!(rt; done.sessions, 24);
-    assert!(rt; done.limits == 0 && done.net_faults == 1 && done.trace_faults == 0);
-    let found = audit(alloc, &plant, joined(alloc, traces.as_slice())?.as_slice())?;
-    assert!(rt; matches!(found, Verdict::Confirmed(count) if count == done.entries));
+    let mut all = Vec::new(rt.alloc());
+    let plant = plant_of(rt.alloc(), STADIUM)?;
+    let done = joined(&rt, rt.alloc(), &plant, &mut all)?;
+    assert!(rt; done.sessions == 24 && done.limits == 0);
+    assert!(rt; done.net_faults == 1 && done.trace_faults == 0);
+    assert!(rt; is_confirmed(rt.alloc(), &plant, &all, done.entries)?);
     Ok(())
 }

@@ -1,4 +1,4 @@
-//! What panels send, and what they are sent.
+//! What panels send, and what they are sent. Each day begins with new sessions on a new board.
 
 // A line: the panel, what it sends, and what it is sent.
 pub(super) type Line = (u32, &'static str, &'static str);
@@ -13,11 +13,8 @@ const CONNECT_5: &str = "10 02 02 00 00 05 03 05 F1 10 03";
 
 const CONNECTED_5: &str = "10 02 04 00 00 05 03 05 EF 10 03";
 
-// Each begins with new sessions on a new board.
-pub(super) const DAYS: &[&[Line]] = &[FRAMES, REPEATS, NOTICES];
-
 // One panel, one frame a line.
-const FRAMES: &[Line] = &[
+pub(super) const FRAMES: &[Line] = &[
     (0, INTERROGATE_5, ANSWER_5),
     (0, CONNECT_5, "10 06 10 02 04 00 00 05 03 05 EF 10 03"),
     (0, INTERROGATE_5, "10 06 10 02 03 00 00 05 03 05 F0 10 03"),
@@ -81,7 +78,7 @@ const FRAMES: &[Line] = &[
 ];
 
 // A NAK is answered five times by the last message frame, and the count begins anew with each frame.
-const REPEATS: &[Line] = &[
+pub(super) const REPEATS: &[Line] = &[
     (0, "10 15", ""),
     (0, INTERROGATE_5, ANSWER_5),
     (0, "10 15", PARKED_5),
@@ -103,7 +100,7 @@ const REPEATS: &[Line] = &[
 ];
 
 // A change is told to the other panel, once, and may be repeated.
-const NOTICES: &[Line] = &[
+pub(super) const NOTICES: &[Line] = &[
     (0, CONNECT_5, "10 06 10 02 04 00 00 05 03 05 EF 10 03"),
     (1, "", CONNECTED_5),
     (1, "", ""),

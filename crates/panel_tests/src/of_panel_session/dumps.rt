@@ -4,10 +4,11 @@ ghost use Rattle.std.specs.Prelude.{◌≤◌, length};
 
 use super::board::Board;
 use super::turn;
+use crate::studio::plant_of;
 use panel_session::Session;
 use plant_config::{PanelNo, Plant};
 use plant_names::Names;
-use std::alloc::Global;
+use std::alloc::{AllocError, Global};
 use std::test::Fail;
 
 const LARGE: &[u8] = br#"
@@ -30,36 +31,44 @@ const NAK: &[u8] = b"\x10\x15";
 // The last page, of two destinations.
 const LAST: &[u8] = b"\x10\x02\x17\x02\x02\x00\x80\x03\xFF\x03\xFF\x09\x58\x10\x03";
 
-// What a new session of a plant sends for the dump and then for a NAK.
-fn dumped(alloc: Global, plant: &Plant) -> Result<(Vec<u8>, Vec<u8>), Fail>
+// What a session sends for the dump, and then for a NAK: how many bytes, how they end, and all that is sent again.
+type Told = (usize, &'static [u8], &'static [u8]);
+
+// Whether a session sends that.
+fn sends_so(
+    alloc: Global,
+    session: &mut Session<'_>,
+    (count, end, again): Told,
+) -> Result<bool, AllocError> {
+    let mut board = Board::new();
+    let (mut pages, mut last) = (Vec::new(alloc), Vec::new(alloc));
+    turn(alloc, session, &mut board, DUMP, &mut pages)?;
+    turn(alloc, session, &mut board, NAK, &mut last)?;
+    Ok(pages.len() == count && pages.as_slice().ends_with(end) && last.as_slice() == again)
+}
+
+// Whether a new session of a plant does.
+fn is_dumped_so(alloc: Global, plant: &Plant, told: Told) -> Result<bool, AllocError>
     requires { 1 ≤ length plant.now.panels }
 {
     let names = Names::new(alloc, plant)?;
     let mut session = Session::start(alloc, plant, &names, PanelNo::of(0))?;
-    let mut board = Board::new();
-    let pages = turn(alloc, &mut session, &mut board, DUMP)?;
-    Ok((pages, turn(alloc, &mut session, &mut board, NAK)?))
+    sends_so(alloc, &mut session, told)
 }
 
-// They come in pages of 64, 64 and 2, of which a NAK repeats the last one.
+// They come in pages of 64, 64 and 2, of which a NAK repeats the last one. Before them comes the ACK. Each page has 5 bytes and
+// 2 for each destination, their length and check byte, and 4 of the frame.
 #[test]
 fn a_dump_comes_in_pages_of_64(rt: HostRuntime) -> Result<(), Fail> {
-    let alloc = rt.alloc();
-    let large = Plant::from_toml(alloc, LARGE)?;
-    let (pages, last) = dumped(alloc, &large)?;
-    // The ACK, and each page: 5 bytes and 2 for each destination, their length and check byte, and 4 of the frame.
-    assert_eq!(rt; pages.len(), 295);
-    assert!(rt; pages.as_slice().ends_with(LAST));
-    assert_eq!(rt; last.as_slice(), LAST);
+    let large = plant_of(rt.alloc(), LARGE)?;
+    assert!(rt; is_dumped_so(rt.alloc(), &large, (295, LAST, LAST))?);
     Ok(())
 }
 
-// No step of the bench plant has as many answers: there is no room for them, and none is sent.
+// No step of the bench plant has as many answers: there is no room for them, and none is sent behind the ACK.
 #[test]
 fn a_dump_without_room_is_not_sent(rt: HostRuntime) -> Result<(), Fail> {
-    let alloc = rt.alloc();
-    let bench = Plant::bench(alloc)?;
-    let (none, again) = dumped(alloc, &bench)?;
-    assert_eq!(rt; (none.as_slice(), again.len()), (b"\x10\x06".as_slice(), 0));
+    let bench = Plant::bench(rt.alloc())?;
+    assert!(rt; is_dumped_so(rt.alloc(), &bench, (2, b"\x10\x06", b""))?);
     Ok(())
 }

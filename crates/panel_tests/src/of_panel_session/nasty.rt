@@ -2,10 +2,8 @@
 
 use super::streams::{ANSWER, ASK, PARKED, Run, bytes_of, is_answered};
 use panel_session::Session;
-use plant_config::{PanelNo, Plant};
-use plant_names::Names;
 use std::alloc::{AllocError, Global};
-use std::test::Fail;
+use std::process::Abort;
 
 // How often a stream repeats what its kind repeats: odd and even, as many bytes as a frame has at most and one more, lengths
 // whose length byte or check byte is a DLE, and one that is long.
@@ -126,25 +124,33 @@ fn goes_so(
     kind: &Kind,
     length: usize,
     (behind, runs): (&'static [u8], &[Run]),
-) -> Result<bool, Fail> {
+) -> Result<bool, AllocError> {
     let stream = stream_of(alloc, kind, length, behind)?;
     let wanted = wanted_of(alloc, runs)?;
     is_answered(alloc, session, &stream, &wanted)
 }
 
-#[test]
-fn no_stream_brings_a_session_out_of_step(rt: HostRuntime) -> Result<(), Fail> {
-    let alloc = rt.alloc();
-    let plant = Plant::bench(alloc)?;
-    let names = Names::new(alloc, &plant)?;
-    let mut session = Session::start(alloc, &plant, &names, PanelNo::of(0))?;
+// A session is sent what the streams of a kind want.
+fn is_answered_so(
+    rt: &impl Abort,
+    alloc: Global,
+    session: &mut Session<'_>,
+    kind: &Kind,
+) -> Result<(), AllocError> {
+    for (length, row) in LENGTHS.iter().zip(&kind.behind) {
+        assert!(rt; goes_so(alloc, session, kind, *length, *row)?, "{length}");
+    }
+    Ok(())
+}
+
+// A session is sent what the streams of all kinds want.
+pub(super) fn are_all_answered(
+    rt: &impl Abort,
+    alloc: Global,
+    session: &mut Session<'_>,
+) -> Result<(), AllocError> {
     for kind in &KINDS {
-        for (length, row) in LENGTHS.iter().zip(&kind.behind) {
-            assert!(rt;
-                goes_so(alloc, &mut session, kind, *length, *row)?,
-                "{length}"
-            );
-        }
+        is_answered_so(rt, alloc, session, kind)?;
     }
     Ok(())
 }

@@ -4,12 +4,13 @@ ghost use Rattle.std.specs.Prelude.{IfSome};
 ghost use Rattle.panel_session.specs.DisplayPacket.{MayShow};
 
 use super::bytes_of;
-use crate::studio::STUDIO;
+use crate::studio::{STUDIO, plant_of};
 use change_boards::Value;
 use panel_session::display_packet;
 use plant_config::{DisplayId, Plant, SourceId};
 use plant_core::Answer;
 use std::alloc::{AllocError, Global};
+use std::process::Abort;
 use std::test::Fail;
 
 // A display and what it shows: the source, whether that is on air, and whether on preview.
@@ -124,11 +125,16 @@ fn are_told(alloc: Global, plant: &Plant, row: &Row) -> Result<bool, Fail> {
     Ok(told.as_slice() == bytes_of(alloc, wanted)?.as_slice())
 }
 
-#[test]
-fn lamps_are_told_in_one_packet(rt: HostRuntime) -> Result<(), Fail> {
-    let plant = Plant::from_toml(rt.alloc(), STUDIO)?;
+// The lamps of each row are told so.
+fn all_are_told(rt: &impl Abort, alloc: Global, plant: &Plant) -> Result<(), Fail> {
     for (at, row) in ROWS.iter().enumerate() {
-        assert!(rt; are_told(rt.alloc(), &plant, row)?, "row {at}");
+        assert!(rt; are_told(alloc, plant, row)?, "row {at}");
     }
     Ok(())
+}
+
+#[test]
+fn lamps_are_told_in_one_packet(rt: HostRuntime) -> Result<(), Fail> {
+    let plant = plant_of(rt.alloc(), STUDIO)?;
+    all_are_told(&rt, rt.alloc(), &plant)
 }

@@ -3,8 +3,10 @@
 ghost use Rattle.std.specs.Prelude.{◌≡◌, ◌^◌, ◌≤◌, IfOk};
 ghost use Rattle.panel_server.specs.Seats.{IsSeatOf};
 
+use crate::examples::of_panel_server::locked;
 use crate::in_memory::Call::{Line, Read, Write};
-use crate::in_memory::{Failing, NOTHING, front, link_of, locked, trace_of};
+use crate::in_memory::{Failing, NOTHING, front, link_of, trace_of};
+use crate::studio::plant_of;
 use ctl_io::MemSink;
 use ctl_net::MemLink;
 use history_lock::{HistoryLock, Seat};
@@ -13,6 +15,7 @@ use plant_config::{PanelNo, Plant};
 use plant_core::PlantState;
 use plant_names::Names;
 use std::alloc::{AllocError, Global};
+use std::process::Abort;
 use std::sync::Wait;
 use std::test::Fail;
 
@@ -139,16 +142,19 @@ fn serve_alone<R: Wait>(
 
 // Whether a session goes as a case says.
 fn goes_so<R: Wait>(rt: &R, alloc: Global, plant: &Plant, case: &Case) -> Result<bool, AllocError> {
-    let (day, failing, turns, wanted, written, traced) = *case;
+    let (day, failing, turns, wanted, _, _) = *case;
     let mut link = link_of(alloc, day.pieces, failing)?;
     let mut trace = trace_of(alloc, failing, 0)?;
     let end = serve_alone(rt, alloc, plant, &mut link, &mut trace, turns)?;
-    Ok(
-        end == wanted
-            && counts(&link, &trace) == faults_of(wanted)
-            && link.written() == front(day.written, written)
-            && trace.written() == front(day.traced, traced),
-    )
+    Ok(end == wanted && went_so(&link, &trace, case))
+}
+
+// Whether link and trace are left as a case says.
+fn went_so(link: &MemLink, trace: &MemSink, case: &Case) -> bool {
+    let (day, _, _, end, written, traced) = *case;
+    counts(link, trace) == faults_of(end)
+        && link.written() == front(day.written, written)
+        && trace.written() == front(day.traced, traced)
 }
 
 // How many reads, writes and writes of the trace failed.
@@ -165,17 +171,22 @@ fn faults_of(end: SessionEnd) -> (u64, u64, u64) {
     )
 }
 
-// Each call outside fails in turn, and idle reads end a session.
-#[test]
-fn a_session_goes_as_its_calls_go(rt: HostRuntime) -> Result<(), Fail> {
-    let plant = Plant::from_toml(rt.alloc(), HASTY)?;
+// A session goes as each case says.
+fn all_go_so<R: Wait + Abort>(rt: &R, alloc: Global, plant: &Plant) -> Result<(), AllocError> {
     for (at, case) in CASES.iter().enumerate() {
-        assert!(rt; goes_so(&rt, rt.alloc(), &plant, case)?, "case {at}");
+        assert!(rt; goes_so(rt, alloc, plant, case)?, "case {at}");
     }
     Ok(())
 }
 
-// What a new session of panel 0 is sent that sends one piece.
+// Each call outside fails in turn, and idle reads end a session.
+#[test]
+fn a_session_goes_as_its_calls_go(rt: HostRuntime) -> Result<(), Fail> {
+    let plant = plant_of(rt.alloc(), HASTY)?;
+    Ok(all_go_so(&rt, rt.alloc(), &plant)?)
+}
+
+// What a new session of panel 0 is sent that sends one piece comes behind what was sent before.
 fn said<R: Wait>(
     rt: &R,
     alloc: Global,
@@ -183,30 +194,35 @@ fn said<R: Wait>(
     lock: &HistoryLock<PlantState>,
     seat: &mut Seat<PlantState>,
     piece: &[u8],
-) -> Result<Vec<u8>, AllocError>
+    all: &mut Vec<u8>,
+) -> Result<(), AllocError>
     requires seat { IsSeatOf plant.now lock.now seat.old }
-    ensures { IfOk result (λ all. IsSeatOf plant.now lock.now seat.new) }
+    ensures { IfOk result (λ _. IsSeatOf plant.now lock.now seat.new) }
 {
     let mut link = link_of(alloc, &[piece], NOTHING)?;
     let mut trace = trace_of(alloc, NOTHING, 0)?;
     let _ended = serve(rt, alloc, plant, lock, seat, &mut link, &mut trace, 10)?;
-    link.written().to_vec(alloc)
+    all.extend_from_slice(link.written())
 }
 
 // What two sessions of panel 0 are sent, one after the other over one lock.
-fn said_to_both<R: Wait>(rt: &R, alloc: Global, plant: &Plant) -> Result<Vec<u8>, AllocError> {
+fn said_to_both<R: Wait>(
+    rt: &R,
+    alloc: Global,
+    plant: &Plant,
+    all: &mut Vec<u8>,
+) -> Result<(), AllocError> {
     let (lock, mut seat) = locked(alloc, plant)?;
-    let mut all = said(rt, alloc, plant, &lock, &mut seat, CONNECT_5)?;
-    let more = said(rt, alloc, plant, &lock, &mut seat, INTERROGATE_5)?;
-    all.extend_from_slice(&more)?;
-    Ok(all)
+    said(rt, alloc, plant, &lock, &mut seat, CONNECT_5, all)?;
+    said(rt, alloc, plant, &lock, &mut seat, INTERROGATE_5, all)
 }
 
 // What the first session connects the second is told.
 #[test]
 fn a_second_session_meets_the_same_plant(rt: HostRuntime) -> Result<(), Fail> {
+    let mut all = Vec::new(rt.alloc());
     let plant = Plant::bench(rt.alloc())?;
-    let all = said_to_both(&rt, rt.alloc(), &plant)?;
-    assert_eq!(rt; all.as_slice(), CARRIED);
+    said_to_both(&rt, rt.alloc(), &plant, &mut all)?;
+    assert!(rt; all.as_slice() == CARRIED);
     Ok(())
 }

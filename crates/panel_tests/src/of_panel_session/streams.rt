@@ -3,10 +3,8 @@
 use super::board::Board;
 use super::turn;
 use panel_session::Session;
-use plant_config::{PanelNo, Plant};
-use plant_names::Names;
 use std::alloc::{AllocError, Global};
-use std::test::Fail;
+use std::process::Abort;
 
 // Bytes, and how often they stand there.
 pub(super) type Run = (&'static [u8], usize);
@@ -135,42 +133,47 @@ fn are_answered(
     session: &mut Session<'_>,
     (first, second): (&[u8], &[u8]),
     wanted: &[u8],
-) -> Result<bool, Fail> {
+) -> Result<bool, AllocError> {
     let mut board = Board::new();
     session.reset();
-    let mut sent = turn(alloc, session, &mut board, first)?;
-    sent.extend_from_slice(&turn(alloc, session, &mut board, second)?)?;
+    let mut sent = Vec::new(alloc);
+    turn(alloc, session, &mut board, first, &mut sent)?;
+    turn(alloc, session, &mut board, second, &mut sent)?;
     Ok(sent.as_slice() == wanted)
 }
 
-// The first place where a stream is cut in two and isn't answered so, its start among them, which is a cut behind an idle
-// read. A stream of more than 500 bytes is cut nowhere else.
-fn first_cut(
+// Whether a stream is answered so wherever it is cut in two, its start among these places, which is a cut behind an idle read.
+// A stream of more than 500 bytes is cut nowhere else.
+fn is_answered_in_two(
     alloc: Global,
     session: &mut Session<'_>,
     stream: &[u8],
     wanted: &[u8],
-) -> Result<Option<usize>, Fail> {
+) -> Result<bool, AllocError> {
     for at in 0..stream.len() {
         if !are_answered(alloc, session, stream.split_at(at), wanted)? {
-            return Ok(Some(at));
+            return Ok(false);
         }
         if stream.len() > 500 {
             break;
         }
     }
-    Ok(None)
+    Ok(true)
 }
 
 // What a session that is made anew is sent where a panel sends a stream byte by byte.
-fn in_bytes(alloc: Global, session: &mut Session<'_>, stream: &[u8]) -> Result<Vec<u8>, Fail> {
+fn in_bytes(
+    alloc: Global,
+    session: &mut Session<'_>,
+    stream: &[u8],
+    sent: &mut Vec<u8>,
+) -> Result<(), AllocError> {
     let mut board = Board::new();
     session.reset();
-    let mut sent = Vec::new(alloc);
     for byte in stream.chunks(1) {
-        sent.extend_from_slice(&turn(alloc, session, &mut board, byte)?)?;
+        turn(alloc, session, &mut board, byte, sent)?;
     }
-    Ok(sent)
+    Ok(())
 }
 
 // Whether a session that is made anew each time is sent this for a stream, however that is cut.
@@ -179,11 +182,10 @@ pub(super) fn is_answered(
     session: &mut Session<'_>,
     stream: &[u8],
     wanted: &[u8],
-) -> Result<bool, Fail> {
-    Ok(
-        first_cut(alloc, session, stream, wanted)?.is_none()
-            && in_bytes(alloc, session, stream)?.as_slice() == wanted,
-    )
+) -> Result<bool, AllocError> {
+    let mut sent = Vec::new(alloc);
+    in_bytes(alloc, session, stream, &mut sent)?;
+    Ok(sent.as_slice() == wanted && is_answered_in_two(alloc, session, stream, wanted)?)
 }
 
 // Whether a session is sent what a stream of the table wants.
@@ -191,20 +193,20 @@ fn goes_so(
     alloc: Global,
     session: &mut Session<'_>,
     (stream, wanted): (&[Run], &[Run]),
-) -> Result<bool, Fail> {
+) -> Result<bool, AllocError> {
     let stream = bytes_of(alloc, stream)?;
     let wanted = bytes_of(alloc, wanted)?;
     is_answered(alloc, session, &stream, &wanted)
 }
 
-#[test]
-fn streams_are_answered_however_they_are_cut(rt: HostRuntime) -> Result<(), Fail> {
-    let alloc = rt.alloc();
-    let plant = Plant::bench(alloc)?;
-    let names = Names::new(alloc, &plant)?;
-    let mut session = Session::start(alloc, &plant, &names, PanelNo::of(0))?;
+// A session is sent what each stream of the table wants.
+pub(super) fn are_all_answered(
+    rt: &impl Abort,
+    alloc: Global,
+    session: &mut Session<'_>,
+) -> Result<(), AllocError> {
     for (at, row) in STREAMS.iter().enumerate() {
-        assert!(rt; goes_so(alloc, &mut session, *row)?, "stream {at}");
+        assert!(rt; goes_so(alloc, session, *row)?, "stream {at}");
     }
     Ok(())
 }

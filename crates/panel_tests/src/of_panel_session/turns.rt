@@ -8,6 +8,7 @@ ghost use Rattle.plant_core.specs.declared.answer.Answer.TheVariants.{Say};
 ghost use Rattle.plant_core.specs.declared.request.Request.TheVariants.{Told, Poll, Leave};
 ghost use Rattle.plant_core.specs.declared.request.Request.TheVariants.{DisplayPoll};
 
+use super::bench;
 use super::board::put;
 use history_lock::{Machine, OutBox};
 use panel_session::{Outlet, Session, run_turn};
@@ -119,14 +120,19 @@ fn worked(alloc: Global, plant: &Plant, names: &Names, at_once: bool) -> Result<
     Ok(out)
 }
 
+// Whether it is given what the turn sends.
+fn is_given(alloc: Global, plant: &Plant, names: &Names, at_once: bool) -> Result<bool, AllocError>
+    requires panels { 1 ≤ length plant.now.panels }
+    requires names { names.now ≡ plant.now }
+{
+    let given = worked(alloc, plant, names, at_once)?;
+    Ok(given.bytes.as_slice() == SENT && !given.lost)
+}
+
 #[test]
 fn an_outlet_is_given_what_a_turn_sends(rt: HostRuntime) -> Result<(), Fail> {
-    let alloc = rt.alloc();
-    let plant = Plant::bench(alloc)?;
-    let names = Names::new(alloc, &plant)?;
-    for at_once in [false, true] {
-        let given = worked(alloc, &plant, &names, at_once)?;
-        assert_eq!(rt; (given.bytes.as_slice(), given.lost), (SENT, false));
-    }
+    let (plant, names) = bench(rt.alloc())?;
+    assert!(rt; is_given(rt.alloc(), &plant, &names, false)?);
+    assert!(rt; is_given(rt.alloc(), &plant, &names, true)?);
     Ok(())
 }

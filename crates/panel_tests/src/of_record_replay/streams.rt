@@ -1,12 +1,14 @@
 //! What a replay sends to a port of the displays, and what a recording of a stream tells.
 
-use crate::studio::STUDIO;
+use crate::in_memory::front;
+use crate::studio::{STUDIO, plant_of};
 use ctl_io::MemSink;
 use ctl_net::MemPort;
 use plant_config::Plant;
 use plant_names::Names;
 use record_replay::{StreamedFault, monitor_stream, replay_script_to};
 use std::alloc::{AllocError, Global};
+use std::process::Abort;
 use std::test::Fail;
 
 // Two displays, then one, then nothing new, and the end.
@@ -37,50 +39,77 @@ const STREAMS: &[(&[u8], &[u8])] = &[
     (b"", b""),
 ];
 
-// How a replay of the script to a port ends of which these sends fail: its answer, the output, and the packets.
+// How a replay of a script to a port ends.
 fn sent(
     alloc: Global,
     plant: &Plant,
-    failing: &[u64],
-) -> Result<(Result<(), StreamedFault>, MemSink, MemPort), AllocError> {
+    script: &[u8],
+    out: &mut MemSink,
+    port: &mut MemPort,
+) -> Result<Result<(), StreamedFault>, AllocError> {
     let names = Names::new(alloc, plant)?;
+    let ended = replay_script_to(alloc, plant, &names, script, out, port);
+    Ok(ended)
+}
+
+// How a replay of the script ends; and what it tells, which packets go, and how long they are.
+type Told = (
+    Result<(), StreamedFault>,
+    &'static [u8],
+    &'static [u8],
+    &'static [usize],
+);
+
+// Whether it goes so if these sends fail.
+fn goes_so(
+    alloc: Global,
+    plant: &Plant,
+    failing: &[u64],
+    (ended, told, packets, lengths): Told,
+) -> Result<bool, AllocError> {
     let mut out = MemSink::new(alloc, 1000, Vec::new(alloc))?;
     let mut port = MemPort::new(alloc, 100, failing.to_vec(alloc)?)?;
-    let ended = replay_script_to(alloc, plant, &names, SCRIPT, &mut out, &mut port);
-    Ok((ended, out, port))
+    let so = sent(alloc, plant, SCRIPT, &mut out, &mut port)? == ended;
+    Ok(so && out.written() == told && port.bytes() == packets && port.lengths() == lengths)
 }
 
 #[test]
 fn packets_are_sent_to_a_port(rt: HostRuntime) -> Result<(), Fail> {
-    let alloc = rt.alloc();
-    let studio = Plant::from_toml(alloc, STUDIO)?;
-    let (ended, out, port) = sent(alloc, &studio, &[])?;
-    assert_eq!(rt; ended, Ok(()));
-    assert_eq!(rt; out.written(), TOLD);
-    assert_eq!(rt; port.bytes(), PACKETS);
-    assert_eq!(rt; port.lengths(), [18, 16].as_slice());
+    let studio = plant_of(rt.alloc(), STUDIO)?;
+    let told = (Ok(()), TOLD, PACKETS, [18, 16].as_slice());
+    assert!(rt; goes_so(rt.alloc(), &studio, &[], told)?);
     Ok(())
 }
 
+// The lines before the failed send stay.
 #[test]
 fn a_failed_send_ends_a_replay(rt: HostRuntime) -> Result<(), Fail> {
-    let alloc = rt.alloc();
-    let studio = Plant::from_toml(alloc, STUDIO)?;
-    let (ended, out, port) = sent(alloc, &studio, &[1])?;
-    assert_eq!(rt; ended, Err(StreamedFault::PortFault));
-    // The lines before stay.
-    assert_eq!(rt; out.written(), &TOLD[..103]);
-    assert_eq!(rt; port.bytes(), &PACKETS[..18]);
+    let studio = plant_of(rt.alloc(), STUDIO)?;
+    let told = (
+        Err(StreamedFault::PortFault),
+        front(TOLD, 103),
+        front(PACKETS, 18),
+        [18].as_slice(),
+    );
+    assert!(rt; goes_so(rt.alloc(), &studio, &[1], told)?);
+    Ok(())
+}
+
+// Whether a recording of a stream tells this.
+fn is_told(alloc: Global, stream: &[u8], text: &[u8]) -> Result<bool, AllocError> {
+    let mut out = MemSink::new(alloc, 200, Vec::new(alloc))?;
+    Ok(monitor_stream(alloc, stream, &mut out) == Ok(()) && out.written() == text)
+}
+
+// Each stream of the table tells its text.
+fn are_all_told(rt: &impl Abort, alloc: Global) -> Result<(), AllocError> {
+    for (stream, text) in STREAMS {
+        assert!(rt; is_told(alloc, stream, text)?);
+    }
     Ok(())
 }
 
 #[test]
 fn streams_are_told_in_lines(rt: HostRuntime) -> Result<(), Fail> {
-    let alloc = rt.alloc();
-    for (stream, text) in STREAMS {
-        let mut out = MemSink::new(alloc, 200, Vec::new(alloc))?;
-        assert_eq!(rt; monitor_stream(alloc, stream, &mut out), Ok(()));
-        assert_eq!(rt; out.written(), *text);
-    }
-    Ok(())
+    Ok(are_all_told(&rt, rt.alloc())?)
 }

@@ -1,7 +1,10 @@
 //! The reader of a line.
 
+use crate::studio::plant_of;
 use plant_config::{PanelNo, Plant};
 use plant_core::Request;
+use std::alloc::{AllocError, Global};
+use std::process::Abort;
 use std::test::Fail;
 use swp08_messages::{Message, Point};
 use trace_audit::trace_request;
@@ -41,58 +44,45 @@ const CONNECT: Message = Message::Connect {
 
 // Each form of a line with the greatest numbers, and each form of a reply. The reply isn't held to the request: whether it is
 // the plant's own is for others to find.
+fn are_read(rt: &impl Abort, plant: &Plant) {
+    let panel = PanelNo::of(1);
+    let told = Request::Told {
+        panel,
+        at: LIMIT,
+        message: CONNECT,
+    };
+    let line = b"0 told 1 4611686018427387904 0200000503 = 1002040000050305EF1003";
+    assert!(rt; trace_request(plant, line) == Some((0, told)));
+    let poll = Request::Poll {
+        panel,
+        at: 0,
+        turn: LIMIT,
+    };
+    let line = b"10 poll 1 0 4611686018427387904 = finished";
+    assert!(rt; trace_request(plant, line) == Some((10, poll)));
+    let left = Request::Leave { panel };
+    let line = b"4611686018427387904 leave 1 = -";
+    assert!(rt; trace_request(plant, line) == Some((LIMIT, left)));
+}
+
+fn shows_are_read(rt: &impl Abort, plant: &Plant) {
+    let show = Request::DisplayPoll {
+        screen: 65534,
+        refresh: false,
+    };
+    assert!(rt; trace_request(plant, b"3 show 65534 0 = 0E00") == Some((3, show)));
+    let refresh = Request::DisplayPoll {
+        screen: 65534,
+        refresh: true,
+    };
+    assert!(rt; trace_request(plant, b"4 show 65534 1 = -") == Some((4, refresh)));
+}
+
 #[test]
 fn each_form_of_a_line_is_read(rt: HostRuntime) -> Result<(), Fail> {
-    let plant = Plant::from_toml(rt.alloc(), HALL)?;
-    let panel = PanelNo::of(1);
-    let rows: [(&[u8], u64, Request); 5] = [
-        (
-            b"0 told 1 4611686018427387904 0200000503 = 1002040000050305EF1003",
-            0,
-            Request::Told {
-                panel,
-                at: LIMIT,
-                message: CONNECT,
-            },
-        ),
-        (
-            b"10 poll 1 0 4611686018427387904 = finished",
-            10,
-            Request::Poll {
-                panel,
-                at: 0,
-                turn: LIMIT,
-            },
-        ),
-        (
-            b"4611686018427387904 leave 1 = -",
-            LIMIT,
-            Request::Leave { panel },
-        ),
-        (
-            b"3 show 65534 0 = 0E00",
-            3,
-            Request::DisplayPoll {
-                screen: 65534,
-                refresh: false,
-            },
-        ),
-        (
-            b"4 show 65534 1 = -",
-            4,
-            Request::DisplayPoll {
-                screen: 65534,
-                refresh: true,
-            },
-        ),
-    ];
-    for (line, position, request) in rows {
-        assert_eq!(rt;
-            trace_request(&plant, line),
-            Some((position, request)),
-            "of {line:?}"
-        );
-    }
+    let plant = plant_of(rt.alloc(), HALL)?;
+    are_read(&rt, &plant);
+    shows_are_read(&rt, &plant);
     Ok(())
 }
 
@@ -129,28 +119,44 @@ const REFUSED: &[&[u8]] = &[
     b"0 leave 1 = -\r",
 ];
 
+fn are_refused(rt: &impl Abort, plant: &Plant) {
+    for line in REFUSED {
+        assert!(rt; trace_request(plant, line) == None, "of {line:?}");
+    }
+}
+
 #[test]
 fn other_lines_are_refused(rt: HostRuntime) -> Result<(), Fail> {
-    let plant = Plant::from_toml(rt.alloc(), HALL)?;
-    for line in REFUSED {
-        assert_eq!(rt; trace_request(&plant, line), None, "of {line:?}");
-    }
+    let plant = plant_of(rt.alloc(), HALL)?;
+    are_refused(&rt, &plant);
     Ok(())
+}
+
+// A line of so many bytes, most of them digits of its reply.
+fn long_line(alloc: Global, length: usize) -> Result<Vec<u8>, AllocError> {
+    let mut line = b"0 leave 1 = ".to_vec(alloc)?;
+    for _ in line.len()..length {
+        line.push(b'A')?;
+    }
+    Ok(line)
+}
+
+// What such a line tells.
+fn told_in(
+    alloc: Global,
+    plant: &Plant,
+    length: usize,
+) -> Result<Option<(u64, Request)>, AllocError> {
+    let line = long_line(alloc, length)?;
+    Ok(trace_request(plant, &line))
 }
 
 #[test]
 fn a_line_has_65536_bytes_at_most(rt: HostRuntime) -> Result<(), Fail> {
-    let plant = Plant::from_toml(rt.alloc(), HALL)?;
-    let mut line = b"10 leave 1 = ".to_vec(rt.alloc())?;
-    for _ in 0..65_524 {
-        line.push(b'A')?;
-    }
-    assert_eq!(rt; line.len(), 65_537);
+    let plant = plant_of(rt.alloc(), HALL)?;
     let panel = PanelNo::of(1);
-    assert_eq!(rt; trace_request(&plant, line.as_slice()), None);
-    assert_eq!(rt;
-        trace_request(&plant, &line.as_slice()[1..]),
-        Some((0, Request::Leave { panel }))
-    );
+    let left = Some((0, Request::Leave { panel }));
+    assert!(rt; told_in(rt.alloc(), &plant, 65_536)? == left);
+    assert!(rt; told_in(rt.alloc(), &plant, 65_537)? == None);
     Ok(())
 }
