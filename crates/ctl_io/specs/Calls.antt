@@ -3,7 +3,7 @@ use Rattle.std.specs.Prelude.{ℕ, ◌==◌, Bool, List}
 use Rattle.std.specs.List.{list_any}
 use Rattle.ctl_io.specs.Faults.{one_more, count_after, is_faulty}
 
--- The numbers, from 0, of the calls that fail, how many calls were made, and how many faults were count_after.
+-- The numbers, from 0, of the calls that fail, how many calls were made, and how many of these failed.
 pub record Calls : Type 0 where
   pub failing : List ℕ
   pub made : ℕ

@@ -5,18 +5,18 @@ use Rattle.dle_framing.specs.declared.item.Item.{Item}
 use Rattle.dle_framing.specs.declared.item.Item.TheVariants.{Good, Bad, Ack, Nak}
 
 -- A body is good where it has 3 to 257 bytes, its last byte but one is its length less 2, and its bytes sum to zero
--- modulo 256.
+-- modulo 256. [profile]
 abbrev pub is_good : List ℕ → Bool
 is_good body =
     nat_le least_body (length body) && nat_le (length body) most_body
     && (slice_index body (length body - 2) == length body - 2) && (sum body % 256 == 0)
 
--- the item of a complete frame: its DATA is the body without the length and the check byte
+-- the item of a complete frame: its DATA is the body without the length and the check byte [profile]
 abbrev pub item_of : List ℕ → Item (List ℕ)
 item_of body = if is_good body then Good (take (length body - 2) body) else Bad
 
 -- The longest run of pieces at the start of a text, a piece being a byte other than DLE, or a pair of DLE. `spelled` has
--- each pair made one byte, and `behind` is the text behind the run.
+-- each pair made one byte, and `behind` is the text behind the run. [SW-P-08]
 pub record Run : Type 0 where
   pub spelled : List ℕ
   pub behind : List ℕ
@@ -34,7 +34,7 @@ longest_run (a ∷ b ∷ text) =
     else record { spelled = []; behind = a ∷ b ∷ text })
     else with_piece a (longest_run (b ∷ text))
 
--- what a text says: its items, and the rest that is no whole item yet
+-- what a text says: its items, and the rest that is no whole item yet [profile]
 pub record TextReading : Type 0 where
   pub items : List (Item (List ℕ))
   pub rest : List ℕ
@@ -46,7 +46,7 @@ abbrev pub with_item : Item (List ℕ) → TextReading → TextReading
 with_item item reading = record reading { items = item ∷ reading.items }
 
 -- Behind DLE STX and a run of pieces: DLE ETX ends the frame and DLE STX starts the next one, where DLE and any other
--- byte abandon it. Where nothing or a lone DLE follows the run, all from DLE STX on is the rest.
+-- byte abandon it. Where nothing or a lone DLE follows the run, all from DLE STX on is the rest. [profile]
 abbrev pub in_frame : (List ℕ → TextReading) → List ℕ → Run → TextReading
 in_frame goes_on text run = elim run.behind [
   | [] ↦ only_rest (dle ∷ stx ∷ text)
@@ -60,7 +60,7 @@ in_frame goes_on text run = elim run.behind [
 ]
 
 -- The reading of a text by cases on its start, where `goes_on` is the reading of what is behind that start. A byte that
--- starts none of ACK, NAK and a frame is noise by itself.
+-- starts none of ACK, NAK and a frame is noise by itself. [profile]
 abbrev pub by_start : (List ℕ → TextReading) → List ℕ → TextReading
 by_start goes_on [] = only_rest []
 by_start goes_on (a ∷ []) = if a == dle then only_rest (a ∷ []) else only_rest []
@@ -72,19 +72,20 @@ by_start goes_on (a ∷ b ∷ text) =
     else goes_on (b ∷ text)
     ) else goes_on (b ∷ text)
 
--- Reading goes on at a shorter text each time, so as many steps as the text has bytes are enough.
+-- Reading goes on at a shorter text each time, so as many steps as the text has bytes are enough. [profile]
 abbrev pub reading_within : ℕ → List ℕ → TextReading
 reading_within zero text = only_rest text
 reading_within (suc steps) text = by_start (reading_within steps) text
 
 -- The reading of a text. It is `by_start reading`, a law that `reads_by_start` states; the steps only show that it ends.
+-- [profile]
 unfoldable pub reading : List ℕ → TextReading
 reading text = reading_within (length text) text
 
--- the items of a text
+-- the items of a text [profile]
 abbrev pub items : List ℕ → List (Item (List ℕ))
 items text = (reading text).items
 
--- the rest of a text that is no whole item yet
+-- the rest of a text that is no whole item yet [profile]
 abbrev pub rest : List ℕ → List ℕ
 rest text = (reading text).rest

@@ -6,7 +6,7 @@ use Rattle.dle_framing.specs.declared.framer.State.TheVariants.{Outside, Outside
 use Rattle.dle_framing.specs.Frame.{doubled}
 
 -- A state and the front of a body keep a rest: nothing, a DLE alone, or a frame that has started, maybe with a DLE at
--- its end. Of a frame's body so far they keep the first 258 bytes, which tell a good body from a longer one.
+-- its end. Of a frame's body so far they keep the first 258 bytes, which tell a good body from a longer one. [profile]
 abbrev pub Keeps : State → List ℕ → List ℕ → Type 0
 Keeps Outside front kept = kept ≡ []
 Keeps OutsideDle front kept = kept ≡ dle ∷ []

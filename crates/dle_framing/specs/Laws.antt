@@ -8,43 +8,43 @@ use Rattle.dle_framing.specs.Numbers.{most_frame}
 use Rattle.dle_framing.specs.Frame.{IsData, frame}
 use Rattle.dle_framing.specs.Items.{TextReading, by_start, items, reading, rest}
 
--- a way to read texts that reads each by its start, and what is behind that start in the same way
+-- a way to read texts that reads each by its start, and what is behind that start in the same way [profile]
 abbrev pub ReadsByStart : (List ℕ → TextReading) → Type 0
 ReadsByStart reads = (text : List ℕ) → reads text ≡ by_start reads text
 
--- whatever reads each text by its start reads it as `reading` does
+-- whatever reads each text by its start reads it as `reading` does [profile]
 abbrev pub OneReadsByStart : Type 0
 OneReadsByStart =
     (reads : List ℕ → TextReading) → ReadsByStart reads
     → (text : List ℕ) → reads text ≡ reading text
 
--- what a text says once more has come
+-- what a text says once more has come [profile]
 pub record ReadsOn (text more : List ℕ) : Type 0 where
   pub items_go_on : items (text ++ more) ≡ items text ++ items (rest text ++ more)
   pub rest_goes_on : rest (text ++ more) ≡ rest (rest text ++ more)
 
--- the items of a text are a front of those of every text that it is a front of
+-- the items of a text are a front of those of every text that it is a front of [profile]
 abbrev pub ItemsStay : Type 0
 ItemsStay = (text longer : List ℕ) → IsPrefix text longer → IsPrefix (items text) (items longer)
 
--- a text is read as these items, and no rest
+-- a text is read as these items, and no rest [profile]
 pub record IsReadAs (text : List ℕ) (given : List (Item (List ℕ))) : Type 0 where
   pub all_items : items text ≡ given
   pub no_rest : rest text ≡ []
 
--- frames in a row, each with its DATA
+-- frames in a row, each with its DATA [profile]
 abbrev pub frames : List (List ℕ) → List ℕ
 frames carried = flat_map frame carried
 
--- a frame is read as one good item, its DATA
+-- a frame is read as one good item, its DATA [profile]
 abbrev pub FramesAreGood : Type 0
 FramesAreGood = (carried : List ℕ) → IsData carried → IsReadAs (frame carried) (Good carried ∷ [])
 
--- frames in a row are read as their good items, in that order
+-- frames in a row are read as their good items, in that order [profile]
 abbrev pub RowsAreGood : Type 0
 RowsAreGood =
     (carried : List (List ℕ)) → All IsData carried → IsReadAs (frames carried) (map Good carried)
 
--- no frame is longer than the greatest length
+-- no frame is longer than the greatest length [profile]
 abbrev pub FramesAreShort : Type 0
 FramesAreShort = (carried : List ℕ) → IsData carried → length (frame carried) ≤ most_frame

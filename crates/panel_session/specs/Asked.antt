@@ -12,7 +12,7 @@ use Rattle.plant_core.specs.declared.request.Request.{Request}
 use Rattle.plant_core.specs.declared.request.Request.TheVariants.{Told}
 
 -- A good frame sends the plant the message that its DATA spell, where that asks something of the plant; one that asks for
--- names is answered by their pages; any other is noted.
+-- names is answered by their pages; any other is noted. [profile]
 abbrev pub GoodAsks : List ℕ → Asked → Type 0
 GoodAsks carried (Sent message) = Spells carried message × (kind_of message ≡ Plant)
 GoodAsks carried (Named message) = Spells carried message × (kind_of message ≡ Names)
@@ -21,21 +21,21 @@ GoodAsks carried Nothing = ⊥
 GoodAsks carried Repeat = ⊥
 GoodAsks carried Refused = ⊥
 
--- An item asks so.
+-- An item asks so. [profile]
 abbrev pub Asks : Item (List ℕ) → Asked → Type 0
 Asks (Good carried) asked = GoodAsks carried asked
 Asks Bad asked = asked ≡ Refused
 Asks Ack asked = asked ≡ Nothing
 Asks Nak asked = asked ≡ Repeat
 
--- Items ask so, each in its place.
+-- Items ask so, each in its place. [profile]
 abbrev pub AllAsk : List (Item (List ℕ)) → List Asked → Type 0
 AllAsk [] [] = Unit {0}
 AllAsk (item ∷ items) (asked ∷ others) = Asks item asked × AllAsk items others
 AllAsk [] (asked ∷ others) = ⊥
 AllAsk (item ∷ items) [] = ⊥
 
--- What a panel sends to the plant, where the first item has this number.
+-- What a panel sends to the plant, where the first item has this number. [profile]
 abbrev pub sent_to_plant : ℕ → ℕ → List Asked → List Request
 sent_to_plant panel item [] = []
 sent_to_plant panel item (Sent message ∷ others) =

@@ -6,6 +6,7 @@ use Rattle.dle_framing.specs.Items.{items}
 use Rattle.panel_session.specs.declared.session.counts.Counts.{Counts}
 use Rattle.panel_session.specs.SoFar.{Progress, read_so_far}
 
+-- whether an item is a good frame, and whether it is a bad one
 abbrev pub is_good_item : Item (List ℕ) → Bool
 is_good_item (Good carried) = true
 is_good_item Bad = false

@@ -7,27 +7,27 @@ use Rattle.swp08_messages.specs.declared.message.Message.TheVariants.{SourceName
 use Rattle.plant_config.specs.Plant.{PlantData}
 use Rattle.plant_names.specs.Pages.{most_names, page_names, names_text, names_of_sources, names_of_dests, source_page_command, dest_page_command}
 
--- how many pages so many names of this size take
+-- how many pages so many names of this size take [profile]
 abbrev pub page_count : ℕ → ℕ → ℕ
 page_count size count = (count + most_names size - 1) / most_names size
 
--- the number of the first name of a page, by the number of the page
+-- the number of the first name of a page, by the number of the page [profile]
 abbrev pub page_first : ℕ → ℕ → ℕ
 page_first size page = page * most_names size
 
--- the DATA of the page of names that begins at this number
+-- the DATA of the page of names that begins at this number [profile]
 abbrev pub page_from : ℕ → ℕ → ℕ → ℕ → List (List ℕ) → ℕ → List ℕ
 page_from command matrix level size names first =
     names_text command matrix level size first (page_names false size first names)
 
--- The DATA of all pages of names, in order: each but the last has the most names of a page.
+-- The DATA of all pages of names, in order: each but the last has the most names of a page. [profile]
 abbrev pub all_pages : ℕ → ℕ → ℕ → ℕ → Option (List (List ℕ)) → List (List ℕ)
 all_pages command matrix level size None = []
 all_pages command matrix level size (Some names) =
     map (λ page. page_from command matrix level size names (page_first size page))
     (range_with_len 0 (page_count size (length names)))
 
--- the DATA of the page of one name, where there is a name of this number
+-- the DATA of the page of one name, where there is a name of this number [profile]
 abbrev pub one_page : ℕ → ℕ → ℕ → ℕ → ℕ → Option (List (List ℕ))
     → List (List ℕ)
 one_page command matrix level size number None = []
@@ -53,7 +53,7 @@ abbrev pub GoAtOnce : Option (List (List ℕ)) → Type 0
 GoAtOnce names = IfSome names (λ names. length names ≤ names_at_once)
 
 -- The DATA of the pages of the plant's names that a message asks for, in order: all pages of a level's sources or of a
--- matrix's destinations, or one page with one name. There is none where the plant has no such level, matrix or number.
+-- matrix's destinations, or one page with one name. There is none where the plant has no such level, matrix or number. [profile]
 abbrev pub name_pages : PlantData → Message → List (List ℕ)
 name_pages plant (SourceNamesAsk matrix level size) =
     all_pages source_page_command matrix level size (names_of_sources plant matrix level)
@@ -65,6 +65,6 @@ name_pages plant (DestNameAsk matrix size number) =
     one_page dest_page_command matrix 0 size number (names_of_dests plant matrix)
 name_pages plant message = []
 
--- their frames
+-- their frames [profile]
 abbrev pub name_frames : PlantData → Message → List (List ℕ)
 name_frames plant message = map frame (name_pages plant message)

@@ -15,7 +15,7 @@ use Rattle.panel_session.specs.NamePages.{name_frames, names_asked, names_at_onc
 use Rattle.panel_session.specs.OneSend.{bytes_in}
 use Rattle.panel_session.specs.Text.{Output, with_frames}
 
--- A page has names of one of three sizes, and its number is one.
+-- A page has names of one of three sizes, and its number is one. [profile]
 pub record IsNamePage (page : NamePage) : Type 0 where
   pub size : page.size ≤ 2
   pub first : page.first < wide_numbers
@@ -25,7 +25,7 @@ abbrev pub names_of : PlantData → ℕ → NamesOf → Option (List (List ℕ))
 names_of plant matrix (Sources level) = names_of_sources plant matrix level
 names_of plant matrix Dests = names_of_dests plant matrix
 
--- its command, and the level that it tells
+-- its command, and the level that it tells [profile]
 abbrev pub command_of : NamesOf → ℕ
 command_of (Sources level) = source_page_command
 command_of Dests = dest_page_command
@@ -43,7 +43,7 @@ data_of plant page =
 abbrev pub end_of : PlantData → NamePage → Paged
 end_of plant page = page_end page.one page.size page.first (names_of plant page.matrix page.names)
 
--- the DATA of all pages of names from this number on
+-- the DATA of all pages of names from this number on [profile]
 abbrev pub pages_from : ℕ → ℕ → ℕ → ℕ → ℕ → Option (List (List ℕ))
     → List (List ℕ)
 pages_from command matrix level size first None = []
@@ -51,14 +51,14 @@ pages_from command matrix level size first (Some names) =
     map (λ page. page_from command matrix level size names (first + page_first size page))
     (range_with_len 0 (page_count size (length names - first)))
 
--- the DATA of a page and of those behind it
+-- the DATA of a page and of those behind it [profile]
 abbrev pub pages_behind : ℕ → ℕ → ℕ → ℕ → Bool → ℕ → Option (List (List ℕ))
     → List (List ℕ)
 pages_behind command matrix level size one first names =
     if one then one_page command matrix level size first names
     else pages_from command matrix level size first names
 
--- those that are left to be sent, and their frames
+-- those that are left to be sent, and their frames [profile]
 abbrev pub pages_left : PlantData → Option NamePage → List (List ℕ)
 pages_left plant None = []
 pages_left plant (Some page) =

@@ -55,7 +55,7 @@ read_room = 4096
 abbrev pub read_of : List ℕ → Reading
 read_of bytes = record { room = read_room; bytes = bytes }
 
--- the bytes of reads, bytes_in
+-- the bytes that reads gave, joined
 abbrev pub all_read : List (List ℕ) → List ℕ
 all_read reads = flat_map (λ read. read) reads
 

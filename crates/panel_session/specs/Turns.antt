@@ -50,7 +50,7 @@ pub record ArePolls (poll : Request) (polls : List PlantEntry) : Type 0 where
   pub within : length polls ≤ 32
   pub ends : (last.answers ≡ []) ⊎ (length polls ≡ 32)
 
--- These items end in a piece behind a text.
+-- These items end in a piece behind a text. [profile]
 abbrev pub EndIn : List ℕ → List ℕ → List (Item (List ℕ)) → Type 0
 EndIn text piece ended = items (text ++ piece) ≡ items text ++ ended
 

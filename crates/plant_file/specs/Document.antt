@@ -29,7 +29,7 @@ abbrev pub section_entries : SectionKeys → Members → List Members
 section_entries section document =
     entries_found section.form document (get_member (section_name section.section) document)
 
--- the value that is default_value where a key is absent
+-- the value that is taken where a key is absent
 abbrev pub default_value : Default → Option Data
 default_value (Given value) = Some value
 default_value Required = None
@@ -42,7 +42,7 @@ given_in section field =
     option_and_then (λ row. default_value row.default)
     (find (λ row. same_field row.field field) section.keys)
 
--- the value of a key in an entry of a section: what is found there, or else what is default_value
+-- the value of a key in an entry of a section: what is found there, or else its default
 abbrev pub value_for : SectionKeys → Field → Members → Option Data
 value_for section field entry = option_or (found_at field entry) (given_in section field)
 

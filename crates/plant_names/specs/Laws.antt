@@ -39,12 +39,12 @@ SourcesAreNamed plant = IsInverse (source_at plant) (source_name_of plant) (sour
 abbrev pub DestsAreNamed : PlantData → Type 0
 DestsAreNamed plant = IsInverse (dest_at plant) (dest_name_of plant) (dest_named plant)
 
--- the names of so many pages one behind the other: each page but the first begins where the one before it ends
+-- the names of so many pages one behind the other: each page but the first begins where the one before it ends [profile]
 abbrev pub names_of_pages : ℕ → ℕ → List (List ℕ) → List (List ℕ)
 names_of_pages size pages names =
     flat_map (λ page. names_from size (page * most_names size) names) (range_with_len 0 pages)
 
--- Pages that suffice have all names, each once and in order.
+-- Pages that suffice have all names, each once and in order. [profile]
 abbrev pub PagesHaveAll : ℕ → Type 0
 PagesHaveAll size = (pages : ℕ) (names : List (List ℕ)) → length names ≤ pages * most_names size
     → names_of_pages size pages names ≡ names

@@ -12,25 +12,25 @@ use Rattle.plant_names.specs.Pages as pages
 use Rattle.panel_session.specs.Turns.{EndIn}
 use Rattle.record_replay.specs.Laws.{Action, Turned, Left, Polled, pieces_of}
 
--- DATA are those of a page of names.
+-- DATA are those of a page of names. [profile]
 abbrev pub IsPageOfNames : List ℕ → Type 0
 IsPageOfNames bytes =
     (command matrix level size first : ℕ) × (names : List (List ℕ))
     × (bytes ≡ pages.names_text command matrix level size first names)
 
--- A frame that tells a panel something: that of a message, of a page of a dump, or of a page of names.
+-- A frame that tells a panel something: that of a message, of a page of a dump, or of a page of names. [profile]
 abbrev pub IsTelling : List ℕ → Type 0
 IsTelling bytes =
     ((message : Message) × (bytes ≡ frame (text message)))
     ⊎ ((page : Page) × (bytes ≡ frame (page_text page)))
     ⊎ ((carried : List ℕ) × IsPageOfNames carried × (bytes ≡ frame carried))
 
--- frames one after the other
+-- frames one after the other [profile]
 abbrev pub in_a_row : List (List ℕ) → List ℕ
 in_a_row frames = flat_map (λ bytes. bytes) frames
 
 -- What an item is answered with: a bad frame with NAK and nothing else; a good one with ACK, and then frames that tell
--- something; an ACK with nothing; a NAK with nothing, or with one such frame.
+-- something; an ACK with nothing; a NAK with nothing, or with one such frame. [profile]
 abbrev pub IsAnswered : Item (List ℕ) → List ℕ → Type 0
 IsAnswered (Good carried) bytes =
     (frames : List (List ℕ)) × AllByRecursion IsTelling frames × (bytes ≡ ack ++ in_a_row frames)
@@ -38,14 +38,14 @@ IsAnswered Bad bytes = bytes ≡ nak
 IsAnswered Ack bytes = bytes ≡ []
 IsAnswered Nak bytes = (bytes ≡ []) ⊎ IsTelling bytes
 
--- Items are answered so, one after the other.
+-- Items are answered so, one after the other. [profile]
 abbrev pub AreAnswered : List (Item (List ℕ)) → List (List ℕ) → Type 0
 AreAnswered [] [] = Unit {0}
 AreAnswered (item ∷ items) (bytes ∷ others) = IsAnswered item bytes × AreAnswered items others
 AreAnswered [] (bytes ∷ others) = ⊥
 AreAnswered (item ∷ items) [] = ⊥
 
--- The bytes that are sent in a turn answer the items that end in its piece, in order, and then tell notices.
+-- The bytes that are sent in a turn answer the items that end in its piece, in order, and then tell notices. [profile]
 pub record AnswersItems (read piece sent : List ℕ) : Type 0 where
   pub ended : List (Item (List ℕ))
   pub end_in : EndIn read piece ended

@@ -15,16 +15,16 @@ use Rattle.record_replay.specs.Laws.{Action, Turned, IsHistory}
 use Rattle.record_replay.specs.Answered.{AnswersItsPiece}
 use Rattle.record_replay.specs.TiedReplay.{NoTieCarriesTwoSources}
 
--- the frame of a message is read as one good item with the message's DATA
+-- the frame of a message is read as one good item with the message's DATA [profile]
 abbrev pub MessageFramesAreItems : Type 0
 MessageFramesAreItems = (message : Message) → InRange message
     → IsReadAs (frame (text message)) (Good (text message) ∷ [])
 
--- a message's DATA spell it
+-- a message's DATA spell it [profile]
 abbrev pub TextsSpellTheirMessage : Type 0
 TextsSpellTheirMessage = (message : Message) → InRange message → Spells (text message) message
 
--- and no other
+-- and no other [profile]
 abbrev pub TextsSpellNoOther : Type 0
 TextsSpellNoOther =
     (message other : Message) → InRange message → Spells (text message) other → other ≡ message

@@ -43,6 +43,6 @@ connect_named plant matrix level dest source =
     (carried plant matrix level source))
     (dest_number_named plant matrix level dest)
 
--- the frame of a message
+-- the frame of a message [profile]
 abbrev pub message_frame : Message → List ℕ
 message_frame message = frame (text message)

@@ -21,36 +21,36 @@ use Rattle.swp08_messages.specs.declared.message.MessageKind.{MessageKind}
 use Rattle.swp08_messages.specs.declared.message.MessageKind.TheVariants.{Plant, Report, Names}
 
 -- a command, what the message is for, what each byte behind the command says, and what DATA may have behind these
--- bytes, which is held to its range and isn't kept or written
+-- bytes, which is held to its range and isn't kept or written [profile]
 pub record MessageRow : Type 0 where
   pub command : ℕ
   pub kind : MessageKind
   pub fields : List Field
   pub spare : List Field
 
--- a destination: matrix with level, multiplier, low part
+-- a destination: matrix with level, multiplier, low part [SW-P-08]
 abbrev pub destination : Point → List Field
 destination at = MatrixLevel at.matrix at.level ∷ DestHigh at.dest ∷ DestLow at.dest ∷ []
 
--- a crosspoint, which is a destination and the source at it: matrix with level, multiplier, the two low parts
+-- a crosspoint, which is a destination and the source at it: matrix with level, multiplier, the two low parts [SW-P-08]
 abbrev pub crosspoint : Point → Option ℕ → List Field
 crosspoint at source =
     MatrixLevel at.matrix at.level ∷ CrosspointHigh at.dest source ∷ DestLow at.dest
     ∷ SourceLow source ∷ []
 
--- a destination and a device: matrix with level, multiplier, the two low parts
+-- a destination and a device: matrix with level, multiplier, the two low parts [profile]
 abbrev pub protect : Point → ℕ → List Field
 protect at device =
     MatrixLevel at.matrix at.level ∷ ProtectHigh at.dest device ∷ DestLow at.dest
     ∷ DeviceLow device ∷ []
 
--- the same with whether the device protects the destination, which stands behind the matrix with its level
+-- the same with whether the device protects the destination, which stands behind the matrix with its level [profile]
 abbrev pub protect_told : Point → Bool → ℕ → List Field
 protect_told at owned device =
     MatrixLevel at.matrix at.level ∷ Details owned ∷ ProtectHigh at.dest device ∷ DestLow at.dest
     ∷ DeviceLow device ∷ []
 
--- a crosspoint in a salvo, and an entry of a salvo at a place, which says too whether more follow
+-- a crosspoint in a salvo, and an entry of a salvo at a place, which says too whether more follow [profile]
 abbrev pub stored_crosspoint : Point → Option ℕ → ℕ → List Field
 stored_crosspoint at source salvo = crosspoint at source ++ Salvo salvo ∷ []
 
@@ -58,7 +58,7 @@ abbrev pub entry : Point → Option ℕ → ℕ → ℕ → Validity → List Fi
 entry at source salvo index validity =
     stored_crosspoint at source salvo ++ Index index ∷ EntryValidity validity ∷ []
 
--- what a salvo is to do, what became of it, and a place in it
+-- what a salvo is to do, what became of it, and a place in it [profile]
 abbrev pub go : Bool → ℕ → List Field
 go clear salvo = Operation clear ∷ Salvo salvo ∷ []
 
@@ -68,22 +68,22 @@ go_done status salvo = Status status ∷ Salvo salvo ∷ []
 abbrev pub entry_ask : ℕ → ℕ → List Field
 entry_ask salvo index = Salvo salvo ∷ Index index ∷ []
 
--- a level: its matrix with its number
+-- a level: its matrix with its number [profile]
 abbrev pub one_level : ℕ → ℕ → List Field
 one_level matrix level = MatrixLevel matrix level ∷ []
 
--- a number from 0 to 65535 in two whole bytes
+-- a number from 0 to 65535 in two whole bytes [profile]
 abbrev pub wide : ℕ → List Field
 wide number = NumberHigh number ∷ NumberLow number ∷ []
 
--- the names of all sources of a level, and that of one of them: matrix with level, the size of a name, the number
+-- the names of all sources of a level, and that of one of them: matrix with level, the size of a name, the number [profile]
 abbrev pub source_names_ask : ℕ → ℕ → ℕ → List Field
 source_names_ask matrix level size = MatrixLevel matrix level ∷ NameSize size ∷ []
 
 abbrev pub source_name_ask : ℕ → ℕ → ℕ → ℕ → List Field
 source_name_ask matrix level size number = MatrixLevel matrix level ∷ NameSize size ∷ wide number
 
--- the names of all destinations of a matrix, and that of one of them: matrix, the size of a name, the number
+-- the names of all destinations of a matrix, and that of one of them: matrix, the size of a name, the number [profile]
 abbrev pub dest_names_ask : ℕ → ℕ → List Field
 dest_names_ask matrix size = Matrix matrix ∷ NameSize size ∷ []
 
@@ -91,19 +91,19 @@ abbrev pub dest_name_ask : ℕ → ℕ → ℕ → List Field
 dest_name_ask matrix size number = Matrix matrix ∷ NameSize size ∷ wide number
 
 -- a destination, and a crosspoint, in the extended commands: matrix and level with a byte each, the destination and
--- the source in two whole bytes each
+-- the source in two whole bytes each [profile]
 abbrev pub ext_destination : Point → List Field
 ext_destination at = ExtMatrix at.matrix ∷ ExtLevel at.level ∷ wide at.dest
 
 abbrev pub ext_crosspoint : Point → Option ℕ → List Field
 ext_crosspoint at source = ext_destination at ++ ExtSourceHigh source ∷ ExtSourceLow source ∷ []
 
--- a row with nothing to spare
+-- a row with nothing to spare [profile]
 abbrev pub plain : ℕ → MessageKind → List Field → MessageRow
 plain command kind fields =
     record { command = command; kind = kind; fields = fields; spare = [] }
 
--- the row of a message
+-- the row of a message [profile]
 abbrev pub row : Message → MessageRow
 row (Interrogate at) = plain 1 Plant (destination at)
 row (Connect at source) = plain 2 Plant (crosspoint at source)

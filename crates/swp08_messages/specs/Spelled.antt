@@ -6,7 +6,7 @@ use Rattle.swp08_messages.specs.Field.{byte_of, looked_at}
 use Rattle.swp08_messages.specs.Row.{MessageRow, row}
 use Rattle.swp08_messages.specs.Text.{InRange}
 
--- The bytes are those of the fields, one each, but for the bits that aren't looked at.
+-- The bytes are those of the fields, one each, but for the bits that aren't looked at. [profile]
 abbrev pub SpellFields : List ℕ → List Field → Type 0
 SpellFields [] [] = Unit {0}
 SpellFields (byte ∷ bytes) (field ∷ fields) =
@@ -14,11 +14,11 @@ SpellFields (byte ∷ bytes) (field ∷ fields) =
 SpellFields [] (field ∷ fields) = ⊥
 SpellFields (byte ∷ bytes) [] = ⊥
 
--- The bytes behind a command are those of the row's fields, or of these and of what DATA may have behind them.
+-- The bytes behind a command are those of the row's fields, or of these and of what DATA may have behind them. [profile]
 abbrev pub SpellRow : List ℕ → MessageRow → Type 0
 SpellRow bytes row = SpellFields bytes row.fields ⊎ SpellFields bytes (row.fields ++ row.spare)
 
--- DATA spells a message that is in its ranges: first its command, and behind it the bytes of its row.
+-- DATA spells a message that is in its ranges: first its command, and behind it the bytes of its row. [profile]
 pub record Spells (bytes : List ℕ) (message : Message) : Type 0 where
   pub in_range : InRange message
   pub behind : List ℕ

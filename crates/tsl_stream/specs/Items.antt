@@ -8,29 +8,29 @@ use Rattle.tsl_umd5.specs.Reading.{field_number, packet_reading}
 use Rattle.tsl_stream.specs.Numbers.{tsl_dle, tsl_stx}
 use Rattle.tsl_stream.specs.Stream.{stuffed}
 
--- what a stream says: a packet, as its bytes, or why bytes that a start announced are none
+-- what a stream says: a packet, as its bytes, or why bytes that a start announced are none [profile]
 pub data PacketItem : Type 0 where
   Packet : List ℕ → PacketItem
   Bad : TslFault → PacketItem
 
--- the item of bytes that are read so
+-- the item of bytes that are read so [profile]
 abbrev pub told : List ℕ → Result Contents TslFault → PacketItem
 told bytes (Ok contents) = Packet bytes
 told bytes (Err fault) = Bad fault
 
--- the item of bytes: themselves where they are a packet, and the first rule that they break in every other case
+-- the item of bytes: themselves where they are a packet, and the first rule that they break in every other case [profile]
 abbrev pub item_of_bytes : List ℕ → PacketItem
 item_of_bytes bytes = told bytes (packet_reading bytes)
 
 -- How many bytes a packet that begins so has: PBC, its own two bytes, and as many as it counts. Where less than PBC has
--- come, these are two.
+-- come, these are two. [TSL UMD V5.0]
 abbrev pub packet_size : List ℕ → ℕ
 packet_size [] = 2
 packet_size (low ∷ []) = 2
 packet_size (low ∷ high ∷ bytes) = field_number low high + 2
 
 -- The longest run of pieces at the start of a text, a piece being a byte other than DLE, or a pair of DLE. `spelled` has
--- each pair made one byte, and `behind` is the text behind the run.
+-- each pair made one byte, and `behind` is the text behind the run. [TSL UMD V5.0]
 pub record PacketRun : Type 0 where
   pub spelled : List ℕ
   pub behind : List ℕ
@@ -49,11 +49,11 @@ packet_run (a ∷ b ∷ text) =
     else with_packet_piece a (packet_run (b ∷ text))
 
 -- the text behind the first n pieces of a run: the pieces that follow them, with each DLE twice as it came, and the text
--- behind the run
+-- behind the run [TSL UMD V5.0]
 abbrev pub behind_pieces : ℕ → PacketRun → List ℕ
 behind_pieces n run = stuffed (drop n run.spelled) ++ run.behind
 
--- what a text says: its items, and the rest that is no whole item yet
+-- what a text says: its items, and the rest that is no whole item yet [profile]
 pub record StreamReading : Type 0 where
   pub items : List PacketItem
   pub rest : List ℕ
@@ -66,6 +66,7 @@ with_stream_item item reading = record reading { items = item ∷ reading.items 
 
 -- Behind DLE STX and a run of pieces that are fewer than the packet has bytes: DLE STX starts the next packet, where DLE
 -- and any other byte are used up. Where nothing or a lone DLE follows the run, all from the first DLE STX on is the rest.
+-- [profile]
 abbrev pub broken_off : (List ℕ → StreamReading) → List ℕ → List ℕ → StreamReading
 broken_off goes_on text [] = only_stream_rest (tsl_dle ∷ tsl_stx ∷ text)
 broken_off goes_on text (a ∷ []) = only_stream_rest (tsl_dle ∷ tsl_stx ∷ text)
@@ -73,7 +74,7 @@ broken_off goes_on text (a ∷ b ∷ more) =
     if b == tsl_stx then goes_on (a ∷ b ∷ more) else goes_on more
 
 -- Behind DLE STX, by the run of pieces there. A packet that PBC makes too long is bad at once, and reading goes on behind
--- PBC. Else as many pieces as the packet has bytes end it, good or bad, and reading goes on behind them.
+-- PBC. Else as many pieces as the packet has bytes end it, good or bad, and reading goes on behind them. [profile]
 abbrev pub in_packet : (List ℕ → StreamReading) → List ℕ → PacketRun → StreamReading
 in_packet goes_on text run =
     let n = packet_size run.spelled in
@@ -83,7 +84,7 @@ in_packet goes_on text run =
     else broken_off goes_on text run.behind
 
 -- The reading of a text by cases on its start, where `goes_on` is the reading of what is behind that start. A byte that
--- starts no packet is noise by itself.
+-- starts no packet is noise by itself. [profile]
 abbrev pub by_packet_start : (List ℕ → StreamReading) → List ℕ → StreamReading
 by_packet_start goes_on [] = only_stream_rest []
 by_packet_start goes_on (a ∷ []) =
@@ -92,20 +93,20 @@ by_packet_start goes_on (a ∷ b ∷ text) =
     if a == tsl_dle && b == tsl_stx then in_packet goes_on text (packet_run text)
     else goes_on (b ∷ text)
 
--- Reading goes on at a shorter text each time, so as many steps as the text has bytes are enough.
+-- Reading goes on at a shorter text each time, so as many steps as the text has bytes are enough. [profile]
 abbrev pub stream_reading_within : ℕ → List ℕ → StreamReading
 stream_reading_within zero text = only_stream_rest text
 stream_reading_within (suc steps) text = by_packet_start (stream_reading_within steps) text
 
 -- The reading of a text. It is `by_packet_start stream_reading`, a law that `reads_by_start` states; the steps only show
--- that it ends.
+-- that it ends. [profile]
 unfoldable pub stream_reading : List ℕ → StreamReading
 stream_reading text = stream_reading_within (length text) text
 
--- the items of a text
+-- the items of a text [profile]
 abbrev pub stream_items : List ℕ → List PacketItem
 stream_items text = (stream_reading text).items
 
--- the rest of a text that is no whole item yet
+-- the rest of a text that is no whole item yet [profile]
 abbrev pub stream_rest : List ℕ → List ℕ
 stream_rest text = (stream_reading text).rest

@@ -3,11 +3,11 @@ use Rattle.std.specs.Prelude.{ℕ, ◌==◌, if◌then◌else◌, List, [], ◌�
 use Rattle.std.specs.List.{flat_map}
 use Rattle.tsl_stream.specs.Numbers.{tsl_dle, tsl_stx}
 
--- each DLE twice, so that none of them can be read as a start
+-- each DLE twice, so that none of them can be read as a start [TSL UMD V5.0]
 abbrev pub stuffed : List ℕ → List ℕ
 stuffed bytes =
     flat_map (λ byte. if byte == tsl_dle then tsl_dle ∷ tsl_dle ∷ [] else byte ∷ []) bytes
 
--- DLE STX, and the packet with each DLE of it twice
+-- DLE STX, and the packet with each DLE of it twice [TSL UMD V5.0]
 abbrev pub stream_text : List ℕ → List ℕ
 stream_text packet = (tsl_dle ∷ tsl_stx ∷ []) ++ stuffed packet

@@ -3,7 +3,7 @@ use Rattle.std.specs.Prelude.{ℕ, List, codes}
 use Rattle.tsl_umd5.specs.declared.fault.TslFault.{TslFault}
 use Rattle.tsl_umd5.specs.declared.fault.TslFault.TheVariants.{TooLong, Short, WrongCount, Version, Flags, ReservedBits, NotAscii}
 
--- the name of a fault's kind, without its numbers
+-- the name of a fault's kind, without its numbers [profile]
 abbrev pub kind_name : TslFault → List ℕ
 kind_name (TooLong found) = codes "TooLong"
 kind_name (Short place) = codes "Short"

@@ -10,7 +10,7 @@ lamp_code Red = 1
 lamp_code Green = 2
 lamp_code Amber = 3
 
--- the lamp of such a number
+-- the lamp of such a number [TSL UMD V5.0]
 abbrev pub lamp_of : ℕ → Lamp
 lamp_of zero = Off
 lamp_of (suc zero) = Red

@@ -17,11 +17,11 @@ abbrev pub ◌>>=◌ : {A B : Type 0} → Result A TslFault → (A → Result B 
 (Ok x) >>= f = f x
 (Err e) >>= f = Err e
 
--- the number of a field of 16 bits
+-- the number of a field of 16 bits [TSL UMD V5.0]
 abbrev pub field_number : ℕ → ℕ → ℕ
 field_number low high = from_le_bytes w16 (low ∷ high ∷ [])
 
--- the message at the front and the bytes behind it; none where its head or its text goes past the end
+-- the message at the front and the bytes behind it; none where its head or its text goes past the end [TSL UMD V5.0]
 unfoldable pub front : List ℕ → Option (Message × List ℕ)
 front (i₀ ∷ i₁ ∷ c₀ ∷ c₁ ∷ n₀ ∷ n₁ ∷ bytes) =
     let len = field_number n₀ n₁ in
@@ -36,7 +36,7 @@ front (i₀ ∷ i₁ ∷ c₀ ∷ c₁ ∷ n₀ ∷ n₁ ∷ bytes) =
     )
 front bytes = None
 
--- what a message says, by the bits of its CONTROL
+-- what a message says, by the bits of its CONTROL [TSL UMD V5.0]
 abbrev pub display_of : Message → Display
 display_of m = record {
   index = m.index;
@@ -47,11 +47,11 @@ display_of m = record {
   text = m.text;
 }
 
--- whether a byte is printable ASCII
+-- whether a byte is printable ASCII [profile]
 abbrev pub is_printable : ℕ → Bool
 is_printable b = nat_le first_printable b && nat_le b last_printable
 
--- the display of a message that begins at a place, or what is wrong with the message
+-- the display of a message that begins at a place, or what is wrong with the message [profile]
 unfoldable pub judged : ℕ → Message → Result Display TslFault
 judged place m =
     let unprintable = position (λ b. not (is_printable b)) m.text in
@@ -59,7 +59,7 @@ judged place m =
     else option_map_or (λ offset. Err (NotAscii (place + message_head + offset))) unprintable
     (Ok (display_of m))
 
--- the displays of messages one after another, at most so many of them, the first of which begins at a place
+-- the displays of messages one after another, at most so many of them, the first of which begins at a place [profile]
 unfoldable pub messages_at : ℕ → ℕ → List ℕ → Result (List Display) TslFault
 messages_at zero place bytes = Ok []
 messages_at (suc most) place [] = Ok []
@@ -69,11 +69,11 @@ messages_at (suc most) place (b ∷ bytes) = do
   others ← messages_at most (place + (message_head + length first.0.text)) first.1
   Ok (display ∷ others)
 
--- the displays of all messages, which are no more than there are bytes
+-- the displays of all messages, which are no more than there are bytes [profile]
 unfoldable pub all_at : ℕ → List ℕ → Result (List Display) TslFault
 all_at place bytes = messages_at (length bytes) place bytes
 
--- the screen and the displays of bytes that are not too many
+-- the screen and the displays of bytes that are not too many [profile]
 unfoldable pub contents : List ℕ → Result Contents TslFault
 contents (p₀ ∷ p₁ ∷ ver ∷ flags ∷ s₀ ∷ s₁ ∷ bytes) =
     let found = length (ver ∷ flags ∷ s₀ ∷ s₁ ∷ bytes) in
@@ -85,7 +85,7 @@ contents (p₀ ∷ p₁ ∷ ver ∷ flags ∷ s₀ ∷ s₁ ∷ bytes) =
     (record { screen = field_number s₀ s₁; displays = displays }))
 contents bytes = Err (Short (length bytes))
 
--- the screen and the displays of a packet, or the first rule that the bytes break
+-- the screen and the displays of a packet, or the first rule that the bytes break [profile]
 unfoldable pub packet_reading : List ℕ → Result Contents TslFault
 packet_reading bytes =
     if nat_lt max_packet (length bytes) then Err (TooLong (length bytes)) else contents bytes

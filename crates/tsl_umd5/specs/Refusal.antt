@@ -6,18 +6,18 @@ use Rattle.tsl_umd5.specs.declared.fault.TslFault.TheVariants.{TooLong, Short, W
 use Rattle.tsl_umd5.specs.Layout.{version, plain_flags, max_packet, packet_head, message_head}
 use Rattle.tsl_umd5.specs.Packet.{Display, Message, IsMessage, IsDisplay, IsPrintable, word, message_text, messages_text, with_count, counted_text}
 
--- a message stands at the front of the bytes
+-- a message stands at the front of the bytes [profile]
 pub record BeginsWith (bytes : List ℕ) (m : Message) : Type 0 where
   pub rest : List ℕ
   pub fits : IsMessage m
   pub parts : bytes ≡ message_text m ++ rest
 
--- there are bytes, and no message stands at their front: its head or its text goes past the end
+-- there are bytes, and no message stands at their front: its head or its text goes past the end [profile]
 pub record IsCutOff (bytes : List ℕ) : Type 0 where
   pub some : 0 < length bytes
   pub never : (m : Message) → BeginsWith bytes m → ⊥
 
--- the first byte of a text that is not printable stands at an offset
+-- the first byte of a text that is not printable stands at an offset [profile]
 pub record FirstUnprintable (text : List ℕ) (offset : ℕ) : Type 0 where
   pub good : List ℕ
   pub bad : ℕ
@@ -27,7 +27,7 @@ pub record FirstUnprintable (text : List ℕ) (offset : ℕ) : Type 0 where
   pub unprintable : IsPrintable bad → ⊥
   pub is_offset : length good ≡ offset
 
--- what is wrong with a message that begins at a place
+-- what is wrong with a message that begins at a place [profile]
 abbrev pub IsWrong : ℕ → Message → TslFault → Type 0
 IsWrong place m (ReservedBits index) = (256 ≤ m.control) × (index ≡ m.index)
 IsWrong place m (NotAscii n) =
@@ -35,12 +35,12 @@ IsWrong place m (NotAscii n) =
     × (n ≡ place + message_head + offset)
 IsWrong place m fault = ⊥
 
--- what is wrong at the front of bytes that begin at a place
+-- what is wrong at the front of bytes that begin at a place [profile]
 abbrev pub IsBad : ℕ → List ℕ → TslFault → Type 0
 IsBad place bytes (Short n) = (n ≡ place) × IsCutOff bytes
 IsBad place bytes fault = (m : Message) × BeginsWith bytes m × IsWrong place m fault
 
--- the packet is right up to a message that is wrong: in front of it stand the messages of displays
+-- the packet is right up to a message that is wrong: in front of it stand the messages of displays [profile]
 pub record HasBadMessage (bytes : List ℕ) (fault : TslFault) : Type 0 where
   pub screen : ℕ
   pub displays : List Display
@@ -51,11 +51,11 @@ pub record HasBadMessage (bytes : List ℕ) (fault : TslFault) : Type 0 where
   pub parts : bytes ≡ with_count (counted_text screen (messages_text displays ++ rest))
   pub bad : IsBad (packet_head + length (messages_text displays)) rest fault
 
--- neither too many bytes for a packet nor too few for its head
+-- neither too many bytes for a packet nor too few for its head [profile]
 abbrev pub IsSized : List ℕ → Type 0
 IsSized bytes = (packet_head ≤ length bytes) × (length bytes ≤ max_packet)
 
--- The first rule that the bytes break. In the last line are the faults of messages: `ReservedBits` and `NotAscii`.
+-- The first rule that the bytes break. In the last line are the faults of messages: `ReservedBits` and `NotAscii`. [profile]
 abbrev pub IsRefused : List ℕ → TslFault → Type 0
 IsRefused bytes (TooLong n) = (n ≡ length bytes) × (max_packet < n)
 IsRefused bytes (Short n) = ((n ≡ length bytes) × (n < packet_head)) ⊎ HasBadMessage bytes (Short n)
