@@ -1,6 +1,6 @@
 -- What changes name, where each has moved it, is what moved; and how the bounds on reads go together.
-use Rattle.std.proofs.Common.{◌≡◌, ◌≢◌, ◌⊎◌, ℕ, ◌+◌, ◌*◌, ◌<◌, ◌≤◌, ◌==◌, nat_eq, Bool, true, false, not, ◌&&◌, ◌||◌, List, [], ◌∷◌, ◌++◌, length, map, get_or, slice_get, Option, Some, None, suc, inl, inr, refl, sym, ap, subst, ◌∙◌, arith, eq-eqb, eqb-true, length-append}
-use Rattle.std.proofs.lemmas.Bool.{or_cases, or_left, or_right, and_from, both_ways, ne_eqb, eqb-false}
+use Rattle.std.proofs.Common.{◌≡◌, ◌⊎◌, ℕ, ◌<◌, ◌≤◌, ◌==◌, nat_eq, Bool, true, false, not, ◌&&◌, List, [], ◌∷◌, length, map, get_or, slice_get, Option, Some, None, suc, inl, inr, refl, sym, ap, subst, arith, eq-eqb, eqb-true, length-append}
+use Rattle.std.proofs.lemmas.Bool.{or_cases, or_left, or_right, and_from, ne_eqb, eqb-false}
 use Rattle.std.proofs.lemmas.List.Elements.{Contains-append_cases, Contains-append_right}
 use Rattle.std.proofs.lemmas.Map.Keys.{any_passes_from_place, IsDistinct-head, IsDistinct-tail}
 use Rattle.std.proofs.lemmas.Option.{slice_get-get_or, slice_get_within, get_or_from_slice_get}
@@ -18,8 +18,8 @@ use Rattle.mixer_effects.proofs.AnyLemmas.{any_place}
 use Rattle.tally.specs.Touched.{named_by, with_switched, touched_by}
 use Rattle.tally.specs.Moved.{has_moved, has_switch_moved, is_disturbed, lost_between, AreMoves}
 use Rattle.tally.specs.Doubt.{is_doubtful, is_device_on, is_affected}
-use Rattle.tally.specs.Reads.{lost_by, named_bound, is_moved_by, moved_and_switched, read_bound, ReadsAreFew}
-use Rattle.tally.specs.Weight.{weights, weigh, device_weight}
+use Rattle.tally.specs.Reads.{lost_by, named_bound, is_moved_by, read_bound, ReadsAreFew}
+use Rattle.tally.specs.Weight.{weights, device_weight}
 use Rattle.tally.proofs.ListLemmas.{first_or_behind, was_kept, is_kept, bus_among}
 use Rattle.tally.proofs.WeightLemmas.{weights_one, weigh_plus, weigh_within}
 

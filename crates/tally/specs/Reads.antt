@@ -19,7 +19,8 @@ lost_by plant old roots changes = filter (is_live plant old roots) (touched_by p
 -- lost, and their buses, and 9 times what they name and what this switches.
 abbrev pub named_bound : PlantData → Crosspoints → Crosspoints → List ℕ → List Change → ℕ
 named_bound plant old new roots changes =
-    15 * weigh (device_weight plant) (is_affected plant old new roots (lost_by plant old roots changes))
+    15 * weigh (device_weight plant)
+    (is_affected plant old new roots (lost_by plant old roots changes))
     + 9 * length (touched_by plant changes)
 
 -- whether a device is affected by what moved

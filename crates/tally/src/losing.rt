@@ -38,7 +38,8 @@ pub(crate) fn lose_touched<L: Ledger>(
     requires marks { (points : carried.Crosspoints) × AreMarksOf graph.now.plant points marks.old }
     ensures lost { AreLost graph.now.plant (touched_by graph.now.plant changes.now)
         marks.old marks.new waiting.old waiting.new doubted.now }
-    ensures counted { steps.new ≤ steps.old + 3 * length (touched_by graph.now.plant changes.now) }
+    ensures counted { steps.new ≤ steps.old
+        + 3 * length (touched_by graph.now.plant changes.now) }
 {
     for change in changes {
         lose_switched(graph, change.dest, doubted, marks, waiting, steps);

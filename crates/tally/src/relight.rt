@@ -38,7 +38,8 @@ pub(crate) fn relight_touched<L: Ledger>(
     requires marks { AreMarksOf graph.now.plant graph.now.crosspoints marks.old }
     ensures relit { AreRelit graph.now.plant graph.now.crosspoints roots.now
         (touched_by graph.now.plant changes.now) marks.old marks.new waiting.old waiting.new }
-    ensures counted { steps.new ≤ steps.old + 6 * length (touched_by graph.now.plant changes.now) }
+    ensures counted { steps.new ≤ steps.old
+        + 6 * length (touched_by graph.now.plant changes.now) }
 {
     for change in changes {
         relight_switched(graph, roots, change.dest, marks, waiting, steps);

@@ -24,8 +24,8 @@ use std::marker::{Brand, Model};
 use std::sync::ledger::{Blank, Ledger};
 use tap_lists::Steps;
 
-/// Which destinations of a plant are live for some roots, and which sources are seen there. Each update looks at what moved and
-/// at what this reaches, and at nothing else.
+/// Which destinations of a plant are live for some roots, and which sources are seen there. An update looks at what changes name
+/// and at what this reaches, and reads no more of the plant than a bound says.
 #[derive(Debug, Drop)]
 pub struct Tally {
     /// What is live, and what is on by it.
@@ -90,8 +90,8 @@ impl Tally {
         requires wired { IsWiringOf graph.now.plant graph.now.wiring }
         requires tapped { AreTapsOf graph.now.plant graph.now.crosspoints graph.now.taps }
         requires dests { All (λ change. IsDest graph.now.plant change.dest) changes.now }
-        requires before { (old : carried.Crosspoints) × ((roots : List ℕ) × IsUpdate graph.now.plant
-            old graph.now.crosspoints roots changes.now self.old) }
+        requires before { (old : carried.Crosspoints) × ((roots : List ℕ)
+            × IsUpdate graph.now.plant old graph.now.crosspoints roots changes.now self.old) }
         ensures kept { (old : carried.Crosspoints) (roots : List ℕ)
             → IsUpdate graph.now.plant old graph.now.crosspoints roots changes.now self.old
             → IsKeptFor graph.now.plant graph.now.crosspoints roots self.new }
