@@ -16,7 +16,7 @@ use crate::tallies::Tallies;
 use change_boards::Screens;
 use crosspoint_state::Crosspoints;
 use due_displays::DueDisplays;
-use mixer_effects::{Graph, Mixers};
+use mixer_effects::Mixers;
 use plant_config::{Change, Plant};
 use std::alloc::{AllocError, Global};
 use tie_pools::{Planned, Ties};
@@ -97,7 +97,6 @@ impl Tables {
             self.new.tallies }
     {
         self.ties.commit(plant, points, planned, changes);
-        let graph = Graph::new(&self.mixers, points);
-        self.tallies.follow(plant, &graph, changes);
+        self.tallies.follow(plant, &self.mixers, points, changes);
     }
 }

@@ -13,7 +13,8 @@ ghost use Rattle.tally.specs.Update.{MovedOnly};
 ghost use Rattle.plant_core.specs.StateInside.{AreTalliesOf, WereTallies};
 ghost use Rattle.plant_core.specs.DueInside.{HaveTurned};
 
-use mixer_effects::Graph;
+use crosspoint_state::Crosspoints;
+use mixer_effects::{Graph, Mixers};
 use plant_config::{Change, Plant};
 use std::alloc::{AllocError, Global};
 use std::marker::Brand;
@@ -41,17 +42,23 @@ impl Tallies {
 
     // Follows changes that were made.
     #[inline]
-    pub(crate) fn follow(&mut self, plant: &Plant, graph: &Graph<'_>, changes: &[Change])
-        requires wired { IsWiringOf plant.now graph.now.wiring }
-        requires tapped { AreTapsOf plant.now graph.now.crosspoints graph.now.taps }
+    pub(crate) fn follow(
+        &mut self,
+        plant: &Plant,
+        mixers: &Mixers,
+        points: &Crosspoints,
+        changes: &[Change],
+    )
+        requires wired { IsWiringOf plant.now mixers.now }
+        requires tapped { AreTapsOf plant.now points.now.entries points.now.taps }
         requires dests { All (λ change. IsDest plant.now change.dest) changes.now }
-        requires before { WereTallies plant.now graph.now.crosspoints changes.now self.old }
-        ensures kept { AreTalliesOf plant.now graph.now.crosspoints self.new }
+        requires before { WereTallies plant.now points.now.entries changes.now self.old }
+        ensures kept { AreTalliesOf plant.now points.now.entries self.new }
         ensures turned { (old : carried.Crosspoints) → AreTalliesOf plant.now old self.old
-            → MovedOnly old graph.now.crosspoints changes.now
-            → HaveTurned plant.now old graph.now.crosspoints changes.now self.new }
+            → MovedOnly old points.now.entries changes.now
+            → HaveTurned plant.now old points.now.entries changes.now self.new }
     {
-        self.follow_counted::<Brand>(plant, graph, changes, Blank::new(1));
+        self.follow_counted::<Brand>(plant, mixers, points, changes, Blank::new(1));
     }
 
     // The same, with a count of its own of what is read.
@@ -59,26 +66,28 @@ impl Tallies {
     fn follow_counted<L: Ledger>(
         &mut self,
         plant: &Plant,
-        graph: &Graph<'_>,
+        mixers: &Mixers,
+        points: &Crosspoints,
         changes: &[Change],
         blank: Blank,
     )
         requires name { blank.name ≡ L.name }
         requires parts { blank.parts ≡ L.parts }
         requires some { 0 < blank.parts }
-        requires wired { IsWiringOf plant.now graph.now.wiring }
-        requires tapped { AreTapsOf plant.now graph.now.crosspoints graph.now.taps }
+        requires wired { IsWiringOf plant.now mixers.now }
+        requires tapped { AreTapsOf plant.now points.now.entries points.now.taps }
         requires dests { All (λ change. IsDest plant.now change.dest) changes.now }
-        requires before { WereTallies plant.now graph.now.crosspoints changes.now self.old }
-        ensures kept { AreTalliesOf plant.now graph.now.crosspoints self.new }
+        requires before { WereTallies plant.now points.now.entries changes.now self.old }
+        ensures kept { AreTalliesOf plant.now points.now.entries self.new }
         ensures turned { (old : carried.Crosspoints) → AreTalliesOf plant.now old self.old
-            → MovedOnly old graph.now.crosspoints changes.now
-            → HaveTurned plant.now old graph.now.crosspoints changes.now self.new }
+            → MovedOnly old points.now.entries changes.now
+            → HaveTurned plant.now old points.now.entries changes.now self.new }
     {
         let (book, share) = blank.open::<L>();
         let mut steps = Steps::begin(book, share);
-        self.air.update(plant, graph, changes, &mut steps);
-        self.preview.update(plant, graph, changes, &mut steps);
+        let graph = Graph::new(plant, mixers, points);
+        self.air.update(&graph, changes, &mut steps);
+        self.preview.update(&graph, changes, &mut steps);
     }
 
     // The tally for such roots.

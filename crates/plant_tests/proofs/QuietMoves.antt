@@ -19,7 +19,8 @@ use Rattle.mixer_effects.proofs.AnyLemmas.{any_place}
 use Rattle.tally.specs.Weight.{weights, weigh, device_weight}
 use Rattle.tally.specs.Touched.{touched_by}
 use Rattle.tally.specs.Update.{MovedOnly}
-use Rattle.tally.specs.Doubt.{lost_by, is_doubtful, is_device_on, is_affected, read_bound}
+use Rattle.tally.specs.Doubt.{is_doubtful, is_device_on, is_affected}
+use Rattle.tally.specs.Reads.{lost_by, named_bound}
 use Rattle.tally.proofs.WeightLemmas.{weigh_same}
 
 -- a bit that can't be set
@@ -77,18 +78,18 @@ module _ (plant : PlantData) (roots : List ℕ) (points : Crosspoints) (change :
       by None = refl
       by (Some output) = unseen output
 
-  no_doubt : (device : ℕ) → is_doubtful plant empty roots (change ∷ []) device ≡ false
-  no_doubt device = never_true (is_doubtful plant empty roots (change ∷ []) device) (λ doubt.
+  no_doubt : (device : ℕ) → is_doubtful plant empty (lost_by plant empty roots (change ∷ [])) device ≡ false
+  no_doubt device = never_true (is_doubtful plant empty (lost_by plant empty roots (change ∷ [])) device) (λ doubt.
       let found = any_place (is_fed_by plant empty device) (live plant empty (lost_by plant empty roots (change ∷ []))) doubt in
       both_ways (is_fed_by plant empty device found.1) (unfed plant empty device found.1 (get-empty nat_cmp found.1)) found.3)
 
-  unaffected : (device : ℕ) → is_affected plant empty points roots (change ∷ []) device ≡ false
+  unaffected : (device : ℕ) → is_affected plant empty points roots (lost_by plant empty roots (change ∷ [])) device ≡ false
   unaffected device = rw (no_doubt device, no_output device) refl
 
-  pub reads_little : slice_get (switched_at plant change.dest) 0 ≡ None → read_bound plant empty points roots (change ∷ []) ≡ 8
+  pub reads_little : slice_get (switched_at plant change.dest) 0 ≡ None → named_bound plant empty points roots (change ∷ []) ≡ 9
   reads_little none =
-      let weight : weigh (device_weight plant) (is_affected plant empty points roots (change ∷ [])) ≡ 0 =
-      weigh_same (device_weight plant) (is_affected plant empty points roots (change ∷ [])) (λ _. false) unaffected ∙ none_weigh (device_weight plant) in
+      let weight : weigh (device_weight plant) (is_affected plant empty points roots (lost_by plant empty roots (change ∷ []))) ≡ 0 =
+      weigh_same (device_weight plant) (is_affected plant empty points roots (lost_by plant empty roots (change ∷ []))) (λ _. false) unaffected ∙ none_weigh (device_weight plant) in
       let few : length (touched_by plant (change ∷ [])) ≡ 1 =
       ap (λ (switched : List ℕ). length ((change.dest ∷ switched) ++ [])) (no_first (switched_at plant change.dest) none) in
       omega (arith, weight, few)

@@ -26,11 +26,12 @@ use tap_lists::Steps;
 // device is affected.
 fn follow<L: Ledger>(
     plant: &Plant,
-    graph: &Graph<'_>,
+    graph: &Graph<'_, L>,
     change: &Change,
     tally: &mut Tally,
     steps: &mut Steps<L>,
 )
+    requires of { graph.now.plant ≡ plant.now }
     requires wired { IsWiringOf plant.now graph.now.wiring }
     requires tapped { AreTapsOf plant.now graph.now.crosspoints graph.now.taps }
     requires dest { IsDest plant.now change.now.dest }
@@ -42,7 +43,7 @@ fn follow<L: Ledger>(
     ensures kept { IsKeptFor plant.now graph.now.crosspoints plant.now.air tally.new }
     ensures counted { steps.new ≤ steps.old + 32 }
 {
-    tally.update(plant, graph, slice::from_ref(change), steps);
+    tally.update(graph, slice::from_ref(change), steps);
 }
 
 // Destination 5 of a plant of which all is parked is moved to camera 1.
@@ -68,7 +69,7 @@ fn is_quiet<L: Ledger>(
     assert!(rt; 5 < plant.destination_count());
     assert!(rt; 1 < plant.source_count());
     assert!(rt; !tally.is_live(dest));
-    let switched = Graph::new(mixers, points).switched_by(dest, 0, &mut steps);
+    let switched = Graph::new(plant, mixers, points).switched_by(dest, 0, &mut steps);
     assert!(rt; switched.is_none());
     let spot = Spot {
         source: camera,
@@ -79,7 +80,7 @@ fn is_quiet<L: Ledger>(
         dest,
         source: Some(camera),
     };
-    let graph = Graph::new(mixers, points);
+    let graph = Graph::new(plant, mixers, points);
     follow(plant, &graph, &change, tally, &mut steps);
     assert!(rt; !tally.on(plant, camera));
     assert!(rt; tally.flipped().is_empty());

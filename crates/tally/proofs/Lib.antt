@@ -20,4 +20,5 @@ pub mod DrainLemmas
 pub mod KeptLemmas
 pub mod StartLemmas
 pub mod BoundLemmas
+pub mod MovedLemmas
 pub mod RootlessLemmas

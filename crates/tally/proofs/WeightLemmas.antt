@@ -15,7 +15,7 @@ weights_same w f g (suc n) same =
     let rest : weights w f n ≡ weights w g n = weights_same w f g n (λ k below. same k (omega arith)) in
     omega (arith, here, rest)
 
-weights_one : (w : ℕ → ℕ) (f g : ℕ → Bool) (v n : ℕ) → v < n → f v ≡ true → g v ≡ false → ((k : ℕ) → k ≢ v → f k ≡ g k) → weights w f n ≡ weights w g n + w v
+pub weights_one : (w : ℕ → ℕ) (f g : ℕ → Bool) (v n : ℕ) → v < n → f v ≡ true → g v ≡ false → ((k : ℕ) → k ≢ v → f k ≡ g k) → weights w f n ≡ weights w g n + w v
 unfolding weights
 weights_one w f g v zero below has lacks others = absurd (omega arith)
 weights_one w f g v (suc n) below has lacks others = by (weights_one w f g v n) (cases_eq n v)
@@ -55,7 +55,23 @@ weights_parts w f g (suc n) within =
     by false true x both = omega arith
     by false false x both = refl
 
+weights_plus : (w : ℕ → ℕ) (f : ℕ → Bool) (n : ℕ) → weights (λ k. suc (w k)) f n ≡ weights (λ _. 1) f n + weights w f n
+unfolding weights
+weights_plus w f zero = refl
+weights_plus w f (suc n) =
+    let rest = weights_plus w f n in
+    let here : cond (f n) (suc (w n)) 0 ≡ cond (f n) 1 0 + cond (f n) (w n) 0 = by (f n) (w n) in
+    omega (arith, here, rest)
+  where
+    by : (b : Bool) (x : ℕ) → cond b (suc x) 0 ≡ cond b 1 0 + cond b x 0
+    by true x = omega arith
+    by false x = refl
+
 -- the same of sets
+pub weigh_plus : (w : ℕ → ℕ) (f : ℕ → Bool) → weigh (λ k. suc (w k)) f ≡ weigh (λ _. 1) f + weigh w f
+unfolding weigh
+weigh_plus w f = weights_plus w f device_limit
+
 pub weigh_one : (w : ℕ → ℕ) (f g : ℕ → Bool) (v : ℕ) → v < device_limit → f v ≡ true → g v ≡ false → ((k : ℕ) → k ≢ v → f k ≡ g k) → weigh w f ≡ weigh w g + w v
 unfolding weigh
 weigh_one w f g v = weights_one w f g v device_limit

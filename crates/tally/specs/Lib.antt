@@ -10,4 +10,6 @@ pub mod Weight
 pub mod Relit
 pub mod Update
 pub mod Kept
+pub mod Moved
 pub mod Doubt
+pub mod Reads

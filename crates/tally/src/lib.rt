@@ -11,6 +11,6 @@ mod roots;
 mod settle;
 mod tally;
 
-pub use laws::{settled_marks_say_what_is_live, what_is_left_is_live};
+pub use laws::{reads_are_few, settled_marks_say_what_is_live, what_is_left_is_live};
 pub use roots::Roots;
 pub use tally::Tally;

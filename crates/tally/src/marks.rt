@@ -107,30 +107,29 @@ impl Marks {
     /// Marks a destination live, by its number. The device that is fed since, if there is one.
     pub(crate) fn put<L: Ledger>(
         &mut self,
-        plant: &Plant,
-        graph: &Graph<'_>,
+        graph: &Graph<'_, L>,
         dest: u32,
         steps: &mut Steps<L>,
     ) -> Option<DeviceId>
         requires limit { dest < number_limit }
-        requires dest { dest < destinations_of plant.now }
+        requires dest { dest < destinations_of graph.now.plant }
         requires dark { contains self.old.live dest ≡ false }
-        requires wired { IsWiringOf plant.now graph.now.wiring }
-        requires tapped { AreTapsOf plant.now graph.now.crosspoints graph.now.taps }
-        requires marks { AreMarksOf plant.now graph.now.crosspoints self.old }
+        requires wired { IsWiringOf graph.now.plant graph.now.wiring }
+        requires tapped { AreTapsOf graph.now.plant graph.now.crosspoints graph.now.taps }
+        requires marks { AreMarksOf graph.now.plant graph.now.crosspoints self.old }
         ensures live { self.new.live ≡ insert self.old.live dest }
-        ensures marks { AreMarksOf plant.now graph.now.crosspoints self.new }
+        ensures marks { AreMarksOf graph.now.plant graph.now.crosspoints self.new }
         ensures turned { StayTurned self.old self.new }
         ensures fed { FeedsMore self.old.fed self.new.fed result }
-        ensures device { IfSome result (IsFedNow plant.now self.old.fed) }
-        ensures counted { steps.new ≤ steps.old + 2 }
+        ensures device { IfSome result (IsFedNow graph.now.plant self.old.fed) }
+        ensures counted { steps.new ≤ steps.old + 3 }
     {
         self.live.insert(dest);
-        let origin = graph.points().taps().head_of(dest)?;
-        if put_lit(&mut self.lit, &mut self.turned, origin, dest, steps) {
+        let origin = graph.origin_at(DestId::of(dest), steps)?;
+        if put_lit(&mut self.lit, &mut self.turned, origin.get(), dest, steps) {
             return None;
         }
-        let device = graph.fed_device(SourceId::of(origin), steps)?;
+        let device = graph.fed_device(origin, steps)?;
         self.fed.insert(device.get());
         Some(device)
     }
@@ -138,22 +137,24 @@ impl Marks {
     /// Takes the mark of a destination away, by its number. The device that the destination fed, if there is one.
     pub(crate) fn take<L: Ledger>(
         &mut self,
-        plant: &Plant,
-        graph: &Graph<'_>,
+        graph: &Graph<'_, L>,
         dest: u32,
         steps: &mut Steps<L>,
     ) -> Option<DeviceId>
         requires limit { dest < number_limit }
         requires marked { contains self.old.live dest ≡ true }
-        requires wired { IsWiringOf plant.now graph.now.wiring }
-        requires marks { (points : carried.Crosspoints) × AreMarksOf plant.now points self.old }
+        requires wired { IsWiringOf graph.now.plant graph.now.wiring }
+        requires marks { (points : carried.Crosspoints)
+            × AreMarksOf graph.now.plant points self.old }
         ensures live { self.new.live ≡ remove self.old.live dest }
-        ensures marks { (points : carried.Crosspoints) → AreMarksOf plant.now points self.old
-            → AreMarksOf plant.now points self.new }
+        ensures marks { (points : carried.Crosspoints)
+            → AreMarksOf graph.now.plant points self.old
+            → AreMarksOf graph.now.plant points self.new }
         ensures turned { StayTurned self.old self.new }
-        ensures device { (points : carried.Crosspoints) → AreMarksOf plant.now points self.old
-            → result ≡ option_and_then (fed_device plant.now)
-            (origin_at plant.now points dest) }
+        ensures device { (points : carried.Crosspoints)
+            → AreMarksOf graph.now.plant points self.old
+            → result ≡ option_and_then (fed_device graph.now.plant)
+            (origin_at graph.now.plant points dest) }
         ensures below { IfSome result (λ device. device < number_limit) }
         ensures counted { steps.new ≤ steps.old + 2 }
     {

@@ -19,155 +19,143 @@ use crate::losing::BUSES;
 use crate::marks::Marks;
 use mixer_effects::Graph;
 use number_tables::NumberSet;
-use plant_config::{Change, DestId, DeviceId, Plant};
+use plant_config::{Change, DestId, DeviceId};
 use std::sync::ledger::Ledger;
 use tap_lists::Steps;
 
 // Looks again at what changes name, and at the buses that this switches.
 pub(crate) fn relight_touched<L: Ledger>(
-    plant: &Plant,
-    graph: &Graph<'_>,
+    graph: &Graph<'_, L>,
     roots: &NumberSet,
     changes: &[Change],
     marks: &mut Marks,
     waiting: &mut NumberSet,
     steps: &mut Steps<L>,
 )
-    requires wired { IsWiringOf plant.now graph.now.wiring }
-    requires tapped { AreTapsOf plant.now graph.now.crosspoints graph.now.taps }
-    requires dests { All (λ change. IsDest plant.now change.dest) changes.now }
-    requires marks { AreMarksOf plant.now graph.now.crosspoints marks.old }
-    ensures relit { AreRelit plant.now graph.now.crosspoints roots.now
-        (touched_by plant.now changes.now) marks.old marks.new waiting.old waiting.new }
-    ensures counted { steps.new ≤ steps.old + 5 * length (touched_by plant.now changes.now) }
+    requires wired { IsWiringOf graph.now.plant graph.now.wiring }
+    requires tapped { AreTapsOf graph.now.plant graph.now.crosspoints graph.now.taps }
+    requires dests { All (λ change. IsDest graph.now.plant change.dest) changes.now }
+    requires marks { AreMarksOf graph.now.plant graph.now.crosspoints marks.old }
+    ensures relit { AreRelit graph.now.plant graph.now.crosspoints roots.now
+        (touched_by graph.now.plant changes.now) marks.old marks.new waiting.old waiting.new }
+    ensures counted { steps.new ≤ steps.old
+        + 6 * length (touched_by graph.now.plant changes.now) }
 {
     for change in changes {
-        relight_switched(plant, graph, roots, change.dest, marks, waiting, steps);
+        relight_switched(graph, roots, change.dest, marks, waiting, steps);
     }
 }
 
 // Goes through the devices that wait: looks again at the buses of each. At the end none waits.
 pub(crate) fn relight_waiting<L: Ledger>(
-    plant: &Plant,
-    graph: &Graph<'_>,
+    graph: &Graph<'_, L>,
     roots: &NumberSet,
     marks: &mut Marks,
     waiting: &mut NumberSet,
     steps: &mut Steps<L>,
 )
-    requires wired { IsWiringOf plant.now graph.now.wiring }
-    requires tapped { AreTapsOf plant.now graph.now.crosspoints graph.now.taps }
-    requires marks { AreMarksOf plant.now graph.now.crosspoints marks.old }
-    requires devices { AreDevices plant.now waiting.old }
-    ensures relit { AreRelit plant.now graph.now.crosspoints roots.now [] marks.old marks.new
+    requires wired { IsWiringOf graph.now.plant graph.now.wiring }
+    requires tapped { AreTapsOf graph.now.plant graph.now.crosspoints graph.now.taps }
+    requires marks { AreMarksOf graph.now.plant graph.now.crosspoints marks.old }
+    requires devices { AreDevices graph.now.plant waiting.old }
+    ensures relit { AreRelit graph.now.plant graph.now.crosspoints roots.now [] marks.old marks.new
         waiting.old waiting.new }
     ensures all { waiting.new ≡ empty }
-    ensures counted { steps.new + 5 * weigh (device_weight plant.now) (contains marks.old.fed)
-        ≤ steps.old + 5 * (weigh (device_weight plant.now) (contains waiting.old)
-        + weigh (device_weight plant.now) (contains marks.new.fed)) }
+    ensures counted { steps.new + 6 * weigh (device_weight graph.now.plant) (contains marks.old.fed)
+        ≤ steps.old + 6 * (weigh (device_weight graph.now.plant) (contains waiting.old)
+        + weigh (device_weight graph.now.plant) (contains marks.new.fed)) }
 {
     while let Some(device) = waiting.lowest() {
         waiting.remove(device);
-        relight_behind(
-            plant,
-            graph,
-            roots,
-            DeviceId::of(device),
-            marks,
-            waiting,
-            steps,
-        );
+        relight_behind(graph, roots, DeviceId::of(device), marks, waiting, steps);
     }
 }
 
 // Looks again at a destination and at the buses that it switches.
 fn relight_switched<L: Ledger>(
-    plant: &Plant,
-    graph: &Graph<'_>,
+    graph: &Graph<'_, L>,
     roots: &NumberSet,
     dest: DestId,
     marks: &mut Marks,
     waiting: &mut NumberSet,
     steps: &mut Steps<L>,
 )
-    requires wired { IsWiringOf plant.now graph.now.wiring }
-    requires tapped { AreTapsOf plant.now graph.now.crosspoints graph.now.taps }
-    requires dest { IsDest plant.now dest }
-    requires marks { AreMarksOf plant.now graph.now.crosspoints marks.old }
-    ensures relit { AreRelit plant.now graph.now.crosspoints roots.now
-        (with_switched plant.now dest) marks.old marks.new waiting.old waiting.new }
-    ensures counted { steps.new ≤ steps.old + 5 * length (with_switched plant.now dest) }
+    requires wired { IsWiringOf graph.now.plant graph.now.wiring }
+    requires tapped { AreTapsOf graph.now.plant graph.now.crosspoints graph.now.taps }
+    requires dest { IsDest graph.now.plant dest }
+    requires marks { AreMarksOf graph.now.plant graph.now.crosspoints marks.old }
+    ensures relit { AreRelit graph.now.plant graph.now.crosspoints roots.now
+        (with_switched graph.now.plant dest) marks.old marks.new waiting.old waiting.new }
+    ensures counted { steps.new ≤ steps.old + 6 * length (with_switched graph.now.plant dest) }
 {
-    relight(plant, graph, roots, dest, marks, waiting, steps);
+    relight(graph, roots, dest, marks, waiting, steps);
     for place in 0..BUSES {
         let Some(bus) = graph.switched_by(dest, place, steps) else {
             return;
         };
-        relight(plant, graph, roots, bus, marks, waiting, steps);
+        relight(graph, roots, bus, marks, waiting, steps);
     }
 }
 
 // Looks again at the buses of a device.
 fn relight_behind<L: Ledger>(
-    plant: &Plant,
-    graph: &Graph<'_>,
+    graph: &Graph<'_, L>,
     roots: &NumberSet,
     device: DeviceId,
     marks: &mut Marks,
     waiting: &mut NumberSet,
     steps: &mut Steps<L>,
 )
-    requires wired { IsWiringOf plant.now graph.now.wiring }
-    requires tapped { AreTapsOf plant.now graph.now.crosspoints graph.now.taps }
-    requires marks { AreMarksOf plant.now graph.now.crosspoints marks.old }
-    ensures relit { AreRelit plant.now graph.now.crosspoints roots.now (buses_at plant.now device)
-        marks.old marks.new waiting.old waiting.new }
-    ensures counted { steps.new ≤ steps.old + 5 * suc (length (buses_at plant.now device)) }
+    requires wired { IsWiringOf graph.now.plant graph.now.wiring }
+    requires tapped { AreTapsOf graph.now.plant graph.now.crosspoints graph.now.taps }
+    requires marks { AreMarksOf graph.now.plant graph.now.crosspoints marks.old }
+    ensures relit { AreRelit graph.now.plant graph.now.crosspoints roots.now
+        (buses_at graph.now.plant device) marks.old marks.new waiting.old waiting.new }
+    ensures counted { steps.new ≤ steps.old + 6 * suc (length (buses_at graph.now.plant device)) }
 {
     for place in 0..BUSES {
         let Some(bus) = graph.bus(device, place, steps) else {
             return;
         };
-        relight(plant, graph, roots, bus, marks, waiting, steps);
+        relight(graph, roots, bus, marks, waiting, steps);
     }
 }
 
 // Marks a destination, where it is a root or a bus that is on of a device that is fed.
 fn relight<L: Ledger>(
-    plant: &Plant,
-    graph: &Graph<'_>,
+    graph: &Graph<'_, L>,
     roots: &NumberSet,
     dest: DestId,
     marks: &mut Marks,
     waiting: &mut NumberSet,
     steps: &mut Steps<L>,
 )
-    requires wired { IsWiringOf plant.now graph.now.wiring }
-    requires tapped { AreTapsOf plant.now graph.now.crosspoints graph.now.taps }
-    requires dest { IsDest plant.now dest }
-    requires marks { AreMarksOf plant.now graph.now.crosspoints marks.old }
-    ensures relit { AreRelit plant.now graph.now.crosspoints roots.now (dest ∷ []) marks.old
+    requires wired { IsWiringOf graph.now.plant graph.now.wiring }
+    requires tapped { AreTapsOf graph.now.plant graph.now.crosspoints graph.now.taps }
+    requires dest { IsDest graph.now.plant dest }
+    requires marks { AreMarksOf graph.now.plant graph.now.crosspoints marks.old }
+    ensures relit { AreRelit graph.now.plant graph.now.crosspoints roots.now (dest ∷ []) marks.old
         marks.new waiting.old waiting.new }
-    ensures counted { steps.new ≤ steps.old + 4 }
+    ensures counted { steps.new ≤ steps.old + 5 }
 {
-    if !is_reached(plant, graph, roots, marks, dest, steps) {
+    if !is_reached(graph, roots, marks, dest, steps) {
         return;
     }
-    light(plant, graph, dest, marks, waiting, steps);
+    light(graph, dest, marks, waiting, steps);
 }
 
 // Whether a destination is a root, or a bus that is on of a device that is fed.
 fn is_reached<L: Ledger>(
-    plant: &Plant,
-    graph: &Graph<'_>,
+    graph: &Graph<'_, L>,
     roots: &NumberSet,
     marks: &Marks,
     dest: DestId,
     steps: &mut Steps<L>,
 ) -> bool
-    requires wired { IsWiringOf plant.now graph.now.wiring }
+    requires wired { IsWiringOf graph.now.plant graph.now.wiring }
     requires dest { dest < number_limit }
-    ensures is { result ≡ is_reached plant.now graph.now.crosspoints roots.now marks.now dest }
+    ensures is { result ≡ is_reached graph.now.plant graph.now.crosspoints roots.now
+        marks.now dest }
     ensures counted { steps.new ≤ steps.old + 2 }
 {
     if roots.contains(dest.get()) {
@@ -181,29 +169,28 @@ fn is_reached<L: Ledger>(
 
 // Marks a destination, if it has no mark. A device that is fed since waits.
 fn light<L: Ledger>(
-    plant: &Plant,
-    graph: &Graph<'_>,
+    graph: &Graph<'_, L>,
     dest: DestId,
     marks: &mut Marks,
     waiting: &mut NumberSet,
     steps: &mut Steps<L>,
 )
-    requires wired { IsWiringOf plant.now graph.now.wiring }
-    requires tapped { AreTapsOf plant.now graph.now.crosspoints graph.now.taps }
-    requires dest { IsDest plant.now dest }
-    requires marks { AreMarksOf plant.now graph.now.crosspoints marks.old }
+    requires wired { IsWiringOf graph.now.plant graph.now.wiring }
+    requires tapped { AreTapsOf graph.now.plant graph.now.crosspoints graph.now.taps }
+    requires dest { IsDest graph.now.plant dest }
+    requires marks { AreMarksOf graph.now.plant graph.now.crosspoints marks.old }
     ensures one { MarksOne marks.old marks.new dest }
-    ensures marks { AreMarksOf plant.now graph.now.crosspoints marks.new }
+    ensures marks { AreMarksOf graph.now.plant graph.now.crosspoints marks.new }
     ensures turned { StayTurned marks.old marks.new }
-    ensures fed { AreFedMore plant.now marks.old.fed marks.new.fed waiting.old waiting.new }
+    ensures fed { AreFedMore graph.now.plant marks.old.fed marks.new.fed waiting.old waiting.new }
     ensures news { WaitOnceFed marks.old.fed marks.new.fed waiting.old waiting.new }
-    ensures counted { steps.new ≤ steps.old + 2 }
+    ensures counted { steps.new ≤ steps.old + 3 }
 {
     let dest = dest.get();
     if marks.is_live(dest) {
         return;
     }
-    let Some(device) = marks.put(plant, graph, dest, steps) else {
+    let Some(device) = marks.put(graph, dest, steps) else {
         return;
     };
     waiting.insert(device.get());

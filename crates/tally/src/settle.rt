@@ -9,7 +9,7 @@ ghost use Rattle.mixer_effects.specs.Wiring.{IsWiringOf};
 ghost use Rattle.tally.specs.MarksInside.{StayTurned};
 ghost use Rattle.tally.specs.MarkLaws.{AreSettled};
 ghost use Rattle.tally.specs.Update.{IsMove};
-ghost use Rattle.tally.specs.Doubt.{read_bound};
+ghost use Rattle.tally.specs.Reads.{named_bound};
 
 use crate::doubt::spread_doubt;
 use crate::losing::lose_touched;
@@ -17,15 +17,14 @@ use crate::marks::Marks;
 use crate::relight::{relight_touched, relight_waiting};
 use mixer_effects::Graph;
 use number_tables::NumberSet;
-use plant_config::{Change, Plant};
+use plant_config::Change;
 use std::sync::ledger::Ledger;
 use tap_lists::Steps;
 
 // Settles marks after changes. What changes name and what this switches goes dark, and with it all whose way to the roots may
 // have led through it. Then what is live is marked again, from what stayed live and from the changes outwards.
 pub(crate) fn settle<L: Ledger>(
-    plant: &Plant,
-    graph: &Graph<'_>,
+    graph: &Graph<'_, L>,
     roots: &NumberSet,
     changes: &[Change],
     marks: &mut Marks,
@@ -33,26 +32,26 @@ pub(crate) fn settle<L: Ledger>(
     doubted: &mut NumberSet,
     steps: &mut Steps<L>,
 )
-    requires wired { IsWiringOf plant.now graph.now.wiring }
-    requires tapped { AreTapsOf plant.now graph.now.crosspoints graph.now.taps }
-    requires dests { All (λ change. IsDest plant.now change.dest) changes.now }
-    requires moved { (old : carried.Crosspoints) × ((list : List ℕ) × IsMove plant.now old
+    requires wired { IsWiringOf graph.now.plant graph.now.wiring }
+    requires tapped { AreTapsOf graph.now.plant graph.now.crosspoints graph.now.taps }
+    requires dests { All (λ change. IsDest graph.now.plant change.dest) changes.now }
+    requires moved { (old : carried.Crosspoints) × ((list : List ℕ) × IsMove graph.now.plant old
         graph.now.crosspoints list roots.now changes.now marks.old) }
     requires idle { waiting.old ≡ empty }
     requires sure { doubted.old ≡ empty }
     ensures settled { (old : carried.Crosspoints) (list : List ℕ)
-        → IsMove plant.now old graph.now.crosspoints list roots.now changes.now marks.old
-        → AreSettled plant.now graph.now.crosspoints list marks.new }
+        → IsMove graph.now.plant old graph.now.crosspoints list roots.now changes.now marks.old
+        → AreSettled graph.now.plant graph.now.crosspoints list marks.new }
     ensures turned { StayTurned marks.old marks.new }
     ensures counted { (old : carried.Crosspoints) (list : List ℕ)
-        → IsMove plant.now old graph.now.crosspoints list roots.now changes.now marks.old
+        → IsMove graph.now.plant old graph.now.crosspoints list roots.now changes.now marks.old
         → steps.new ≤ steps.old
-        + read_bound plant.now old graph.now.crosspoints list changes.now }
+        + named_bound graph.now.plant old graph.now.crosspoints list changes.now }
     ensures idle { waiting.new ≡ empty }
     ensures sure { doubted.new ≡ empty }
 {
-    lose_touched(plant, graph, changes, doubted, marks, waiting, steps);
-    spread_doubt(plant, graph, roots, marks, waiting, doubted, steps);
-    relight_touched(plant, graph, roots, changes, marks, doubted, steps);
-    relight_waiting(plant, graph, roots, marks, doubted, steps);
+    lose_touched(graph, changes, doubted, marks, waiting, steps);
+    spread_doubt(graph, roots, marks, waiting, doubted, steps);
+    relight_touched(graph, roots, changes, marks, doubted, steps);
+    relight_waiting(graph, roots, marks, doubted, steps);
 }

@@ -9,7 +9,8 @@ ghost use Rattle.crosspoint_state.specs.Taps.{AreTapsOf};
 ghost use Rattle.mixer_effects.specs.Live.{is_live, is_seen};
 ghost use Rattle.mixer_effects.specs.Wiring.{IsWiringOf};
 ghost use Rattle.tally.specs.Tally.{roots_of};
-ghost use Rattle.tally.specs.Doubt.{read_bound};
+ghost use Rattle.tally.specs.Moved.{AreMoves};
+ghost use Rattle.tally.specs.Reads.{named_bound, read_bound};
 ghost use Rattle.tally.specs.Kept.{IsKeptFor, IsUpdate, AreFlipped};
 
 use crate::marks::Marks;
@@ -23,8 +24,8 @@ use std::marker::{Brand, Model};
 use std::sync::ledger::{Blank, Ledger};
 use tap_lists::Steps;
 
-/// Which destinations of a plant are live for some roots, and which sources are seen there. Each update looks at what moved and
-/// at what this reaches, and at nothing else.
+/// Which destinations of a plant are live for some roots, and which sources are seen there. An update looks at what changes name
+/// and at what this reaches, and reads no more of the plant than a bound says.
 #[derive(Debug, Drop)]
 pub struct Tally {
     /// What is live, and what is on by it.
@@ -41,7 +42,6 @@ pub struct Tally {
 
 impl Model for Tally {
     ghost use Rattle.std.specs.Prelude.{vec_capacity};
-    ghost use Rattle.tally.specs.Doubt.{read_bound};
     ghost use Rattle.tally.specs.Kept.{Kept, kept_code};
 
     ghost Value = { Kept };
@@ -83,26 +83,30 @@ impl Tally {
     /// Follows changes that were made: at most what they name has moved since the tally was made or last updated.
     pub fn update<L: Ledger>(
         &mut self,
-        plant: &Plant,
-        graph: &Graph<'_>,
+        graph: &Graph<'_, L>,
         changes: &[Change],
         steps: &mut Steps<L>,
     )
-        requires wired { IsWiringOf plant.now graph.now.wiring }
-        requires tapped { AreTapsOf plant.now graph.now.crosspoints graph.now.taps }
-        requires dests { All (λ change. IsDest plant.now change.dest) changes.now }
-        requires before { (old : carried.Crosspoints) × ((roots : List ℕ) × IsUpdate plant.now
-            old graph.now.crosspoints roots changes.now self.old) }
+        requires wired { IsWiringOf graph.now.plant graph.now.wiring }
+        requires tapped { AreTapsOf graph.now.plant graph.now.crosspoints graph.now.taps }
+        requires dests { All (λ change. IsDest graph.now.plant change.dest) changes.now }
+        requires before { (old : carried.Crosspoints) × ((roots : List ℕ)
+            × IsUpdate graph.now.plant old graph.now.crosspoints roots changes.now self.old) }
         ensures kept { (old : carried.Crosspoints) (roots : List ℕ)
-            → IsUpdate plant.now old graph.now.crosspoints roots changes.now self.old
-            → IsKeptFor plant.now graph.now.crosspoints roots self.new }
+            → IsUpdate graph.now.plant old graph.now.crosspoints roots changes.now self.old
+            → IsKeptFor graph.now.plant graph.now.crosspoints roots self.new }
         ensures flipped { (old : carried.Crosspoints) (roots : List ℕ)
-            → IsUpdate plant.now old graph.now.crosspoints roots changes.now self.old
-            → AreFlipped plant.now old graph.now.crosspoints roots self.new.flipped }
+            → IsUpdate graph.now.plant old graph.now.crosspoints roots changes.now self.old
+            → AreFlipped graph.now.plant old graph.now.crosspoints roots self.new.flipped }
         ensures counted { (old : carried.Crosspoints) (roots : List ℕ)
-            → IsUpdate plant.now old graph.now.crosspoints roots changes.now self.old
+            → IsUpdate graph.now.plant old graph.now.crosspoints roots changes.now self.old
             → steps.new ≤ steps.old
-            + read_bound plant.now old graph.now.crosspoints roots changes.now }
+            + named_bound graph.now.plant old graph.now.crosspoints roots changes.now }
+        ensures moved { (old : carried.Crosspoints) (roots : List ℕ)
+            → IsUpdate graph.now.plant old graph.now.crosspoints roots changes.now self.old
+            → AreMoves old graph.now.crosspoints changes.now
+            → steps.new ≤ steps.old
+            + read_bound graph.now.plant old graph.now.crosspoints roots }
     {
         // Short way: without roots nothing is live.
         if self.roots.is_empty() {
@@ -110,7 +114,6 @@ impl Tally {
             return;
         }
         settle(
-            plant,
             graph,
             &self.roots,
             changes,

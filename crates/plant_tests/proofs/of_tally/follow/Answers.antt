@@ -1,23 +1,30 @@
 use Rattle.std.proofs.Common.{◌≡◌, ap, ◌∙◌, arith}
 use Rattle.std.specs.FinMap.{empty}
-use Rattle.tally.specs.Doubt.{read_bound}
-use Rattle.tally.specs.Kept.{IsUpdate}
+use Rattle.tally.specs.Reads.{named_bound}
 use Rattle.plant_tests.proofs.QuietMoves.{reads_little, one_moved}
 use Rattle.plant_tests.proofs.of_tally.follow.Goals as goal
 
+pub update-requires-clause-wired : goal.update-requires-clause-wired
+update-requires-clause-wired g c = rw c.requires.of c.requires.wired
+
+pub update-requires-clause-tapped : goal.update-requires-clause-tapped
+update-requires-clause-tapped g c = rw c.requires.of c.requires.tapped
+
 pub update-requires-clause-before : goal.update-requires-clause-before
 update-requires-clause-before g c =
+    rw c.requires.of
     (empty, (c.args.plant.now.air, record { before = c.requires.tally; moved = one_moved c.args.plant.now c.args.plant.now.air c.args.graph.now.crosspoints c.args.change.now c.requires.off c.requires.alone c.from_ref.result.now c.from_ref.ensures.value }))
 
 pub returns-clause-kept : goal.returns-clause-kept
 returns-clause-kept g c =
-    c.update.ensures.kept empty c.args.plant.now.air (record { before = c.requires.tally; moved = one_moved c.args.plant.now c.args.plant.now.air c.args.graph.now.crosspoints c.args.change.now c.requires.off c.requires.alone c.from_ref.result.now c.from_ref.ensures.value })
+    let kept = rw c.requires.of at c.update.ensures.kept in
+    kept empty c.args.plant.now.air (record { before = c.requires.tally; moved = one_moved c.args.plant.now c.args.plant.now.air c.args.graph.now.crosspoints c.args.change.now c.requires.off c.requires.alone c.from_ref.result.now c.from_ref.ensures.value })
 
 pub returns-clause-counted : goal.returns-clause-counted
 returns-clause-counted g c =
-    let update : IsUpdate c.args.plant.now empty c.args.graph.now.crosspoints c.args.plant.now.air c.from_ref.result.now c.args.tally.now =
-    record { before = c.requires.tally; moved = one_moved c.args.plant.now c.args.plant.now.air c.args.graph.now.crosspoints c.args.change.now c.requires.off c.requires.alone c.from_ref.result.now c.from_ref.ensures.value } in
-    let little : read_bound c.args.plant.now empty c.args.graph.now.crosspoints c.args.plant.now.air c.from_ref.result.now ≡ 8 =
-    ap (read_bound c.args.plant.now empty c.args.graph.now.crosspoints c.args.plant.now.air) c.from_ref.ensures.value
+    let counted = (rw c.requires.of at c.update.ensures.counted) empty c.args.plant.now.air
+    (record { before = c.requires.tally; moved = one_moved c.args.plant.now c.args.plant.now.air c.args.graph.now.crosspoints c.args.change.now c.requires.off c.requires.alone c.from_ref.result.now c.from_ref.ensures.value }) in
+    let little : named_bound c.args.plant.now empty c.args.graph.now.crosspoints c.args.plant.now.air c.from_ref.result.now ≡ 9 =
+    ap (named_bound c.args.plant.now empty c.args.graph.now.crosspoints c.args.plant.now.air) c.from_ref.ensures.value
     ∙ reads_little c.args.plant.now c.args.plant.now.air c.args.graph.now.crosspoints c.args.change.now c.requires.off c.requires.alone c.requires.switches in
-    omega (arith, c.update.ensures.counted empty c.args.plant.now.air update, little)
+    omega (arith, counted, little)

@@ -10,7 +10,7 @@ use Rattle.tally.proofs.doubt.spread_doubt.Goals as goal
 
 pub loop-device-init : goal.loop-device-init
 loop-device-init g c = record {
-  spread = spread_none c.args.plant.now c.args.roots.now c.args.marks.now c.args.waiting.now c.args.doubted.now c.requires.devices c.requires.none;
+  spread = spread_none c.args.graph.now.plant c.args.roots.now c.args.marks.now c.args.waiting.now c.args.doubted.now c.requires.devices c.requires.none;
   counted = omega arith;
 }
 
@@ -22,7 +22,7 @@ loop-device-smaller g c =
     let v = c.in-Some.device in
     let doubted = c.loop-device.doubted in
     let has : contains c.loop-device.waiting v ≡ true = (IsLowest-lowest c.loop-device.waiting v (sym c.in-Some.ensures.lowest)).has in
-    let below : v < length c.args.plant.now.devices = c.loop-device.invariant.spread.devices v has in
+    let below : v < length c.args.graph.now.plant.devices = c.loop-device.invariant.spread.devices v has in
     let limit : v < device_limit = omega (arith, below, c.requires.wired.is_plant.linked.devices) in
     let more : weigh (λ _. 1) (contains (insert doubted v)) ≡ weigh (λ _. 1) (contains doubted) + 1 = weigh_inserted (λ _. 1) doubted v limit (c.loop-device.invariant.spread.apart v has) in
     let is : weigh (λ _. 1) (contains c.insert.new.self) ≡ weigh (λ _. 1) (contains (insert doubted v)) = ap (λ (set : Origins). weigh (λ _. 1) (contains set)) c.insert.ensures in
@@ -31,7 +31,7 @@ loop-device-smaller g c =
 
 pub loop-device-preserved : goal.loop-device-preserved
 loop-device-preserved g c =
-    let plant = c.args.plant.now in
+    let plant = c.args.graph.now.plant in
     let v = c.in-Some.device in
     let waiting = c.loop-device.waiting in
     let doubted = c.loop-device.doubted in

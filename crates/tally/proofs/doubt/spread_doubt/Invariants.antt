@@ -6,8 +6,8 @@ use Rattle.tally.proofs.doubt.spread_doubt.Given as goal
 
 abbrev pub invariant-loop-device : goal.invariant-loop-device
 invariant-loop-device g l = record {
-  spread : HasSpread l.plant l.roots l.fn.marks l.marks l.fn.waiting l.waiting l.doubted;
-  counted : l.steps ≤ l.fn.steps + 3 * weigh (device_weight l.plant) (contains l.doubted);
+  spread : HasSpread l.graph.plant l.roots l.fn.marks l.marks l.fn.waiting l.waiting l.doubted;
+  counted : l.steps ≤ l.fn.steps + 3 * weigh (device_weight l.graph.plant) (contains l.doubted);
 }
 
 abbrev pub decreases-loop-device : goal.decreases-loop-device

@@ -9,21 +9,21 @@ use Rattle.tally.proofs.losing.lose_switched.Goals as goal
 
 pub loop-place-init : goal.loop-place-init
 loop-place-init g c = record {
-  lost = lost_one c.args.plant.now c.args.doubted.now c.get.result c.args.dest c.args.marks.now c.lose.new.marks c.args.waiting.now c.lose.new.waiting c.get.ensures c.lose.ensures.losing c.lose.ensures.marks c.lose.ensures.dark c.lose.ensures.fewer c.lose.ensures.turned c.lose.ensures.waits;
+  lost = lost_one c.args.graph.now.plant c.args.doubted.now c.get.result c.args.dest c.args.marks.now c.lose.new.marks c.args.waiting.now c.lose.new.waiting c.get.ensures c.lose.ensures.losing c.lose.ensures.marks c.lose.ensures.dark c.lose.ensures.fewer c.lose.ensures.turned c.lose.ensures.waits;
   within = omega arith;
   counted = omega arith;
 }
 
 pub returns-in_default-clause-lost : goal.returns-in_default-clause-lost
 returns-in_default-clause-lost g c =
-    let buses = switched_at c.args.plant.now c.args.dest in
-    subst (λ (xs : List ℕ). AreLost c.args.plant.now (c.args.dest ∷ xs) c.args.marks.now c.loop-place.marks c.args.waiting.now c.loop-place.waiting c.args.doubted.now)
-    (take_all c.loop-place.place buses (past_all buses c.loop-place.place (c.in_default.ensures.bus c.args.plant.now c.requires.wired)))
+    let buses = switched_at c.args.graph.now.plant c.args.dest in
+    subst (λ (xs : List ℕ). AreLost c.args.graph.now.plant (c.args.dest ∷ xs) c.args.marks.now c.loop-place.marks c.args.waiting.now c.loop-place.waiting c.args.doubted.now)
+    (take_all c.loop-place.place buses (past_all buses c.loop-place.place (c.in_default.ensures.bus c.args.graph.now.plant c.requires.wired)))
     c.loop-place.invariant.lost
 
 pub lose-requires-in-loop-place-clause-limit : goal.lose-requires-in-loop-place-clause-limit
 lose-requires-in-loop-place-clause-limit g c =
-    let below = switched_below c.args.plant.now c.args.dest c.loop-place.place c.in-Some.bus c.requires.wired.is_plant (c.in-Some.ensures.bus c.args.plant.now c.requires.wired) in
+    let below = switched_below c.args.graph.now.plant c.args.dest c.loop-place.place c.in-Some.bus c.requires.wired.is_plant (c.in-Some.ensures.bus c.args.graph.now.plant c.requires.wired) in
     omega (arith, below, c.get-in-loop-place.ensures, c.requires.wired.is_plant.destinations)
 
 pub lose-requires-in-loop-place-clause-marks : goal.lose-requires-in-loop-place-clause-marks
@@ -31,7 +31,7 @@ lose-requires-in-loop-place-clause-marks g c = (c.requires.marks.0, c.loop-place
 
 pub loop-place-preserved : goal.loop-place-preserved
 loop-place-preserved g c =
-    let plant = c.args.plant.now in
+    let plant = c.args.graph.now.plant in
     let buses = switched_at plant c.args.dest in
     let place = c.loop-place.place in
     let bus = c.in-Some.bus in
@@ -50,8 +50,8 @@ loop-place-preserved g c =
 
 pub returns-clause-lost : goal.returns-clause-lost
 returns-clause-lost g c =
-    let buses = switched_at c.args.plant.now c.args.dest in
-    let few : length buses ≤ 1024 = few_switched c.args.plant.now c.args.dest c.requires.wired.is_plant in
-    subst (λ (xs : List ℕ). AreLost c.args.plant.now (c.args.dest ∷ xs) c.args.marks.now c.loop-place.marks c.args.waiting.now c.loop-place.waiting c.args.doubted.now)
+    let buses = switched_at c.args.graph.now.plant c.args.dest in
+    let few : length buses ≤ 1024 = few_switched c.args.graph.now.plant c.args.dest c.requires.wired.is_plant in
+    subst (λ (xs : List ℕ). AreLost c.args.graph.now.plant (c.args.dest ∷ xs) c.args.marks.now c.loop-place.marks c.args.waiting.now c.loop-place.waiting c.args.doubted.now)
     (take_all c.loop-place.place buses (omega arith))
     c.loop-place.invariant.lost

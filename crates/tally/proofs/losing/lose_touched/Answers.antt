@@ -10,7 +10,7 @@ lose_switched-requires-clause-marks g c = (c.requires.marks.0, c.loop-change.inv
 
 pub loop-change-preserved : goal.loop-change-preserved
 loop-change-preserved g c =
-    let plant = c.args.plant.now in
+    let plant = c.args.graph.now.plant in
     let changes = c.args.changes.now in
     let i = c.loop-change.change-index in
     let change = c.change-item.result in

@@ -5,6 +5,6 @@ use Rattle.tally.proofs.losing.lose_touched.Given as goal
 
 abbrev pub invariant-loop-change : goal.invariant-loop-change
 invariant-loop-change g l = record {
-  lost : AreLost l.plant (touched_by l.plant (take l.change-index l.changes)) l.fn.marks l.marks l.fn.waiting l.waiting l.doubted;
-  counted : l.steps ≤ l.fn.steps + 3 * length (touched_by l.plant (take l.change-index l.changes));
+  lost : AreLost l.graph.plant (touched_by l.graph.plant (take l.change-index l.changes)) l.fn.marks l.marks l.fn.waiting l.waiting l.doubted;
+  counted : l.steps ≤ l.fn.steps + 3 * length (touched_by l.graph.plant (take l.change-index l.changes));
 }

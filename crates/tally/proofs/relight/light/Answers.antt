@@ -18,8 +18,8 @@ returns-clause-one g c = λ other.
 
 pub returns-clause-fed : goal.returns-clause-fed
 returns-clause-fed g c =
-    light_fed c.args.plant.now c.requires.wired.is_plant c.args.marks.now.fed c.put.new.self.fed c.args.waiting.now c.insert.new.self c.get.result c.in-Some.device c.in-Some.ensures.fed c.in-Some.ensures.device c.insert.ensures c.get.ensures
+    light_fed c.args.graph.now.plant c.requires.wired.is_plant c.args.marks.now.fed c.put.new.self.fed c.args.waiting.now c.insert.new.self c.get.result c.in-Some.device c.in-Some.ensures.fed c.in-Some.ensures.device c.insert.ensures c.get.ensures
 
 pub returns-clause-news : goal.returns-clause-news
 returns-clause-news g c =
-    light_news c.args.plant.now c.requires.wired.is_plant c.args.marks.now.fed c.put.new.self.fed c.args.waiting.now c.insert.new.self c.get.result c.in-Some.device c.in-Some.ensures.fed c.in-Some.ensures.device c.insert.ensures c.get.ensures
+    light_news c.args.graph.now.plant c.requires.wired.is_plant c.args.marks.now.fed c.put.new.self.fed c.args.waiting.now c.insert.new.self c.get.result c.in-Some.device c.in-Some.ensures.fed c.in-Some.ensures.device c.insert.ensures c.get.ensures

@@ -9,18 +9,18 @@ use Rattle.tally.proofs.relight.relight_switched.Goals as goal
 
 pub returns-in_default-clause-relit : goal.returns-in_default-clause-relit
 returns-in_default-clause-relit g c =
-    let buses = switched_at c.args.plant.now c.args.dest in
-    subst (λ (xs : List ℕ). AreRelit c.args.plant.now c.args.graph.now.crosspoints c.args.roots.now (c.args.dest ∷ xs) c.args.marks.now c.loop-place.marks c.args.waiting.now c.loop-place.waiting)
-    (take_all c.loop-place.place buses (past_all buses c.loop-place.place (c.in_default.ensures.bus c.args.plant.now c.requires.wired)))
+    let buses = switched_at c.args.graph.now.plant c.args.dest in
+    subst (λ (xs : List ℕ). AreRelit c.args.graph.now.plant c.args.graph.now.crosspoints c.args.roots.now (c.args.dest ∷ xs) c.args.marks.now c.loop-place.marks c.args.waiting.now c.loop-place.waiting)
+    (take_all c.loop-place.place buses (past_all buses c.loop-place.place (c.in_default.ensures.bus c.args.graph.now.plant c.requires.wired)))
     c.loop-place.invariant.relit
 
 pub relight-requires-in-loop-place-clause-dest : goal.relight-requires-in-loop-place-clause-dest
 relight-requires-in-loop-place-clause-dest g c =
-    switched_below c.args.plant.now c.args.dest c.loop-place.place c.in-Some.bus c.requires.wired.is_plant (c.in-Some.ensures.bus c.args.plant.now c.requires.wired)
+    switched_below c.args.graph.now.plant c.args.dest c.loop-place.place c.in-Some.bus c.requires.wired.is_plant (c.in-Some.ensures.bus c.args.graph.now.plant c.requires.wired)
 
 pub loop-place-preserved : goal.loop-place-preserved
 loop-place-preserved g c =
-    let plant = c.args.plant.now in
+    let plant = c.args.graph.now.plant in
     let buses = switched_at plant c.args.dest in
     let place = c.loop-place.place in
     let bus = c.in-Some.bus in
@@ -37,8 +37,8 @@ loop-place-preserved g c =
 
 pub returns-clause-relit : goal.returns-clause-relit
 returns-clause-relit g c =
-    let buses = switched_at c.args.plant.now c.args.dest in
-    let few : length buses ≤ 1024 = few_switched c.args.plant.now c.args.dest c.requires.wired.is_plant in
-    subst (λ (xs : List ℕ). AreRelit c.args.plant.now c.args.graph.now.crosspoints c.args.roots.now (c.args.dest ∷ xs) c.args.marks.now c.loop-place.marks c.args.waiting.now c.loop-place.waiting)
+    let buses = switched_at c.args.graph.now.plant c.args.dest in
+    let few : length buses ≤ 1024 = few_switched c.args.graph.now.plant c.args.dest c.requires.wired.is_plant in
+    subst (λ (xs : List ℕ). AreRelit c.args.graph.now.plant c.args.graph.now.crosspoints c.args.roots.now (c.args.dest ∷ xs) c.args.marks.now c.loop-place.marks c.args.waiting.now c.loop-place.waiting)
     (take_all c.loop-place.place buses (omega arith))
     c.loop-place.invariant.relit

@@ -5,7 +5,7 @@ use Rattle.tally.proofs.relight.relight_switched.Given as goal
 
 abbrev pub invariant-loop-place : goal.invariant-loop-place
 invariant-loop-place g l = record {
-  relit : AreRelit l.plant l.graph.crosspoints l.roots (l.dest ∷ take l.place (switched_at l.plant l.dest)) l.fn.marks l.marks l.fn.waiting l.waiting;
-  within : l.place ≤ length (switched_at l.plant l.dest);
-  counted : l.steps ≤ l.fn.steps + 4 + 5 * l.place;
+  relit : AreRelit l.graph.plant l.graph.crosspoints l.roots (l.dest ∷ take l.place (switched_at l.graph.plant l.dest)) l.fn.marks l.marks l.fn.waiting l.waiting;
+  within : l.place ≤ length (switched_at l.graph.plant l.dest);
+  counted : l.steps ≤ l.fn.steps + 5 + 6 * l.place;
 }

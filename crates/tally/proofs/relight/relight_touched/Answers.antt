@@ -7,7 +7,7 @@ use Rattle.tally.proofs.relight.relight_touched.Goals as goal
 
 pub loop-change-preserved : goal.loop-change-preserved
 loop-change-preserved g c =
-    let plant = c.args.plant.now in
+    let plant = c.args.graph.now.plant in
     let changes = c.args.changes.now in
     let i = c.loop-change.change-index in
     let change = c.change-item.result in

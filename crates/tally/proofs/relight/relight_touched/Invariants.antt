@@ -5,6 +5,6 @@ use Rattle.tally.proofs.relight.relight_touched.Given as goal
 
 abbrev pub invariant-loop-change : goal.invariant-loop-change
 invariant-loop-change g l = record {
-  relit : AreRelit l.plant l.graph.crosspoints l.roots (touched_by l.plant (take l.change-index l.changes)) l.fn.marks l.marks l.fn.waiting l.waiting;
-  counted : l.steps ≤ l.fn.steps + 5 * length (touched_by l.plant (take l.change-index l.changes));
+  relit : AreRelit l.graph.plant l.graph.crosspoints l.roots (touched_by l.graph.plant (take l.change-index l.changes)) l.fn.marks l.marks l.fn.waiting l.waiting;
+  counted : l.steps ≤ l.fn.steps + 6 * length (touched_by l.graph.plant (take l.change-index l.changes));
 }

@@ -12,7 +12,7 @@ loop-device-smaller g c =
     let v = c.in-Some.device in
     let waiting = c.loop-device.waiting in
     let has : contains waiting v ≡ true = (IsLowest-lowest waiting v (sym c.in-Some.ensures.lowest)).has in
-    let below : v < length c.args.plant.now.devices = c.loop-device.invariant.devices v has in
+    let below : v < length c.args.graph.now.plant.devices = c.loop-device.invariant.devices v has in
     let limit : v < device_limit = omega (arith, below, c.requires.wired.is_plant.linked.devices) in
     let relit = rw c.remove.ensures at c.relight_behind.ensures.relit in
     let less : weigh (λ _. 1) (contains waiting) ≡ weigh (λ _. 1) (contains (remove waiting v)) + 1 = weigh_removed (λ _. 1) waiting v limit has in
@@ -23,7 +23,7 @@ loop-device-smaller g c =
 
 pub loop-device-preserved : goal.loop-device-preserved
 loop-device-preserved g c =
-    let plant = c.args.plant.now in
+    let plant = c.args.graph.now.plant in
     let points = c.args.graph.now.crosspoints in
     let v = c.in-Some.device in
     let waiting = c.loop-device.waiting in

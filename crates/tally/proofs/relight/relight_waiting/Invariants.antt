@@ -7,11 +7,11 @@ use Rattle.tally.proofs.relight.relight_waiting.Given as goal
 
 abbrev pub invariant-loop-device : goal.invariant-loop-device
 invariant-loop-device g l = record {
-  relit : AreRelit l.plant l.graph.crosspoints l.roots [] l.fn.marks l.marks l.fn.waiting l.waiting;
-  devices : AreDevices l.plant l.waiting;
+  relit : AreRelit l.graph.plant l.graph.crosspoints l.roots [] l.fn.marks l.marks l.fn.waiting l.waiting;
+  devices : AreDevices l.graph.plant l.waiting;
   counted :
-      l.steps + 5 * (weigh (device_weight l.plant) (contains l.waiting) + weigh (device_weight l.plant) (contains l.fn.marks.fed))
-      ≤ l.fn.steps + 5 * (weigh (device_weight l.plant) (contains l.fn.waiting) + weigh (device_weight l.plant) (contains l.marks.fed));
+      l.steps + 6 * (weigh (device_weight l.graph.plant) (contains l.waiting) + weigh (device_weight l.graph.plant) (contains l.fn.marks.fed))
+      ≤ l.fn.steps + 6 * (weigh (device_weight l.graph.plant) (contains l.fn.waiting) + weigh (device_weight l.graph.plant) (contains l.marks.fed));
 }
 
 abbrev pub decreases-loop-device : goal.decreases-loop-device

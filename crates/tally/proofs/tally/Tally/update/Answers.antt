@@ -1,8 +1,10 @@
 use Rattle.std.proofs.Common.{sym, subst, arith}
+use Rattle.plant_config.specs.IsPlant.{IsDest}
 use Rattle.tally.specs.Marks.{is_lit}
 use Rattle.tally.specs.Kept.{AreFlipped}
 use Rattle.tally.proofs.RootlessLemmas.{rootless_settled, rootless_flips}
 use Rattle.tally.proofs.KeptLemmas.{turned_none, turned_below, same_settled, flipped_are}
+use Rattle.tally.proofs.MovedLemmas.{each_named, named_within}
 use Rattle.tally.proofs.tally.Tally.update.Goals as goal
 
 pub settle-requires-clause-moved : goal.settle-requires-clause-moved
@@ -17,7 +19,7 @@ take_turned-requires g c =
     let turned = c.settle.ensures.turned (is_lit c.self.inside.marks.lit) (turned_none c.self.inside.marks update.before.still) in
     record {
       room = λ origin has.
-          let below = turned_below c.args.plant.now c.self.inside.marks c.settle.new.marks origin update.before.settled.kept.heads settled.kept.heads turned has in
+          let below = turned_below c.args.graph.now.plant c.self.inside.marks c.settle.new.marks origin update.before.settled.kept.heads settled.kept.heads turned has in
           omega (arith, below, update.before.many);
     }
 
@@ -28,7 +30,7 @@ returns-clause-kept g c = λ old roots stood.
     record {
       is_plant = update.before.is_plant;
       rooted = update.before.rooted;
-      settled = same_settled c.args.plant.now c.args.graph.now.crosspoints roots c.settle.new.marks c.take_turned.new.self c.take_turned.ensures.live c.take_turned.ensures.lit c.take_turned.ensures.fed settled;
+      settled = same_settled c.args.graph.now.plant c.args.graph.now.crosspoints roots c.settle.new.marks c.take_turned.new.self c.take_turned.ensures.live c.take_turned.ensures.lit c.take_turned.ensures.fed settled;
       still = c.take_turned.ensures.turned;
       idle = c.settle.ensures.idle;
       sure = c.settle.ensures.sure;
@@ -40,12 +42,20 @@ returns-clause-flipped g c = λ old roots stood.
     let update = rw (← c.self.view_is) at stood in
     let settled = c.settle.ensures.settled old roots (record { rooted = update.before.rooted; settled = update.before.settled; moved = update.moved }) in
     let turned = c.settle.ensures.turned (is_lit c.self.inside.marks.lit) (turned_none c.self.inside.marks update.before.still) in
-    flipped_are c.args.plant.now old c.args.graph.now.crosspoints roots c.self.inside.marks c.settle.new.marks c.take_turned.new.flipped.items update.before.settled settled turned c.take_turned.ensures.members
+    flipped_are c.args.graph.now.plant old c.args.graph.now.crosspoints roots c.self.inside.marks c.settle.new.marks c.take_turned.new.flipped.items update.before.settled settled turned c.take_turned.ensures.members
 
 pub returns-clause-counted : goal.returns-clause-counted
 returns-clause-counted g c = λ old roots stood.
     let update = rw (← c.self.view_is) at stood in
     c.settle.ensures.counted old roots (record { rooted = update.before.rooted; settled = update.before.settled; moved = update.moved })
+
+pub returns-clause-moved : goal.returns-clause-moved
+returns-clause-moved g c = λ old roots stood moves.
+    let update = rw (← c.self.view_is) at stood in
+    let counted = c.settle.ensures.counted old roots (record { rooted = update.before.rooted; settled = update.before.settled; moved = update.moved }) in
+    let plant = c.args.graph.now.plant in
+    let within = named_within plant old c.args.graph.now.crosspoints roots c.args.changes.now moves (each_named (IsDest plant) c.args.changes.now c.requires.dests) in
+    omega (arith, counted, within)
 
 pub returns-then-is_empty-clause-kept : goal.returns-then-is_empty-clause-kept
 returns-then-is_empty-clause-kept g c = λ old roots stood.
@@ -54,7 +64,7 @@ returns-then-is_empty-clause-kept g c = λ old roots stood.
     record {
       is_plant = update.before.is_plant;
       rooted = update.before.rooted;
-      settled = rootless_settled c.args.plant.now roots c.self.inside.roots update.before.rooted none update.before.is_plant old c.args.graph.now.crosspoints c.self.inside.marks update.before.settled;
+      settled = rootless_settled c.args.graph.now.plant roots c.self.inside.roots update.before.rooted none update.before.is_plant old c.args.graph.now.crosspoints c.self.inside.marks update.before.settled;
       still = update.before.still;
       idle = update.before.idle;
       sure = update.before.sure;
@@ -65,5 +75,5 @@ pub returns-then-is_empty-clause-flipped : goal.returns-then-is_empty-clause-fli
 returns-then-is_empty-clause-flipped g c = λ old roots stood.
     let update = rw (← c.self.view_is) at stood in
     let none = c.is_empty.ensures.0 c.if-is_empty.true in
-    subst (AreFlipped c.args.plant.now old c.args.graph.now.crosspoints roots) (sym c.clear.ensures.items)
-    (rootless_flips c.args.plant.now roots c.self.inside.roots update.before.rooted none update.before.is_plant old c.args.graph.now.crosspoints c.self.inside.marks update.before.settled)
+    subst (AreFlipped c.args.graph.now.plant old c.args.graph.now.crosspoints roots) (sym c.clear.ensures.items)
+    (rootless_flips c.args.graph.now.plant roots c.self.inside.roots update.before.rooted none update.before.is_plant old c.args.graph.now.crosspoints c.self.inside.marks update.before.settled)
