@@ -40,7 +40,7 @@ abbrev pub stored : Group → Change → Group
 stored group change =
     if has_entry group change.dest then with_changed group change else group ++ change ∷ []
 
--- all groups at the start_groups: each is empty
+-- all groups at the start: each is empty
 abbrev pub start_groups : List Group
 start_groups = replicate salvo_limit []
 
