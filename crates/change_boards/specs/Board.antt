@@ -61,7 +61,7 @@ sooner (Some source) None = Some (source, Source)
 sooner (Some source) (Some protect) =
     if nat_lt protect source then Some (protect, Protect) else Some (source, Source)
 
--- the notice that is without_next next
+-- the notice that is taken next
 abbrev pub next : Board → Option (ℕ × Sort)
 next board = sooner (lowest board.source) (lowest board.protect)
 

@@ -31,7 +31,7 @@ abbrev pub IsFirstNotice : List Board → ℕ → ℕ → Sort → Type 0
 IsFirstNotice boards panel dest sort = (d : ℕ) (s : Sort) → has boards panel d s ≡ true
     → (let notice : ℕ × Sort = (d, s) in notice ≢ (dest, sort)) → IsBefore dest sort d s
 
--- A panel had this notice and no other before it; the notice was without_next, and nothing else changed.
+-- A panel had this notice and no other before it; the notice was taken, and nothing else changed.
 pub record Takes (old new : List Board) (panel dest : ℕ) (sort : Sort) : Type 0 where
   pub stood : has old panel dest sort ≡ true
   pub first : IsFirstNotice old panel dest sort

@@ -3,7 +3,7 @@ use Rattle.std.specs.Prelude.{ℕ, Bool, List, replicate, slice_index_or, slice_
 use Rattle.change_boards.specs.declared.sort.Sort.{Sort}
 use Rattle.change_boards.specs.Board.{Board, blank, abandoned, has_notice, marked, without_next}
 
--- so many panels at the start_boards: no notices, and nobody has left
+-- so many panels at the start: no notices, and nobody has left
 abbrev pub start_boards : ℕ → List Board
 start_boards panels = replicate panels blank
 
@@ -19,7 +19,7 @@ has boards panel dest sort = has_notice (board_of boards panel) dest sort
 abbrev pub has_left : List Board → ℕ → Bool
 has_left boards panel = (board_of boards panel).left
 
--- the boards after a panel was given a notice, after its next one was without_next, and after it has left
+-- the boards after a panel was given a notice, after its next one was taken, and after it has left
 abbrev pub with_mark : List Board → ℕ → ℕ → Sort → List Board
 with_mark boards panel dest sort = slice_set boards panel (marked (board_of boards panel) dest sort)
 

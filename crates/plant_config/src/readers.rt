@@ -2,11 +2,11 @@
 
 ghost use Rattle.std.specs.Prelude.{◌≡◌, ◌<◌, true, length, slice_get, Some, IfSome};
 ghost use Rattle.plant_file.specs.Ranges.{IsName};
-ghost use Rattle.plant_config.specs.Plant.{destinations_of, sources_of};
+ghost use Rattle.plant_config.specs.Plant.{sources_of};
 ghost use Rattle.plant_config.specs.IsPlant.{IsPlant, is_local};
 ghost use Rattle.plant_config.specs.Reserves.{has_reserve};
 ghost use Rattle.plant_config.specs.Screens.{screens_of, has_screen, screen_of};
-ghost use Rattle.plant_config.specs.Sources.{origin_of, pool_of, source_name_of, dest_name_of};
+ghost use Rattle.plant_config.specs.Sources.{origin_of, pool_of, source_name_of};
 
 use crate::numbers::{DestId, PoolId, SourceId};
 use crate::plant::Plant;
@@ -179,14 +179,5 @@ impl Plant {
         self.parts.routing.sources[source.get() as usize]
             .name
             .as_bytes()
-    }
-
-    /// The name of a destination, 1 to 12 printable bytes.
-    pub fn dest_name(&self, dest: DestId) -> &[u8]
-        requires { dest < destinations_of self.now }
-        ensures named { dest_name_of self.now dest ≡ Some result.now }
-        ensures name { IsName result.now }
-    {
-        self.parts.routing.dest_names[dest.get() as usize].as_bytes()
     }
 }

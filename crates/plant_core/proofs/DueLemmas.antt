@@ -1,5 +1,5 @@
 -- Displays stay due, and those that watch what moved or turned become so.
-use Rattle.std.proofs.Common.{◌≡◌, ℕ, ◌+◌, ◌<◌, ◌≤◌, ◌==◌, false, List, [], ◌∷◌, length, get_or, map, slice_get, zero, suc, Some, None, inl, inr, refl, sym, ap, subst, ◌∙◌, arith, eq-eqb}
+use Rattle.std.proofs.Common.{◌≡◌, ◌↔◌, ℕ, ◌+◌, ◌<◌, ◌≤◌, ◌==◌, true, false, List, [], ◌∷◌, length, get_or, map, slice_get, zero, suc, Option, Some, None, inl, inr, refl, sym, ap, subst, ◌∙◌, arith, eq-eqb, eqb-true}
 use Rattle.std.specs.Prelude.{Contains}
 use Rattle.std.specs.Option.{option_map_or}
 use Rattle.std.proofs.lemmas.Bool.{cases_eq, or_left, or_right}
@@ -7,10 +7,11 @@ use Rattle.std.proofs.lemmas.List.{get_or_default, length-map}
 use Rattle.std.proofs.lemmas.Option.{slice_get-get_or}
 use Rattle.plant_config.specs.Plant.{PlantData}
 use Rattle.plant_config.specs.declared.records.Change.{Change}
-use Rattle.tap_lists.specs.Lists.{Lists, list_of}
+use Rattle.tap_lists.specs.Lists.{Lists, list_of, IsUnder, IsHeadOf}
 use Rattle.tally.specs.Touched.{named_by}
 use Rattle.due_displays.specs.Due.{Due, AreDueOf, is_due}
 use Rattle.due_displays.specs.Changed.{BecomeDue, watches}
+use Rattle.due_displays.specs.Watchers.{watch_of}
 use Rattle.plant_core.specs.DueInside.{StayDue, AreWatchersDue, AreTappedDue}
 
 pub stay_self : (plant : PlantData) (due : Due) → AreDueOf plant due → StayDue plant due due
@@ -109,3 +110,42 @@ pub ended : (list : List ℕ) (place : ℕ) → slice_get list place ≡ None �
 ended [] place none = omega arith
 ended (first ∷ list) zero none = cc
 ended (first ∷ list) (suc place) none = omega (arith, ended list place none)
+
+-- ---- one display after another
+
+pub showing_more : (plant : PlantData) (old new : Due) (taps : Lists) (origin number watch : ℕ) → watch_of plant.displays number ≡ Some watch → number < length plant.displays → StayDue plant old new →
+    (IsUnder taps origin watch → is_due plant new number ≡ true) → ((display dest : ℕ) → display < number → watch_of plant.displays display ≡ Some dest → IsUnder taps origin dest → is_due plant old display ≡ true) →
+    (display dest : ℕ) → display < number + 1 → watch_of plant.displays display ≡ Some dest → IsUnder taps origin dest → is_due plant new display ≡ true
+showing_more plant old new taps origin number watch at within still here before display dest below is under = elim (cases_eq display number) [
+  | inl same ↦
+      let both : Some dest ≡ Some watch = sym is ∙ ap (watch_of plant.displays) same ∙ at in
+      let one : dest ≡ watch = cc in
+      rw same (here (subst (IsUnder taps origin) one under))
+  | inr apart ↦ still.stay display (omega (arith, below, apart, within)) (before display dest (omega (arith, below, apart)) is under)
+]
+
+-- a display that was added is due, and so is each that was
+pub stay_added : (plant : PlantData) (old new : Due) (number : ℕ) → BecomeDue plant old new (λ other. other == number) → StayDue plant old new
+stay_added plant old new number become = record {
+  tables = become.kept;
+  stay = λ display below is. become.each display below ∙ or_right (display == number) (is_due plant old display) is;
+}
+
+pub added_due : (plant : PlantData) (old new : Due) (number : ℕ) → number < length plant.displays → BecomeDue plant old new (λ other. other == number) → is_due plant new number ≡ true
+added_due plant old new number within become = become.each number within ∙ or_left (number == number) (is_due plant old number) (eq-eqb number number refl)
+
+-- a destination carries the picture of its head, and of no other
+pub head_is : (taps : Lists) (dest head origin : ℕ) (found : Option ℕ) → IsHeadOf taps dest found → found ≡ Some head → ((head == origin) ≡ true) ↔ IsUnder taps origin dest
+head_is taps dest head origin found of is = (
+  λ same. (of origin).0 (is ∙ ap Some (eqb-true head origin same)),
+  λ under. eq-eqb head origin (number (sym is ∙ (of origin).1 under)),
+)
+  where
+    number : Some head ≡ Some origin → head ≡ origin
+    number e = cc
+
+pub head_none : (taps : Lists) (dest origin : ℕ) (found : Option ℕ) → IsHeadOf taps dest found → found ≡ None → (false ≡ true) ↔ IsUnder taps origin dest
+head_none taps dest origin found of is = (λ e. cc, λ under. absurd (nothing (sym is ∙ (of origin).1 under)))
+  where
+    nothing : None ≡ Some origin → ⊥
+    nothing e = cc

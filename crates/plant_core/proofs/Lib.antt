@@ -32,3 +32,4 @@ pub mod FinishedLemmas
 pub mod DueLemmas
 pub mod TurnLemmas
 pub mod DuePolls
+pub mod BusyLemmas

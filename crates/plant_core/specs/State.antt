@@ -50,10 +50,6 @@ start plant = record {
   shown = displays.never_shown (length plant.displays);
 }
 
--- the tie that brings a destination its source, none where it is parked or its source is local
-abbrev pub tie_of : Crosspoints → ℕ → Option ℕ
-tie_of crosspoints dest = option_and_then (λ spot. spot.tie) (get crosspoints dest)
-
 -- the device that a panel acts for, and whether the panel may lift any protect
 abbrev pub device_of : PlantData → ℕ → ℕ
 device_of plant panel =

@@ -1,9 +1,9 @@
 -- How a state is kept.
-use Rattle.std.specs.Prelude.{◌≡◌, ℕ, List}
+use Rattle.std.specs.Prelude.{◌≡◌, ℕ, not, List, filter}
 use Rattle.crosspoint_state.specs.Table.{Table}
 use Rattle.plant_config.specs.Plant.{PlantData, destinations_of}
 use Rattle.plant_config.specs.declared.records.Change.{Change}
-use Rattle.crosspoint_state.specs.Crosspoints.{Crosspoints}
+use Rattle.crosspoint_state.specs.Crosspoints.{Crosspoints, is_idle}
 use Rattle.crosspoint_state.specs.Taps.{Points, ArePointsOf}
 use Rattle.tie_pools.specs.Counts.{AreCountsOf}
 use Rattle.salvo_groups.specs.Groups.{Group}
@@ -30,6 +30,10 @@ state_of plant points owners groups boards shown = record {
   boards = boards;
   shown = shown;
 }
+
+-- those of a list of changes that change something, in their order
+abbrev pub busy_of : Crosspoints → List Change → List Change
+busy_of crosspoints changes = filter (λ change. not (is_idle crosspoints change)) changes
 
 -- Tallies are those of a plant and its crosspoints: one is kept for its air roots, and one for its preview roots.
 pub record AreTalliesOf (plant : PlantData) (crosspoints : Crosspoints) (tallies : Tallies)

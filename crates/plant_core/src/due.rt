@@ -1,8 +1,9 @@
 //! Which displays become due by changes that were made.
 
-ghost use Rattle.std.specs.Prelude.{◌≡◌, ◌<◌, ℕ, Contains};
+ghost use Rattle.std.specs.Prelude.{◌≡◌, ◌↔◌, ◌<◌, ℕ, true, Contains};
 ghost use Rattle.crosspoint_state.specs.Crosspoints as carried;
 ghost use Rattle.crosspoint_state.specs.Taps.{AreTapsOf};
+ghost use Rattle.tap_lists.specs.Lists.{IsUnder};
 ghost use Rattle.tally.specs.Touched.{named_by};
 ghost use Rattle.due_displays.specs.Due.{AreDueOf};
 ghost use Rattle.plant_core.specs.DueInside.{StayDue, AreWatchersDue, AreTappedDue};
@@ -11,7 +12,7 @@ ghost use Rattle.plant_core.specs.DueInside.{HaveTurned, FollowValues};
 use crate::tallies::Tallies;
 use crosspoint_state::Crosspoints;
 use due_displays::DueDisplays;
-use plant_config::{Change, DestId, Plant, SourceId};
+use plant_config::{Change, DestId, DisplayId, Plant, SourceId};
 use std::marker::Brand;
 use std::sync::ledger::{Blank, Ledger};
 use tap_lists::Steps;
@@ -62,7 +63,8 @@ fn add_turned(due: &mut DueDisplays, plant: &Plant, points: &Crosspoints, origin
     }
 }
 
-// The same of one local source, with a count of its own of what is read.
+// The same of one local source, with a count of its own of what is read. Where more destinations carry its picture than the
+// plant has displays, the displays are gone through in place of the rest.
 fn add_taps<L: Ledger>(
     due: &mut DueDisplays,
     plant: &Plant,
@@ -81,13 +83,38 @@ fn add_taps<L: Ledger>(
     let (book, share) = blank.open::<L>();
     let mut steps = Steps::begin(book, share);
     let taps = points.taps();
-    taps.stand_once();
     let mut at = taps.first(origin.get(), &mut steps);
-    for _place in 0..plant.destination_count() {
+    for _display in 0..plant.displays().len() {
         let Some(dest) = at else {
             return;
         };
         due.add_watchers(plant, DestId::of(dest));
         at = taps.next(dest, &mut steps);
+    }
+    add_showing(due, plant, points, origin);
+}
+
+// The displays are due whose destination carries the picture of a local source.
+#[inline(never)]
+fn add_showing(due: &mut DueDisplays, plant: &Plant, points: &Crosspoints, origin: SourceId)
+    requires { AreDueOf plant.now due.old }
+    ensures due { StayDue plant.now due.old due.new }
+    ensures tapped { AreTappedDue plant.now due.new points.now.taps origin }
+{
+    for number in 0..plant.displays().len() {
+        let watch = plant.displays()[number].watch;
+        if carries(points, watch, origin) {
+            due.add(plant, DisplayId::of(number as u32));
+        }
+    }
+}
+
+// Whether a destination carries the picture of a local source.
+fn carries(points: &Crosspoints, dest: DestId, origin: SourceId) -> bool
+    ensures { (result ≡ true) ↔ IsUnder points.now.taps origin dest }
+{
+    match points.taps().head_of(dest.get()) {
+        Some(head) => head == origin.get(),
+        None => false,
     }
 }

@@ -13,6 +13,7 @@ mod hear;
 mod history_laws;
 mod laws;
 mod machine;
+mod moved;
 mod notice_laws;
 mod notify;
 mod place;

@@ -147,14 +147,15 @@ impl PlantState {
         let entries = self.groups.entries(salvo);
         notify_moved(&mut self.notices, panels, &self.crosspoints, entries);
         self.tables
-            .make(&self.plant, &mut self.crosspoints, planned, entries);
+            .make_group(&self.plant, &mut self.crosspoints, planned, entries);
         let tallies = &self.tables.tallies;
+        let moved = self.tables.moved.as_slice();
         follow_changes(
             &mut self.due,
             &self.plant,
             &self.crosspoints,
             tallies,
-            entries,
+            moved,
         );
         self.groups.clear(salvo);
     }

@@ -8,7 +8,7 @@ ghost use Rattle.plant_config.specs.Plant.{destinations_of};
 ghost use Rattle.crosspoint_state.specs.Crosspoints.{source_of};
 ghost use Rattle.mixer_effects.specs.Live.{is_live};
 ghost use Rattle.tally.specs.Tally.{roots_of};
-ghost use Rattle.plant_core.specs.State.{start, tie_of, standing, Fits, IsValid};
+ghost use Rattle.plant_core.specs.State.{start, standing, Fits, IsValid};
 ghost use Rattle.plant_core.specs.Wide.{tells_source};
 ghost use Rattle.plant_core.specs.Short.{StaysShort};
 ghost use Rattle.plant_core.specs.Step.{step, answered, dest_of};
@@ -24,7 +24,7 @@ use change_boards::{Notices, Shown};
 use crosspoint_state::Crosspoints;
 use due_displays::DueDisplays;
 use history_lock::OutBox;
-use plant_config::{DestId, PanelNo, Plant, SourceId, TieNo};
+use plant_config::{DestId, PanelNo, Plant, SourceId};
 use protects::Protects;
 use salvo_groups::Groups;
 use std::alloc::{AllocError, Global};
@@ -122,14 +122,6 @@ impl PlantState {
         ensures valid { IsValid self.now }
     {
         self.crosspoints.source_at(dest)
-    }
-
-    /// The tie that brings a destination its source, `None` where it is parked or its source is local.
-    pub fn tie_at(&self, dest: DestId) -> Option<TieNo>
-        ensures tie { result ≡ tie_of self.now.crosspoints dest }
-        ensures valid { IsValid self.now }
-    {
-        self.crosspoints.at(dest)?.tie
     }
 
     /// Whether a destination is live for the air roots, or for the preview roots: it is one of these, or a bus that is on of a

@@ -7,11 +7,13 @@ ghost use Rattle.crosspoint_state.specs.Crosspoints.{NamesOnce};
 ghost use Rattle.crosspoint_state.specs.Taps.{ArePointsOf};
 ghost use Rattle.crosspoint_state.specs.Ties.{HaveValidTies};
 ghost use Rattle.crosspoint_state.specs.Applied.{applied, are_enough};
+ghost use Rattle.salvo_groups.specs.Groups.{IsGroup};
 ghost use Rattle.due_displays.specs.Due.{AreDueOf, is_due};
 ghost use Rattle.plant_core.specs.State.{AreCrosspoints, IsChangeOf};
 ghost use Rattle.plant_core.specs.StateInside.{AreTablesOf};
 ghost use Rattle.plant_core.specs.DueInside.{HaveTurned};
 
+use crate::moved::Moved;
 use crate::tallies::Tallies;
 use change_boards::Screens;
 use crosspoint_state::Crosspoints;
@@ -28,6 +30,8 @@ pub(crate) struct Tables {
     pub(crate) mixers: Mixers,
     pub(crate) tallies: Tallies,
     pub(crate) screens: Screens,
+    // Of the last group that was taken, the changes that changed something.
+    pub(crate) moved: Moved,
 }
 
 /// What is kept beside a state: its tables, and which displays are due.
@@ -61,6 +65,7 @@ impl Tables {
         ensures { IfOk result (AreTablesOf plant.now empty) }
     {
         // What has most in it is made last: each part is let go where a later one has no memory.
+        let moved = Moved::new(alloc)?;
         let screens = Screens::new(alloc, plant)?;
         let ties = Ties::new(alloc, plant)?;
         let mixers = Mixers::new(alloc, plant)?;
@@ -70,6 +75,7 @@ impl Tables {
             mixers,
             tallies,
             screens,
+            moved,
         })
     }
 
@@ -98,5 +104,34 @@ impl Tables {
     {
         self.ties.commit(plant, points, planned, changes);
         self.tallies.follow(plant, &self.mixers, points, changes);
+    }
+
+    // The same of the changes of a group. Those that change nothing aren't followed.
+    #[inline(never)]
+    pub(crate) fn make_group(
+        &mut self,
+        plant: &Plant,
+        points: &mut Crosspoints,
+        planned: Planned,
+        entries: &[Change],
+    )
+        requires plant { IsPlant plant.now }
+        requires kept { ArePointsOf plant.now points.old }
+        requires points { AreCrosspoints plant.now points.old.entries }
+        requires ties { HaveValidTies plant.now points.old.entries }
+        requires tables { AreTablesOf plant.now points.old.entries self.old }
+        requires changes { All (IsChangeOf plant.now) entries.now }
+        requires group { IsGroup entries.now }
+        requires enough { are_enough plant.now points.old.entries entries.now ≡ true }
+        ensures made { points.new.entries ≡ applied plant.now points.old.entries entries.now }
+        ensures kept { ArePointsOf plant.now points.new }
+        ensures tables { AreTablesOf plant.now points.new.entries self.new }
+        ensures turned { HaveTurned plant.now points.old.entries points.new.entries
+            self.new.moved self.new.tallies }
+    {
+        self.moved.take(points, entries);
+        self.ties.commit(plant, points, planned, entries);
+        let graph = Graph::new(&self.mixers, points);
+        self.tallies.follow(plant, &graph, self.moved.as_slice());
     }
 }

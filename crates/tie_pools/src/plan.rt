@@ -23,7 +23,8 @@ use plant_config::{Change, Plant, SourceId};
 impl Ties {
     /// Whether the ties are enough for a panel's list of changes, with all new sources put in at once; else the lowest pool
     /// that it exceeds. For a master all ties count. Another panel may bring a pool's destinations to as many different
-    /// origins as the pool has ties that it doesn't keep for masters, or as they carry already. Nothing is changed.
+    /// origins as the pool has ties that it doesn't keep for masters, or as they carry already. The counts stay those
+    /// of the crosspoints.
     #[inline(always)]
     pub fn plan(
         &mut self,
