@@ -2,6 +2,7 @@
 use Rattle.std.proofs.Common.{◌≡◌, ℕ, ◌+◌, ◌-◌, List, [], ◌∷◌, ◌++◌, length, refl, sym, ap, ◌∙◌, subst, arith}
 use Rattle.std.proofs.lemmas.List.{append_assoc, append-nil, length-append, same_from_push}
 use mathlib.Core.List.{IsPrefix}
+use Rattle.dle_framing.specs.declared.item.Item.{Item}
 use Rattle.dle_framing.specs.Items.{items}
 use Rattle.dle_framing.proofs.LawLemmas.{items_front}
 use Rattle.history_lock.proofs.Fronts.{front_self, front_trans}
@@ -45,7 +46,7 @@ answered_more plant read more entries bytes answered = λ before last is.
     record {
       earlier = s.earlier;
       later = s.later ++ front.0;
-      items_are = sym front.1 ∙ ap (λ (its : List _). its ++ front.0) s.items_are ∙ append_assoc s.earlier s.later front.0;
+      items_are = sym front.1 ∙ ap (λ (its : List (Item (List ℕ))). its ++ front.0) s.items_are ∙ append_assoc s.earlier s.later front.0;
       counted = s.counted;
       text = s.text;
       is_text = s.is_text;

@@ -159,9 +159,12 @@ module _ {K P : Type 0} (written : K → Option (List ℕ)) (faults : K → ℕ)
       (came_front plant script done.0 done.1 _ (written sink) (written now) (SendsOn WasSent port port_now) (port_faults port) (port_faults port_now) done.3 part.appends done.2.1.sends (inl done.2.1.count), part.count, inl done.2.1.count)
   cut_short false does stops cut =
       let done = came plant script replayer (λ plant. LeavesPacket plant) (λ text packets. Puts written faults text first last × SendsUntil WasSent port_faults packets port port_now) stands small spelled stops in
-      let part = cut (written sink) (faults sink) done.0 (done.2.0.puts (written sink) (faults sink) [] nothing) in
-      (came_front plant script done.0 done.1 _ (written sink) (written now) (SendsOn WasSent port port_now) (port_faults port) (port_faults port_now) done.3 part.appends done.2.1.sends
-      (inr (done.2.1.count, came_waits plant script done.0 done.1 done.3)), part.count, inr done.2.1.count)
+      let part = cut (written sink) (faults sink) done.0 (done.2.0.puts (written sink) (faults sink) [] nothing) in (
+        came_front plant script done.0 done.1 _ (written sink) (written now) (SendsOn WasSent port port_now) (port_faults port) (port_faults port_now) done.3 part.appends done.2.1.sends
+            (inr (done.2.1.count, came_waits plant script done.0 done.1 done.3)),
+        part.count,
+        inr done.2.1.count,
+      )
 
 -- What was streamed was replayed, whole
 pub streamed_whole : (plant : PlantData) (script : List ℕ) (before now : Option (List ℕ)) (Sends : List (List ℕ) → Type 0) → HasStreamed plant script before now Sends → HasReplayed plant script before now

@@ -60,13 +60,7 @@ impl LineRoom {
 }
 
 // The line of an entry of a panel at this position, in place of what there was.
-fn put_line(
-    position: u64,
-    request: &Request,
-    sent: &[u8],
-    spelled: &mut Vec<u8>,
-    out: &mut Vec<u8>,
-)
+fn put_line(position: u64, request: &Request, sent: &[u8], spelled: &mut Vec<u8>, out: &mut Vec<u8>)
     requires request { MaySpell request.now }
     requires few { 2 * length sent.now ≤ most_reply }
     requires spelled { longest_packet ≤ vec_capacity spelled.old }
