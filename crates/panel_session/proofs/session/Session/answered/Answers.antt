@@ -45,13 +45,14 @@ returns-in-Name-clause-ends c = λ request plant panel past awaits. absurd (noth
 
 pub returns-in-Tell-clause-made : goal.returns-in-Tell-clause-made
 returns-in-Tell-clause-made c = λ request plant panel past awaits few. (
-  made_answers plant panel c.args.self.now c.take_answers.new.self _ past request c.args.self.now.outbox.items _ awaits few c.take_answers.ensures.took,
+  made_answers plant panel c.args.self.now c.take_answers.new.self (record c.args.self.now { phase = Read }) past request c.args.self.now.outbox.items c.take_answers.new.self.unsent awaits few c.take_answers.ensures.took,
   c.take_answers.ensures.most,
 )
 
 pub returns-in-Poll-clause-made : goal.returns-in-Poll-clause-made
 returns-in-Poll-clause-made c = λ request plant panel past awaits few. (
-  made_answers plant panel c.args.self.now c.take_answers-in-Poll.new.self _ past request c.args.self.now.outbox.items _ awaits few c.take_answers-in-Poll.ensures.took,
+  made_answers plant panel c.args.self.now c.take_answers-in-Poll.new.self (record c.args.self.now { phase = c.phase_behind-self.result; polls = (c.args.self.now.polls + 1) % 2 ^ 32 }) past request
+      c.args.self.now.outbox.items c.take_answers-in-Poll.new.self.unsent awaits few c.take_answers-in-Poll.ensures.took,
   c.take_answers-in-Poll.ensures.most,
 )
 
