@@ -1,6 +1,6 @@
 //! The room that one line of a trace is written in.
 
-ghost use Rattle.std.specs.Prelude.{◌≡◌, ◌+◌, ◌*◌, ◌≤◌, length, vec_capacity};
+ghost use Rattle.std.specs.Prelude.{◌≡◌, ◌*◌, ◌≤◌, length, vec_capacity};
 ghost use Rattle.panel_session.specs.DisplayPacket.{longest_packet};
 ghost use Rattle.panel_session.specs.TraceInside.{most_reply};
 ghost use Rattle.panel_session.specs.TraceLine.{told_line, longest_trace_line, MaySpell};

@@ -1,4 +1,4 @@
-use Rattle.std.proofs.Common.{◌≡◌, ℕ, ◌<◌, List, sym, ap, ◌∙◌, refl, subst}
+use Rattle.std.proofs.Common.{ℕ, ◌<◌, List, sym, ap, ◌∙◌, refl, subst}
 use Rattle.ctl_io.specs.Sink.{appended, AppendsPart}
 use Rattle.history_lock.specs.History.{IsLegal}
 use Rattle.history_lock.specs.Places.{Placed}
