@@ -1,5 +1,5 @@
 -- What a lock answers to a session.
-use Rattle.std.proofs.Common.{◌≡◌, ℕ, ◌≤◌, List, ◌++◌, length, sym, ap, ◌∙◌, subst, arith}
+use Rattle.std.proofs.Common.{◌≡◌, ℕ, ◌*◌, ◌≤◌, List, ◌++◌, length, sym, ap, ◌∙◌, subst, arith}
 use Rattle.history_lock.specs.Calls.{AddsOwn, IsNumbered, OnlyCalled, SeesAnswers, asked_by}
 use Rattle.history_lock.specs.History.{IsLegal}
 use Rattle.history_lock.specs.Locks.{LockData}
@@ -17,17 +17,16 @@ use Rattle.plant_core.proofs.HistoryLemmas.{last_sent}
 use Rattle.plant_core.proofs.ShortLemmas.{StaysShort-start}
 use Rattle.plant_core.proofs.Validity.{IsValid-start}
 use Rattle.panel_session.specs.declared.session.Session.{Session}
-use Rattle.panel_session.specs.declared.session.phase.Phase.{Phase}
-use Rattle.panel_session.specs.declared.session.phase.Phase.TheVariants.{Read, Name, Tell, Poll as PollStage, End}
 use Rattle.panel_session.specs.Entry.{PlantEntry}
 use Rattle.panel_session.specs.MostAnswers.{most_answers}
+use Rattle.panel_session.specs.OneSend.{bytes_in}
+use Rattle.panel_session.specs.OutgoingKept.{answer_bytes}
 use Rattle.panel_session.specs.Served.{PlantSeat}
 use Rattle.panel_session.specs.ServedInside.{IsGiven, MayCall}
-use Rattle.panel_session.specs.Session.{Awaits, AsksAt, TakesAnswers, kept_of, outbox_of, plant_of, with_outbox}
+use Rattle.panel_session.specs.Session.{Awaits, MakesAnswers, TakesAnswers, made_by, outbox_of, plant_of, with_outbox}
 use Rattle.panel_session.specs.SoFar.{Progress}
-use Rattle.panel_session.specs.StandsInside.{Kept}
-use Rattle.panel_session.specs.TraceLine.{MayReply}
-use Rattle.panel_session.proofs.AnsweredLemmas.{says_answers}
+use Rattle.panel_session.specs.Text.{frames_of}
+use Rattle.panel_session.specs.TraceInside.{most_reply}
 use Rattle.panel_session.proofs.SessionLemmas.{awaits_with}
 
 -- What a seat was answered can be sent,
@@ -41,27 +40,21 @@ answer_of plant seat seat_then request answers is legal sees =
 pub answer_few : (plant : PlantData) (entry : PlantEntry) → IsPlant plant → CanBeSent plant entry → length entry.answers ≤ most_answers
 answer_few plant entry is sent = omega (arith, sent.within, room_within plant is)
 
--- a session asks nothing of a screen
-reply_at : (phase : Phase) (kept : Kept) (request : Request) (plant : PlantData) (answers : List Answer) → AsksAt phase kept request → MayReply plant request answers
-reply_at Read kept request plant answers asks = absurd asks
-reply_at (Name page) kept request plant answers asks = absurd asks
-reply_at (Tell message) kept request plant answers asks =
-    let P : Request → Type 0 = λ request. MayReply plant request answers in
-    subst P (sym asks) tt
-reply_at PollStage kept request plant answers asks =
-    let P : Request → Type 0 = λ request. MayReply plant request answers in
-    subst P (sym asks) tt
-reply_at End kept request plant answers asks = absurd asks
-
-pub may_reply : (plant : PlantData) (panel : ℕ) (session : Session) (past : Progress) (request : Request) (named : PlantData) (answers : List Answer) → Awaits plant panel session past request
-    → MayReply named request answers
-unfolding Awaits
-may_reply plant panel session past request named answers awaits = reply_at session.phase (kept_of session) request named answers awaits.2
-
 -- the plant of a session that awaits an answer
-pub awaits_plant : (plant : PlantData) (panel : ℕ) (session : Session) (past : Progress) (request : Request) → Awaits plant panel session past request → plant_of session ≡ plant
+awaits_plant : (plant : PlantData) (panel : ℕ) (session : Session) (past : Progress) (request : Request) → Awaits plant panel session past request → plant_of session ≡ plant
 unfolding Awaits
 awaits_plant plant panel session past request awaits = awaits.0.plant_is
+
+-- What a session made of the answers that a lock gave are their frames, of which a line has room.
+pub made_of : (session : Session) (request : Request) (box : Placed Answer) (after : Session) (seat seat_then : PlantSeat) {lock : LockData State} → MayCall session lock seat request → box.places ≡ (outbox_of session).places
+    → IsLegal step Takes seat.first seat_then.seen → SeesAnswers seat request box.items seat_then → MakesAnswers (with_outbox session box) request box.items after
+    → (made_by after ≡ bytes_in (frames_of box.items)) × (2 * length (made_by after) ≤ most_reply)
+made_of session request box after seat seat_then may places legal sees makes =
+    let Legal : State → Type 0 = λ first. IsLegal step Takes first seat_then.seen in
+    let can = answer_of may.plant seat seat_then request box.items may.is_plant (subst Legal may.first legal) sees in
+    let made = makes may.plant may.panel may.past (awaits_with may.plant may.panel session may.past request box may.awaits places) can.within in
+    let few : length box.items ≤ most_answers = answer_few may.plant (asked_by seat request box.items) may.is_plant can in
+    let most : length (made_by after) ≤ answer_bytes (length box.items) = made.1 in (made.0, omega (arith, most, few))
 
 -- The lock gave answers, and the session took them.
 pub lock_gave : (plant : PlantData) (panel : ℕ) (session : Session) (past : Progress) (request : Request) (box : Placed Answer) (number : ℕ) (session_then : Session) (seat seat_then : PlantSeat) {lock : LockData State}
@@ -85,5 +78,4 @@ lock_gave plant panel session past request box number session_then seat seat_the
       own = own;
       rest = rest;
       stands = (subst Taken asks takes) plant panel seat.number past waits few;
-      says = says_answers plant panel seat.number session past request answers awaits few;
     }

@@ -9,6 +9,7 @@ pub mod ActsLemmas
 pub mod ReadLemmas
 pub mod ApartLemmas
 pub mod CalledLemmas
+mod MadeLemmas
 pub mod AnsweredLemmas
 pub mod GoneOnLemmas
 pub mod BrokenOffLemmas

@@ -15,8 +15,9 @@ use Rattle.panel_session.specs.SoFar.{Progress, nothing_yet, read_so_far, with_e
 use Rattle.panel_session.specs.StandsInside.{Kept, Keeps}
 use Rattle.panel_session.specs.NamesLeftInside.{AreLeft, is_unsent, left_at, stage_of, with_left}
 use Rattle.panel_session.specs.Counted.{goods_of, bads_of}
-use Rattle.panel_session.specs.OneSend.{IsOneSend}
-use Rattle.panel_session.specs.Text.{Output}
+use Rattle.panel_session.specs.OutgoingKept.{answer_bytes}
+use Rattle.panel_session.specs.OneSend.{IsOneSend, bytes_in}
+use Rattle.panel_session.specs.Text.{Output, frames_of}
 
 -- all the bytes that a session made last, whether they were handed out or not
 abbrev pub made_by : Session → List ℕ
@@ -113,6 +114,15 @@ TakesAnswers before request answers after =
     → length answers ≤ room_of plant
     → StandsFor plant panel after
     (with_entry (record { seat = seat; request = request; answers = answers }) past)
+
+-- The frames of these answers to a request, where they are no more than those of a step, are the bytes that a session made which
+-- awaited them. They are no longer than the room for so many answers.
+abbrev pub MakesAnswers : Session → Request → List Answer → Session → Type 0
+MakesAnswers before request answers after =
+    (plant : PlantData) (panel : ℕ) (past : Progress) → Awaits plant panel before past request
+    → length answers ≤ room_of plant
+    → (made_by after ≡ bytes_in (frames_of answers))
+    × (length (made_by after) ≤ answer_bytes (length answers))
 
 -- A session that stood for some past stands for nothing yet, as a new one of its panel.
 abbrev pub BeginsAnew : Session → Session → Type 0

@@ -64,6 +64,11 @@ abbrev pub trace_line : PlantData → ℕ → Request → List Answer → List �
 trace_line plant position request answers =
     entry_text position request (reply_text plant request answers) ++ line_end ∷ []
 
+-- The line of an entry of a panel, by the bytes that its answers send.
+abbrev pub told_line : ℕ → Request → List ℕ → List ℕ
+told_line position request sent =
+    entry_text position request (told_bytes sent) ++ line_end ∷ []
+
 -- A request can be spelled: its message is in its ranges.
 abbrev pub MaySpell : Request → Type 0
 MaySpell (Told panel item message) = InRange message

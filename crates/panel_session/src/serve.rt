@@ -194,8 +194,8 @@ fn ask_lock<W: Wait, K: Sink>(
 {
     match lock.call(rt, seat, request, session.outbox()) {
         Ok(position) => {
-            let traced = session.trace_asked(position, request, trace);
             session.answered();
+            let traced = session.trace_answered(position, request, trace);
             if traced {
                 Ok(())
             } else {

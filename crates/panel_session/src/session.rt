@@ -7,8 +7,7 @@ ghost use Rattle.plant_core.specs.declared.request.Request.{Request};
 ghost use Rattle.plant_core.specs.declared.request.Request.TheVariants.{Leave};
 ghost use Rattle.plant_core.specs.Answer.{IsSayable, room_of};
 ghost use Rattle.panel_session.specs.SoFar.{Progress, nothing_yet};
-ghost use Rattle.panel_session.specs.MostAnswers.{most_answers};
-ghost use Rattle.panel_session.specs.TraceLine.{trace_line, MaySpell, MayReply};
+ghost use Rattle.panel_session.specs.TraceLine.{trace_line};
 
 pub(crate) mod act;
 pub(crate) mod asked;
@@ -65,9 +64,10 @@ impl<'p> Session<'p> {
     ghost use Rattle.panel_session.specs.CallsLeft.{phase_left, IsNearer, LeavesLess};
     ghost use Rattle.panel_session.specs.declared.session.phase.Phase.TheVariants.{Read};
     ghost use Rattle.panel_session.specs.ReadingInside.{ReadsOn, HasReadOn};
-    ghost use Rattle.panel_session.specs.Session.{outgoing_of, outbox_of, plant_of};
+    ghost use Rattle.panel_session.specs.Session.{outgoing_of, outbox_of};
     ghost use Rattle.panel_session.specs.Session.{StandsFor, Awaits};
-    ghost use Rattle.panel_session.specs.Session.{TakesAnswers, BeginsAnew, BeginsAnewUnanswered};
+    ghost use Rattle.panel_session.specs.Session.{MakesAnswers, TakesAnswers};
+    ghost use Rattle.panel_session.specs.Session.{BeginsAnew, BeginsAnewUnanswered};
 
     /// A session of a panel of the plant, to which nothing was sent. The names are those of the plant. Its room is enough for
     /// the pages of 1,024 names, or of all where a level of this plant has fewer, and for the answers of a step.
@@ -163,28 +163,6 @@ impl<'p> Session<'p> {
         &mut self.outbox
     }
 
-    /// The line of a trace, with its LF, of the entry at this position, of this request and these answers. The session stays
-    /// as it is.
-    pub fn entry_line(&mut self, position: u64, request: &Request, answers: &[Answer]) -> &[u8]
-        requires spelled { MaySpell request.now }
-        requires sayable { All IsSayable answers.now }
-        requires few { length answers.now ≤ most_answers }
-        requires reply { MayReply (plant_of self.old) request.now answers.now }
-        ensures* same { sem 𝓛 (StaysTheSame self.entry) }
-        ensures line { result.now
-            ≡ trace_line (plant_of self.old) position request.now answers.now }
-        ensures stood { (plant : PlantData) (panel : ℕ) (past : Progress)
-            → StandsFor plant panel self.old past
-            → result.now ≡ trace_line plant position request.now answers.now }
-        ensures awaited { (plant : PlantData) (panel : ℕ) (past : Progress) (asked : Request)
-            → Awaits plant panel self.old past asked
-            → result.now ≡ trace_line plant position request.now answers.now }
-    {
-        // kit: with `self.plant` among the arguments the loan isn't followed back to the session.
-        let plant = self.plant;
-        self.line.write(plant, position, *request, answers)
-    }
-
     /// The line of a trace, with its LF, of this panel's leave at this position, 0 to 2^62. The session stays as it is.
     pub fn leave_line(&mut self, position: u64) -> &[u8]
         ensures* same { sem 𝓛 (StaysTheSame self.entry) }
@@ -196,8 +174,7 @@ impl<'p> Session<'p> {
             → result.now ≡ trace_line plant position (Leave panel) [] }
     {
         let leave = Request::Leave { panel: self.panel };
-        let plant = self.plant;
-        self.line.write(plant, position, leave, &[])
+        self.line.write(position, leave, b"")
     }
 
     /// Goes on with the turn, in what is left of its piece: how many bytes it used of that, and what the caller does next.
@@ -231,6 +208,8 @@ impl<'p> Session<'p> {
         requires { All IsSayable (outbox_of self.old).items }
         ensures answered { (request : Request)
             → TakesAnswers self.old request (outbox_of self.old).items self.new }
+        ensures made { (request : Request)
+            → MakesAnswers self.old request (outbox_of self.old).items self.new }
         ensures ends { (request : Request) → IsNearer self.old request self.new }
     {
         match self.phase {

@@ -7,6 +7,7 @@ ghost use Rattle.plant_config.specs.IsPlant.{IsPlant};
 ghost use Rattle.plant_core.specs.Answer.{IsSayable};
 ghost use Rattle.panel_session.specs.NamePagesInside.{AddsNames, BeginsNames, IsFarBehind};
 ghost use Rattle.panel_session.specs.OutgoingInside.{emptied};
+ghost use Rattle.panel_session.specs.OutgoingKept.{answer_bytes};
 ghost use Rattle.panel_session.specs.RoomsInside.{fitting, most_named};
 ghost use Rattle.panel_session.specs.SenderKept.{sending};
 ghost use Rattle.panel_session.specs.Text.{frames_of, nothing_sent, repeated};
@@ -139,6 +140,7 @@ impl<'p> Sender<'p> {
             (frames_of (fitting self.old.names answers.now)) (emptied self.old.output)) self.old }
         ensures some { result ≡ true → self.new.output.bytes ≢ [] }
         ensures none { result ≡ false → self.new.output.bytes ≡ [] }
+        ensures most { length self.new.output.bytes ≤ answer_bytes (length answers.now) }
     {
         if answers.len() > self.most {
             self.outgoing.clear();

@@ -1,11 +1,12 @@
 //! What a session does for an item, with answers, and at the end of a turn.
 
-ghost use Rattle.std.specs.Prelude.{◌≡◌, ◌≢◌, true, false, [], All, Some};
+ghost use Rattle.std.specs.Prelude.{◌≡◌, ◌≢◌, ◌≤◌, true, false, [], length, All, Some};
 ghost use Rattle.plant_core.specs.Answer.{IsSayable};
 ghost use Rattle.panel_session.specs.AskedInside.{NamesInRange};
 ghost use Rattle.panel_session.specs.MovesInside.{took_to, acknowledged, took_answers};
 ghost use Rattle.panel_session.specs.MovesInside.{apart, ended_turn, goes_apart};
 ghost use Rattle.panel_session.specs.MovesInside.{NamesOn, TakesTo, phase_then};
+ghost use Rattle.panel_session.specs.OutgoingKept.{answer_bytes};
 ghost use Rattle.panel_session.specs.RoomsInside.{fitting};
 ghost use Rattle.panel_session.specs.TakenInside.{IsAnswer, IsNoAnswer};
 
@@ -111,6 +112,8 @@ impl Session<'_> {
             (fitting self.old.sender.names self.old.outbox.items) self.new.unsent self.old }
         ensures some { self.new.unsent ≡ true → self.new.sender.output.bytes ≢ [] }
         ensures none { self.new.unsent ≡ false → self.new.sender.output.bytes ≡ [] }
+        ensures most { length self.new.sender.output.bytes
+            ≤ answer_bytes (length self.old.outbox.items) }
     {
         self.unsent = self.sender.answer(self.outbox.items());
         self.parted = false;

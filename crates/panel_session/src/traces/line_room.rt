@@ -1,36 +1,39 @@
 //! The room that one line of a trace is written in.
 
-ghost use Rattle.std.specs.Prelude.{◌≡◌, ◌≤◌, All, length, vec_capacity};
-ghost use Rattle.plant_core.specs.Answer.{IsSayable};
-ghost use Rattle.panel_session.specs.MostAnswers.{most_answers};
-ghost use Rattle.panel_session.specs.TraceLine.{trace_line, longest_trace_line};
-ghost use Rattle.panel_session.specs.TraceLine.{MaySpell, MayReply};
+ghost use Rattle.std.specs.Prelude.{◌≡◌, ◌*◌, ◌≤◌, length, vec_capacity};
+ghost use Rattle.panel_session.specs.DisplayPacket.{longest_packet};
+ghost use Rattle.panel_session.specs.TraceInside.{most_reply};
+ghost use Rattle.panel_session.specs.TraceLine.{told_line, longest_trace_line, MaySpell};
 
-use crate::traces::trace_line::TraceLines;
-use plant_config::Plant;
-use plant_core::{Answer, Request};
+use crate::sending::spell::append;
+use crate::traces::request_line::append_request;
+use crate::traces::trace_line::{MAX_PACKET, append_bytes};
+use line_text::append_decimal;
+use plant_core::Request;
 use std::alloc::{AllocError, Global};
 use std::marker::Model;
 
 // The most bytes of a line.
 const MAX_LINE: usize = 65_537;
 
-// What a line is made with, and written in. All memory is taken by `new`.
+// What a line is written in, and the DATA of its message before. All memory is taken by `new`.
 #[derive(Drop)]
 pub(crate) struct LineRoom {
-    lines: TraceLines,
+    spelled: Vec<u8>,
     bytes: Vec<u8>,
 }
 
 impl Model for LineRoom {
     ghost use Rattle.std.specs.Prelude.{◌≤◌, vec_capacity};
+    ghost use Rattle.panel_session.specs.DisplayPacket.{longest_packet};
     ghost use Rattle.panel_session.specs.TraceLine.{longest_trace_line};
 
     ghost Value = { Unit {0} };
 
     ghost view = { λ line. tt };
 
-    ghost invariant = { λ line. longest_trace_line ≤ vec_capacity line.bytes };
+    ghost invariant = { λ line. (longest_packet ≤ vec_capacity line.spelled)
+        × (longest_trace_line ≤ vec_capacity line.bytes) };
 }
 
 impl LineRoom {
@@ -39,57 +42,38 @@ impl LineRoom {
 
     pub(crate) fn new(alloc: Global) -> Result<LineRoom, AllocError> {
         Ok(LineRoom {
-            lines: TraceLines::new(alloc)?,
+            spelled: Vec::with_capacity(alloc, MAX_PACKET)?,
             bytes: Vec::with_capacity(alloc, MAX_LINE)?,
         })
     }
 
-    // The line of an entry at this position.
-    pub(crate) fn write(
-        &mut self,
-        plant: &Plant,
-        position: u64,
-        request: Request,
-        answers: &[Answer],
-    ) -> &[u8]
+    // The line of an entry of a panel at this position, by the bytes that its answers send.
+    pub(crate) fn write(&mut self, position: u64, request: Request, sent: &[u8]) -> &[u8]
         requires spelled { MaySpell request }
-        requires sayable { All IsSayable answers.now }
-        requires few { length answers.now ≤ most_answers }
-        requires reply { MayReply plant.now request answers.now }
+        requires few { 2 * length sent.now ≤ most_reply }
         ensures* stays { sem 𝓛 (LineStays self.entry) }
-        ensures line { result.now
-            ≡ trace_line plant.now position request answers.now }
+        ensures line { result.now ≡ told_line position request sent.now }
     {
-        put_line(
-            &mut self.lines,
-            plant,
-            position,
-            &request,
-            answers,
-            &mut self.bytes,
-        );
+        put_line(position, &request, sent, &mut self.spelled, &mut self.bytes);
         self.bytes.as_slice()
     }
 }
 
-// The line of an entry at this position, in place of what there was.
-fn put_line(
-    lines: &mut TraceLines,
-    plant: &Plant,
-    position: u64,
-    request: &Request,
-    answers: &[Answer],
-    out: &mut Vec<u8>,
-)
-    requires spelled { MaySpell request.now }
-    requires sayable { All IsSayable answers.now }
-    requires few { length answers.now ≤ most_answers }
-    requires reply { MayReply plant.now request.now answers.now }
+// The line of an entry of a panel at this position, in place of what there was.
+fn put_line(position: u64, request: &Request, sent: &[u8], spelled: &mut Vec<u8>, out: &mut Vec<u8>)
+    requires request { MaySpell request.now }
+    requires few { 2 * length sent.now ≤ most_reply }
+    requires spelled { longest_packet ≤ vec_capacity spelled.old }
     requires room { longest_trace_line ≤ vec_capacity out.old }
-    ensures line { out.new.items
-        ≡ trace_line plant.now position request.now answers.now }
+    ensures line { out.new.items ≡ told_line position request.now sent.now }
     ensures room { vec_capacity out.new ≡ vec_capacity out.old }
+    ensures spelled { vec_capacity spelled.new ≡ vec_capacity spelled.old }
 {
     out.clear();
-    lines.append_entry(plant, position, request, answers, out);
+    append_decimal(position, out);
+    append(out, b" ");
+    append_request(request, spelled, out);
+    append(out, b" = ");
+    append_bytes(sent, out);
+    out.push_reserved(b'\n');
 }

@@ -28,7 +28,7 @@ use std::marker::Model;
 const MAX_SENT: usize = 1024 * 24;
 
 // The most bytes of the packet of a display poll. The DATA of a message have fewer.
-const MAX_PACKET: usize = 1158;
+pub(crate) const MAX_PACKET: usize = 1158;
 
 /// What the lines of a trace are made with. All memory is taken by `new`.
 #[derive(Drop)]
@@ -88,7 +88,7 @@ impl TraceLines {
     }
 
     // The same, whatever the numbers of the position and the request are.
-    pub(crate) fn append_entry(
+    fn append_entry(
         &mut self,
         plant: &Plant,
         position: u64,
@@ -191,7 +191,7 @@ fn append_sent(answers: &[Answer], outgoing: &mut Outgoing, out: &mut Vec<u8>)
 }
 
 // Appends bytes in hexadecimal, and a dash for none.
-fn append_bytes(bytes: &[u8], out: &mut Vec<u8>)
+pub(crate) fn append_bytes(bytes: &[u8], out: &mut Vec<u8>)
     requires few { 2 * length bytes.now ≤ most_reply }
     requires room { vec_len out.old + most_reply ≤ vec_capacity out.old }
     ensures text { out.new.items ≡ out.old.items ++ told_bytes bytes.now }

@@ -5,6 +5,7 @@ use Rattle.panel_session.specs.PolledInside.{HasPolled}
 use Rattle.panel_session.specs.RoomsInside.{fitting}
 use Rattle.panel_session.proofs.SessionLemmas.{answered_told, answered_poll, nothing_asked}
 use Rattle.panel_session.proofs.LeftLemmas.{left_told, left_poll}
+use Rattle.panel_session.proofs.MadeLemmas.{made_answers}
 use Rattle.panel_session.proofs.session.Session.answered.Goals as goal
 
 pub returns-in-Tell-clause-answered : goal.returns-in-Tell-clause-answered
@@ -41,3 +42,25 @@ returns-in-Read-clause-ends c = λ request plant panel past awaits. elim c.in-Re
 
 pub returns-in-Name-clause-ends : goal.returns-in-Name-clause-ends
 returns-in-Name-clause-ends c = λ request plant panel past awaits. absurd (nothing_asked plant panel c.args.self.now past request (Name c.in-Name.field-0) awaits c.in-Name.is)
+
+pub returns-in-Tell-clause-made : goal.returns-in-Tell-clause-made
+returns-in-Tell-clause-made c = λ request plant panel past awaits few. (
+  made_answers plant panel c.args.self.now c.take_answers.new.self (record c.args.self.now { phase = Read }) past request c.args.self.now.outbox.items c.take_answers.new.self.unsent awaits few c.take_answers.ensures.took,
+  c.take_answers.ensures.most,
+)
+
+pub returns-in-Poll-clause-made : goal.returns-in-Poll-clause-made
+returns-in-Poll-clause-made c = λ request plant panel past awaits few. (
+  made_answers plant panel c.args.self.now c.take_answers-in-Poll.new.self (record c.args.self.now { phase = c.phase_behind-self.result; polls = (c.args.self.now.polls + 1) % 2 ^ 32 }) past request
+      c.args.self.now.outbox.items c.take_answers-in-Poll.new.self.unsent awaits few c.take_answers-in-Poll.ensures.took,
+  c.take_answers-in-Poll.ensures.most,
+)
+
+pub returns-in-Read-clause-made : goal.returns-in-Read-clause-made
+returns-in-Read-clause-made c = λ request plant panel past awaits few. elim c.in-Read.is [
+  | (inl read) ↦ absurd (nothing_asked plant panel c.args.self.now past request Read awaits read)
+  | (inr over) ↦ absurd (nothing_asked plant panel c.args.self.now past request End awaits over)
+]
+
+pub returns-in-Name-clause-made : goal.returns-in-Name-clause-made
+returns-in-Name-clause-made c = λ request plant panel past awaits few. absurd (nothing_asked plant panel c.args.self.now past request (Name c.in-Name.field-0) awaits c.in-Name.is)
