@@ -131,7 +131,7 @@ impl Tables {
     {
         self.moved.take(points, entries);
         self.ties.commit(plant, points, planned, entries);
-        let graph = Graph::new(&self.mixers, points);
-        self.tallies.follow(plant, &graph, self.moved.as_slice());
+        self.tallies
+            .follow(plant, &self.mixers, points, self.moved.as_slice());
     }
 }

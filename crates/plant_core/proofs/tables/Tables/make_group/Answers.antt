@@ -4,11 +4,8 @@ use Rattle.std.proofs.lemmas.List.Elements.{All-filter}
 use Rattle.plant_config.specs.declared.records.Change.{Change}
 use Rattle.plant_config.specs.IsPlant.{IsDest}
 use Rattle.crosspoint_state.specs.Crosspoints.{Crosspoints, is_idle}
-use Rattle.crosspoint_state.specs.Taps.{AreTapsOf}
-use Rattle.tap_lists.specs.Lists.{Lists}
-use Rattle.mixer_effects.specs.Wiring.{IsWiringOf}
 use Rattle.tally.specs.Update.{MovedOnly}
-use Rattle.plant_core.specs.StateInside.{AreTalliesOf, busy_of}
+use Rattle.plant_core.specs.StateInside.{busy_of}
 use Rattle.plant_core.specs.DueInside.{HaveTurned}
 use Rattle.plant_core.proofs.Changes.{moved-applied}
 use Rattle.plant_core.proofs.BusyLemmas.{applied_busy}
@@ -34,10 +31,8 @@ follow-requires c =
     let busy : List Change = busy_of old c.args.entries.now in
     let listed : c.as_slice.result.now ≡ busy = c.as_slice.ensures ∙ c.take.ensures in
     record {
-      wired = subst (IsWiringOf plant) (sym c.new-graph.ensures.wiring) c.requires.tables.wired;
-      tapped =
-          subst (λ (points : Crosspoints). AreTapsOf plant points c.new-graph.result.taps) (sym c.new-graph.ensures.crosspoints)
-          (subst (λ (taps : Lists). AreTapsOf plant c.commit.new.points.entries taps) (sym c.new-graph.ensures.taps) c.commit.ensures.kept.tapped);
+      wired = c.requires.tables.wired;
+      tapped = c.commit.ensures.kept.tapped;
       dests =
           subst (λ (list : List Change). All (λ (change : Change). IsDest plant change.dest) list) (sym listed)
           (All-filter (λ change. not (is_idle old change)) (λ (change : Change). IsDest plant change.dest) c.args.entries.now (λ k d below. (c.requires.changes k d below).dest));
@@ -45,8 +40,8 @@ follow-requires c =
         old = old;
         before = c.requires.tables.tallied;
         moved =
-            subst (λ (list : List Change). MovedOnly old c.new-graph.result.crosspoints list) (sym listed)
-            (moved-applied plant old _ busy (c.new-graph.ensures.crosspoints ∙ c.commit.ensures.made ∙ applied_busy plant old c.args.entries.now));
+            subst (λ (list : List Change). MovedOnly old c.commit.new.points.entries list) (sym listed)
+            (moved-applied plant old _ busy (c.commit.ensures.made ∙ applied_busy plant old c.args.entries.now));
       };
     }
 
@@ -54,7 +49,7 @@ pub returns-clause-tables : goal.returns-clause-tables
 returns-clause-tables c = record {
   counted = c.commit.ensures.counts;
   wired = c.requires.tables.wired;
-  tallied = subst (λ (points : Crosspoints). AreTalliesOf c.args.plant.now points c.follow.new.self) c.new-graph.ensures.crosspoints c.follow.ensures.kept;
+  tallied = c.follow.ensures.kept;
   screened = c.requires.tables.screened;
 }
 
@@ -64,8 +59,8 @@ returns-clause-turned c =
     let old : Crosspoints = c.args.points.now.entries in
     let busy : List Change = busy_of old c.args.entries.now in
     let listed : c.as_slice.result.now ≡ busy = c.as_slice.ensures ∙ c.take.ensures in
-    let moved : MovedOnly old c.new-graph.result.crosspoints c.as_slice.result.now =
-    subst (λ (list : List Change). MovedOnly old c.new-graph.result.crosspoints list) (sym listed)
-    (moved-applied plant old _ busy (c.new-graph.ensures.crosspoints ∙ c.commit.ensures.made ∙ applied_busy plant old c.args.entries.now)) in
+    let moved : MovedOnly old c.commit.new.points.entries c.as_slice.result.now =
+    subst (λ (list : List Change). MovedOnly old c.commit.new.points.entries list) (sym listed)
+    (moved-applied plant old _ busy (c.commit.ensures.made ∙ applied_busy plant old c.args.entries.now)) in
     subst (λ (list : List Change). HaveTurned plant old c.commit.new.points.entries list c.follow.new.self) c.as_slice.ensures
-    (subst (λ (points : Crosspoints). HaveTurned plant old points c.as_slice.result.now c.follow.new.self) c.new-graph.ensures.crosspoints (c.follow.ensures.turned old c.requires.tables.tallied moved))
+    (c.follow.ensures.turned old c.requires.tables.tallied moved)
