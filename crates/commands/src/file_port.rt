@@ -15,6 +15,11 @@ pub(crate) struct FilePort<K> {
 }
 
 impl<K: Sink> DisplayPort for FilePort<K> {
+    ghost use Rattle.std.specs.Prelude.{None};
+
+    // No net opened it.
+    ghost opening = { λ _. None };
+
     ghost takes = { IsPacketText };
 
     ghost was_sent = { λ port sent. WasGiven K.name K.written K.faults port.port sent };

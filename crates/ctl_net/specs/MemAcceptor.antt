@@ -8,11 +8,13 @@ use Rattle.ctl_net.specs.Acceptor.{LinkEnd, link_end, is_faulty_link, next_faile
 use Rattle.ctl_net.specs.MemLink.{LinkState, IsNewLink, read_half_of}
 use Rattle.ctl_net.specs.declared.acceptor.Next.{Next}
 use Rattle.ctl_net.specs.declared.acceptor.Next.TheVariants as next
+use Rattle.ctl_net.specs.declared.opening.Opening.{Opening}
 
--- An acceptor in memory: the links that weren't handed out yet, how many sessions are left, how many links may still be
--- handed out, how many are out, those that were given back, for how many it has taken the memory, the calls for the next
--- link, and the count of links that were given back with faults.
+-- An acceptor in memory: the opening that made it, the links that weren't handed out yet, how many sessions are left, how many
+-- links may still be handed out, how many are out, those that were given back, for how many it has taken the memory, the calls
+-- for the next link, and the count of links that were given back with faults.
 pub record AcceptorState : Type 0 where
+  pub opening : Option Opening
   pub waiting : List LinkState
   pub sessions : ℕ
   pub objects : ℕ
@@ -22,9 +24,10 @@ pub record AcceptorState : Type 0 where
   pub calls : Calls
   pub done_faults : ℕ
 
--- an acceptor of these links that wasn't asked for one yet
+-- an acceptor of these links that no net opened and that wasn't asked for one yet
 abbrev pub unasked : List LinkState → ℕ → List ℕ → AcceptorState
 unasked links objects failing = record {
+  opening = None;
   waiting = links;
   sessions = length links;
   objects = objects;
@@ -90,6 +93,11 @@ AreNewLinks links = AllByRecursion IsNewLink links
 -- the acceptor with at most so many sessions left
 abbrev pub at_most : ℕ → AcceptorState → AcceptorState
 at_most sessions acceptor = record acceptor { sessions = min acceptor.sessions sessions }
+
+-- the acceptor as this opening makes it, for at most so many sessions
+abbrev pub opened_as : Opening → ℕ → AcceptorState → AcceptorState
+opened_as opening sessions acceptor =
+    record (at_most sessions acceptor) { opening = Some opening }
 
 -- No call was made of the acceptor.
 pub record IsNewAcceptor (acceptor : AcceptorState) : Type 0 where

@@ -6,6 +6,7 @@ use Rattle.ctl_net.specs.declared.memory.mem_acceptor.MemAcceptor.TheInside.{Ins
 -- the acceptor, without where it lies in memory
 abbrev pub acceptor_state : Inside → AcceptorState
 acceptor_state acceptor = record {
+  opening = acceptor.opening;
   waiting = acceptor.waiting.items;
   sessions = acceptor.sessions;
   objects = acceptor.objects;

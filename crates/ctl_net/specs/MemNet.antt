@@ -5,9 +5,9 @@ use Rattle.std.specs.Option.{option_map, option_map_or}
 use Rattle.ctl_io.specs.Calls.{Calls, next_fails, called, uncalled}
 use Rattle.ctl_io.specs.Custody.{Custody}
 use Rattle.ctl_io.specs.Faults.{count_after, is_faulty}
-use Rattle.ctl_net.specs.MemAcceptor.{AcceptorState, IsNewAcceptor, at_most, links_of}
-use Rattle.ctl_net.specs.MemPort.{PortState, IsNewPort}
-use Rattle.ctl_net.specs.Net.{AcceptorEnd, acceptor_end, is_refused, ends_faulty}
+use Rattle.ctl_net.specs.MemAcceptor.{AcceptorState, IsNewAcceptor, links_of, opened_as}
+use Rattle.ctl_net.specs.MemPort.{PortState, IsNewPort, opened_to}
+use Rattle.ctl_net.specs.Net.{AcceptorEnd, PortEnd, acceptor_end, port_end, is_refused, ends_faulty}
 use Rattle.ctl_net.specs.declared.memory.closed_acceptor.ClosedAcceptor.{ClosedAcceptor}
 use Rattle.ctl_net.specs.declared.opening.Opening.{Opening}
 
@@ -55,13 +55,14 @@ opens_none net = next_fails net.calls || (net.objects == 0)
 abbrev pub found : {A : Type 0} → NetState → List A → Option A
 found net waiting = if opens_none net then None else slice_get waiting 0
 
--- what the opening of an acceptor for so many sessions answers: it has no more left
-abbrev pub acceptor_answer : NetState → ℕ → Option AcceptorState
-acceptor_answer net sessions = option_map (at_most sessions) (found net net.acceptors)
+-- what the opening of an acceptor for so many sessions answers: it has no more left, and the opening is its own
+abbrev pub acceptor_answer : NetState → Opening → ℕ → Option AcceptorState
+acceptor_answer net opening sessions =
+    option_map (opened_as opening sessions) (found net net.acceptors)
 
--- what the opening of a port answers
-abbrev pub port_answer : NetState → Option PortState
-port_answer net = found net net.ports
+-- what the opening of a port answers: the opening is its own
+abbrev pub port_answer : NetState → Opening → Option PortState
+port_answer net opening = option_map (opened_to opening) (found net net.ports)
 
 -- how many sessions the next acceptor has that is opened for so many: of the first that waits as many as it has left, and no
 -- more than these
@@ -117,16 +118,20 @@ after_close_port port net = record net {
 
 -- what an acceptor that was given back showed
 abbrev pub closed_end : ClosedAcceptor → AcceptorEnd
-closed_end closed = acceptor_end closed.panel closed.acceptor.sessions
+closed_end closed = acceptor_end closed.panel closed.acceptor.opening closed.acceptor.sessions
     (links_of closed.acceptor) closed.acceptor.calls.faults closed.acceptor.done_faults
+
+-- what a port that was given back showed
+abbrev pub closed_port : PortState → PortEnd PortState
+closed_port port = port_end port.opening port
 
 -- the custody of its acceptors, and of its ports
 abbrev pub acceptors_of : NetState → Custody AcceptorEnd
 acceptors_of net =
     record { out = net.acceptors_out; back = Some (map closed_end net.acceptors_back) }
 
-abbrev pub ports_of : NetState → Custody PortState
-ports_of net = record { out = net.ports_out; back = Some net.ports_back }
+abbrev pub ports_of : NetState → Custody (PortEnd PortState)
+ports_of net = record { out = net.ports_out; back = Some (map closed_port net.ports_back) }
 
 -- No call was made of the acceptors.
 abbrev pub AreNewAcceptors : List AcceptorState → Type 0

@@ -8,6 +8,7 @@ use Rattle.ctl_net.specs.declared.memory.mem_port.MemPort.TheInside.{Inside}
 -- the port, without where it lies in memory
 abbrev pub port_state : Inside → PortState
 port_state port = record {
+  opening = port.opening;
   packets = cut port.lengths.items port.bytes.items;
   room = vec_capacity port.bytes;
   calls = port.calls;

@@ -7,23 +7,33 @@ use Rattle.ctl_net.specs.Acceptor.{LinkEnd}
 use Rattle.ctl_net.specs.Port.{IsSomePacket}
 use Rattle.ctl_net.specs.declared.opening.Opening.{Opening}
 
--- What an acceptor shows when it is given back: its panel's number, how many sessions are left, the links that it handed out
--- and took back, and its counts of faults.
+-- What an acceptor shows when it is given back: the number of the panel that it is given back for, the opening that made it,
+-- how many sessions are left, the links that it handed out and took back, and its counts of faults.
 pub record AcceptorEnd : Type 0 where
   pub panel : ℕ
+  pub opening : Option Opening
   pub sessions : ℕ
   pub links : Custody LinkEnd
   pub next_faults : ℕ
   pub done_faults : ℕ
 
-abbrev pub acceptor_end : ℕ → ℕ → Custody LinkEnd → ℕ → ℕ → AcceptorEnd
-acceptor_end panel sessions links next_faults done_faults = record {
+abbrev pub acceptor_end : ℕ → Option Opening → ℕ → Custody LinkEnd → ℕ → ℕ → AcceptorEnd
+acceptor_end panel opening sessions links next_faults done_faults = record {
   panel = panel;
+  opening = opening;
   sessions = sessions;
   links = links;
   next_faults = next_faults;
   done_faults = done_faults;
 }
+
+-- What a display port shows when it is given back: the opening that made it, and itself.
+pub record PortEnd (P : Type 0) : Type 0 where
+  pub opening : Option Opening
+  pub port : P
+
+abbrev pub port_end : {P : Type 0} → Option Opening → P → PortEnd P
+port_end opening port = record { opening = opening; port = port }
 
 -- whether an acceptor with these counts of faults met one
 abbrev pub ends_faulty : ℕ → ℕ → Bool

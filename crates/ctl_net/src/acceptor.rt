@@ -1,10 +1,11 @@
 //! Acceptors, which hand out the links of a panel's sessions one after another.
 
-ghost use Rattle.std.specs.Prelude.{◌≡◌, ◌^◌, ◌<◌, ◌≤◌, ℕ};
+ghost use Rattle.std.specs.Prelude.{◌≡◌, ◌^◌, ◌<◌, ◌≤◌, ℕ, Option};
 ghost use Rattle.ctl_io.specs.Custody.{Custody, returned};
 ghost use Rattle.ctl_io.specs.Faults.{count_after};
 ghost use Rattle.ctl_net.specs.Acceptor.{LinkEnd, link_end, is_faulty_link};
 ghost use Rattle.ctl_net.specs.Acceptor.{IfOne, IsFresh, Uses, link_lent, next_failed};
+ghost use Rattle.ctl_net.specs.declared.opening.Opening.{Opening};
 
 use crate::Link;
 
@@ -20,6 +21,9 @@ pub enum Next<L> {
 /// to another thread.
 pub trait Acceptor: Send {
     type L: Link;
+
+    /// The opening that made it, or none, if no net opened it.
+    ghost opening: { Self → Option Opening };
 
     /// How many sessions are left, at most 2^63.
     ghost sessions: { Self → ℕ };
@@ -39,6 +43,7 @@ pub trait Acceptor: Send {
             IsFresh (link_end (Self.L.written link) (Self.L.faults link) (Self.L.read_half link))) }
         ensures sessions { Uses result (sessions self.old) (sessions self.new) }
         ensures bound { sessions self.old ≤ 2 ^ 63 }
+        ensures opening { opening self.new ≡ opening self.old }
         ensures lent { links self.new ≡ link_lent result (links self.old) }
         ensures count { next_faults self.new
             ≡ count_after (next_failed result) (next_faults self.old) }
@@ -50,6 +55,7 @@ pub trait Acceptor: Send {
         ensures returned { links self.new ≡ returned
             (link_end (Self.L.written link) (Self.L.faults link) (Self.L.read_half link))
             (links self.old) }
+        ensures opening { opening self.new ≡ opening self.old }
         ensures sessions { sessions self.new ≡ sessions self.old }
         ensures count { done_faults self.new ≡ count_after
             (is_faulty_link (Self.L.faults link) (Self.L.read_half link))

@@ -3,7 +3,7 @@
 ghost use Rattle.std.specs.Prelude.{◌≡◌, ◌<◌, ◌≤◌, ℕ, List, Option, IfSome, length};
 ghost use Rattle.ctl_io.specs.Custody.{Custody, returned};
 ghost use Rattle.ctl_io.specs.Faults.{count_after, is_faulty};
-ghost use Rattle.ctl_net.specs.Net.{AcceptorEnd, acceptor_end};
+ghost use Rattle.ctl_net.specs.Net.{AcceptorEnd, PortEnd, acceptor_end, port_end};
 ghost use Rattle.ctl_net.specs.Net.{IsFreshAcceptor, IsFreshPort, TakesAll};
 ghost use Rattle.ctl_net.specs.Net.{is_refused, opened, opening_lent, ends_faulty};
 ghost use Rattle.ctl_net.specs.declared.opening.Opening.{Opening};
@@ -23,7 +23,7 @@ pub trait Net {
     ghost acceptors: { Self → Custody AcceptorEnd };
 
     /// The display ports that were handed out and taken back, each as it was given back.
-    ghost ports: { Self → Custody Self.P };
+    ghost ports: { Self → Custody (PortEnd Self.P) };
 
     /// How many sessions the next acceptor has that is opened for so many.
     ghost sessions_for: { Self → ℕ → ℕ };
@@ -35,7 +35,8 @@ pub trait Net {
     ghost close_faults: { Self → ℕ };
 
     /// Opens the acceptor of a panel's sessions at an address, of at most 64 bytes, and a port. It hands out at most
-    /// `sessions` links, of which a read waits at most `idle_ms` milliseconds. It is new. None is a refusal.
+    /// `sessions` links, of which a read waits at most `idle_ms` milliseconds. It is new, and shows this opening. None is a
+    /// refusal.
     fn acceptor(
         &mut self,
         panel: u32,
@@ -47,6 +48,8 @@ pub trait Net {
         requires { length address.now ≤ 64 }
         ensures new { IfSome result (λ acceptor. IsFreshAcceptor (Self.A.links acceptor)
             (Self.A.next_faults acceptor) (Self.A.done_faults acceptor)) }
+        ensures opening { IfSome result (λ acceptor. Self.A.opening acceptor
+            ≡ Some (Opening.Acceptor panel address.now port sessions idle_ms)) }
         ensures sessions { IfSome result (λ acceptor. Self.A.sessions acceptor ≤ sessions) }
         ensures asked { IfSome result (λ acceptor.
             Self.A.sessions acceptor ≡ sessions_for self.old sessions) }
@@ -58,12 +61,14 @@ pub trait Net {
             ≡ count_after (is_refused result) (open_faults self.old) }
         ensures close_count { close_faults self.new ≡ close_faults self.old };
 
-    /// Opens the display port to an address, of at most 64 bytes. It is new, and takes every packet that isn't empty. None
-    /// is a refusal.
+    /// Opens the display port to an address, of at most 64 bytes. It is new, shows this opening, and takes every packet that
+    /// isn't empty. None is a refusal.
     fn port(&mut self, address: &str) -> Option<Self::P>
         requires { length address.now ≤ 64 }
         ensures new { IfSome result
             (λ port. IsFreshPort (Self.P.was_sent port) (Self.P.faults port)) }
+        ensures opening { IfSome result
+            (λ port. Self.P.opening port ≡ Some (Opening.Display address.now)) }
         ensures takes { TakesAll Self.P.takes }
         ensures told { openings self.new
             ≡ opened result (Opening.Display address.now) (openings self.old) }
@@ -77,7 +82,7 @@ pub trait Net {
     fn close_acceptor(&mut self, panel: u32, acceptor: Self::A)
         requires { 0 < (acceptors self.old).out }
         ensures returned { acceptors self.new ≡ returned (acceptor_end panel
-            (Self.A.sessions acceptor) (Self.A.links acceptor)
+            (Self.A.opening acceptor) (Self.A.sessions acceptor) (Self.A.links acceptor)
             (Self.A.next_faults acceptor) (Self.A.done_faults acceptor)) (acceptors self.old) }
         ensures told { openings self.new ≡ openings self.old }
         ensures ports { ports self.new ≡ ports self.old }
@@ -89,7 +94,8 @@ pub trait Net {
     /// Takes back a display port that this net handed out.
     fn close_port(&mut self, port: Self::P)
         requires { 0 < (ports self.old).out }
-        ensures returned { ports self.new ≡ returned port (ports self.old) }
+        ensures returned { ports self.new
+            ≡ returned (port_end (Self.P.opening port) port) (ports self.old) }
         ensures told { openings self.new ≡ openings self.old }
         ensures acceptors { acceptors self.new ≡ acceptors self.old }
         ensures count { close_faults self.new

@@ -36,6 +36,16 @@ impl Address {
         Address { bytes, len }
     }
 
+    // The same address.
+    fn copied(&self) -> Address
+        ensures { result ≡ self.now }
+    {
+        Address {
+            bytes: self.bytes,
+            len: self.len,
+        }
+    }
+
     pub fn as_bytes(&self) -> &[u8]
         ensures { result.now ≡ self.now }
     {
@@ -59,4 +69,30 @@ pub enum Opening {
     Display {
         address: Address,
     },
+}
+
+impl Opening {
+    // The same opening.
+    pub(crate) fn copied(&self) -> Opening
+        ensures { result ≡ self.now }
+    {
+        match self {
+            Opening::Acceptor {
+                panel,
+                address,
+                port,
+                sessions,
+                idle_ms,
+            } => Opening::Acceptor {
+                panel: *panel,
+                address: address.copied(),
+                port: *port,
+                sessions: *sessions,
+                idle_ms: *idle_ms,
+            },
+            Opening::Display { address } => Opening::Display {
+                address: address.copied(),
+            },
+        }
+    }
 }

@@ -6,9 +6,9 @@ use Rattle.std.proofs.lemmas.List.{append-nil, take_all}
 use Rattle.std.proofs.lemmas.List.Elements.{All-head, All-tail}
 use Rattle.ctl_io.specs.Custody.{Custody, returned}
 use Rattle.ctl_io.specs.Faults.{Rose, count_after, is_faulty}
-use Rattle.ctl_net.specs.Net.{AcceptorEnd, IsFreshAcceptor, IsFreshPort}
+use Rattle.ctl_net.specs.Net.{AcceptorEnd, IsFreshAcceptor, IsFreshPort, port_end}
 use Rattle.ctl_net.specs.declared.opening.Opening.{Opening}
-use Rattle.ctl_net.specs.declared.opening.Opening.TheVariants as opening
+use Rattle.ctl_net.specs.declared.opening.Opening.TheVariants.{Display}
 use Rattle.history_lock.specs.History.{IsLegal}
 use Rattle.history_lock.specs.Locks.{LockData, new_seat}
 use Rattle.plant_config.specs.Plant.{PlantData}
@@ -46,11 +46,13 @@ pub record IsNewPanel (plant : PlantData) (lock : LockData State) (number : ℕ)
   pub seat_is : panel.seat ≡ new_seat lock.id (start plant) number
   pub fresh : IsFreshAcceptor panel.acceptor.links panel.acceptor.next_faults panel.acceptor.done_faults
   pub most : panel.acceptor.sessions ≤ plant.server.sessions
+  pub own : panel.acceptor.opening ≡ slice_get (acceptor_openings plant.server 0 plant.panels) number
 
 pub record IsNewDriver {P : Type 0} (WasSent : P → List (List ℕ) → Type 0) (faults : P → ℕ) (plant : PlantData) (lock : LockData State) (number : ℕ) (displays : DisplayData P) : Type 0 where
   pub last : number ≡ length plant.panels
   pub seat_is : displays.seat ≡ new_seat lock.id (start plant) number
-  pub fresh : IsFreshPort (WasSent displays.port) (faults displays.port)
+  pub fresh : IsFreshPort (WasSent displays.port.port) (faults displays.port.port)
+  pub own : displays.port.opening ≡ Some (Display plant.server.display)
 
 abbrev pub IsNewCrew : {P : Type 0} → (P → List (List ℕ) → Type 0) → (P → ℕ) → PlantData → LockData State → ℕ → List (WorkerData P) → Type 0
 IsNewCrew WasSent faults plant lock number [] = ⊥
@@ -80,7 +82,7 @@ module _ {P : Type 0} (WasSent : P → List (List ℕ) → Type 0) (faults : P �
     pub names : map (λ worker. (trace_sink_of worker).name) crew_then ≡ map (λ worker. (trace_sink_of worker).name) crew
     pub net_is : (net : NetData P) → after_all faults crew_then net ≡ record net {
       acceptors = record (all_returned (map (λ run. run.acceptor_then) panels) net.acceptors) { out = net.acceptors.out - length panels };
-      ports = returned displays.port_then net.ports;
+      ports = returned (port_end displays.opening displays.port_then) net.ports;
       close_faults = count_after (is_faulty (faults displays.port_then)) (faulty_back (map (λ run. run.acceptor_then) panels) net.close_faults);
     }
     pub added : (sums : Sums) → AreAdded number panels displays sums (sums_from number crew_then sums)
@@ -101,6 +103,8 @@ module _ {P : Type 0} (WasSent : P → List (List ℕ) → Type 0) (faults : P �
         trace_then = trace_of now.trace;
         new = new.fresh;
         most = new.most;
+        own = new.own;
+        kept = has.kept;
         named = has.named ∙ has.number ∙ new.number_is;
         served = subst (λ (seat : PlantSeat). PanelServed plant number plant.server.turns now.done now.session seat now.seat before.acceptor now.acceptor (trace_of before.trace) (trace_of now.trace)) new.seat_is at_number;
         seat_in = seat_in;
@@ -128,12 +132,12 @@ module _ {P : Type 0} (WasSent : P → List (List ℕ) → Type 0) (faults : P �
             rest.net_is (with_closed now.acceptor net)
             ∙ ap (λ (back : Option (List AcceptorEnd)). record net {
               acceptors = record { out = net.acceptors.out - 1 - length rest.panels; back = back };
-              ports = returned rest.displays.port_then net.ports;
+              ports = returned (port_end rest.displays.opening rest.displays.port_then) net.ports;
               close_faults = count_after (is_faulty (faults rest.displays.port_then)) (close net.close_faults);
             }) (back_both (now.acceptor ∷ []) ends net.acceptors.back)
             ∙ ap (λ (n : ℕ). record net {
               acceptors = record (all_returned (now.acceptor ∷ ends) net.acceptors) { out = n };
-              ports = returned rest.displays.port_then net.ports;
+              ports = returned (port_end rest.displays.opening rest.displays.port_then) net.ports;
               close_faults = count_after (is_faulty (faults rest.displays.port_then)) (close net.close_faults);
             }) fewer;
         added = λ sums. added_first number run rest.panels rest.displays sums (sums_from (number + 1) crew_then (with_panel number now.done sums)) (rest.added (with_panel number now.done sums));
@@ -147,12 +151,14 @@ module _ {P : Type 0} (WasSent : P → List (List ℕ) → Type 0) (faults : P �
       let displays : DisplayRun WasSent faults plant lock past = record {
         end = now.end;
         seat_then = now.seat;
-        port = before.port;
-        port_then = now.port;
+        opening = now.port.opening;
+        port = before.port.port;
+        port_then = now.port.port;
         trace = trace_of before.trace;
         trace_then = trace_of now.trace;
         new = new.fresh;
-        driven = subst (λ (seat : PlantSeat). Driven WasSent faults plant now.end seat now.seat before.port now.port (trace_of before.trace) (trace_of now.trace)) (new.seat_is ∙ ap seat_at new.last) has.driven;
+        own = has.kept ∙ new.own;
+        driven = subst (λ (seat : PlantSeat). Driven WasSent faults plant now.end seat now.seat before.port.port now.port.port (trace_of before.trace) (trace_of now.trace)) (new.seat_is ∙ ap seat_at new.last) has.driven;
         seat_in = seat_in;
       } in
       record {
@@ -208,12 +214,12 @@ module _ {P : Type 0} (WasSent : P → List (List ℕ) → Type 0) (faults : P �
         few = few;
         by_seats = by_seats;
         openings = ap (λ (x : NetData P). x.openings) is
-            ∙ ap (λ (x : List Opening). opened_all (opening.Display plant.server.display ∷ []) (opened_all x net.openings)) whole
-            ∙ opened_both all (opening.Display plant.server.display ∷ []) net.openings;
+            ∙ ap (λ (x : List Opening). opened_all (Display plant.server.display ∷ []) (opened_all x net.openings)) whole
+            ∙ opened_both all (Display plant.server.display ∷ []) net.openings;
         acceptors = ap (λ (x : NetData P). x.acceptors) is
             ∙ ap (λ (n : ℕ). record (all_returned (map (λ (run : Run). run.acceptor_then) runs.panels) net.acceptors) { out = n }) out;
         port = ap (λ (x : NetData P). x.ports) is
-            ∙ ap (λ (n : ℕ). record (all_returned (runs.displays.port_then ∷ []) net.ports) { out = n }) one;
+            ∙ ap (λ (n : ℕ). record (all_returned (port_end runs.displays.opening runs.displays.port_then ∷ []) net.ports) { out = n }) one;
         open_count = ap (λ (x : NetData P). x.open_faults) is;
         close_count = ap (λ (x : NetData P). x.close_faults) is;
         traces_were = traces_were ∙ runs.were;

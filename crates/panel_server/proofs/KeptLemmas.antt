@@ -3,7 +3,7 @@ use Rattle.std.proofs.Common.{◌≡◌, ℕ, zero, suc, ◌+◌, ◌<◌, List,
 use Rattle.std.specs.List.{AllZip}
 use Rattle.std.proofs.lemmas.List.Elements.{All-nil, All-cons}
 use Rattle.ctl_io.specs.Custody.{SinkEnd}
-use Rattle.ctl_net.specs.Net.{AcceptorEnd}
+use Rattle.ctl_net.specs.Net.{AcceptorEnd, PortEnd}
 use Rattle.history_lock.specs.Closing.{HasAll, IsOf}
 use Rattle.history_lock.specs.Locks.{LockData}
 use Rattle.plant_config.specs.Plant.{PlantData}
@@ -76,7 +76,7 @@ module _ {P : Type 0} (WasSent : P → List (List ℕ) → Type 0) (faults : P �
   crew_long number (of_displays displays ∷ other ∷ later) new = absurd new
 
 -- their traces
-pub crew_sinks : {P : Type 0} (number : ℕ) (sessions : List Session) (seats : List PlantSeat) (acceptors : List AcceptorEnd) (traces : List SinkEnd) (port : P)
+pub crew_sinks : {P : Type 0} (number : ℕ) (sessions : List Session) (seats : List PlantSeat) (acceptors : List AcceptorEnd) (traces : List SinkEnd) (port : PortEnd P)
     → length sessions ≡ length acceptors → length seats ≡ length acceptors + 1 → length traces ≡ length acceptors + 1
     → map trace_sink_of (crew number sessions seats acceptors traces port) ≡ traces
 crew_sinks number [] [] acceptors traces port a b c = absurd (omega (arith, b))

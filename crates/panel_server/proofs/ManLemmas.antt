@@ -4,14 +4,17 @@ use Rattle.std.specs.List.{AllZip}
 use Rattle.std.proofs.lemmas.List.Elements.{All-nil, All-cons, All-head, All-tail}
 use Rattle.ctl_io.specs.Custody.{Custody, SinkEnd}
 use Rattle.ctl_net.specs.Acceptor.{LinkEnd}
-use Rattle.ctl_net.specs.Net.{IsFreshPort, TakesAll}
+use Rattle.ctl_net.specs.Net.{IsFreshPort, PortEnd, TakesAll}
+use Rattle.ctl_net.specs.declared.opening.Opening.{Opening}
+use Rattle.ctl_net.specs.declared.opening.Opening.TheVariants.{Display}
 use Rattle.history_lock.specs.Locks.{AreNew, LockData, new_seat}
 use Rattle.plant_config.specs.IsPlant.{IsPlant}
 use Rattle.plant_config.specs.Plant.{PlantData}
 use Rattle.plant_core.specs.State.{State, start}
 use Rattle.panel_session.specs.declared.session.Session.{Session}
 use Rattle.panel_session.specs.Served.{PlantSeat}
-use Rattle.panel_server.specs.ServeInside.{AreSessions, IsFreshFor, crew, ends_from}
+use Rattle.panel_server.specs.PlantServed.{acceptor_openings}
+use Rattle.panel_server.specs.ServeInside.{AreOwn, AreSessions, IsFreshFor, crew, ends_from}
 use Rattle.panel_server.specs.Workers.{MayWork, WorkerData, of_displays, of_panel}
 use Rattle.panel_server.proofs.CrewLemmas.{IsNewCrew}
 
@@ -44,10 +47,36 @@ new_all plant lock count seats new long =
     let here : slice_get seats k ≡ Some (seat_at k) = new k (omega (arith, below, long)) in
     here ∙ ap (λ (n : ℕ). Some (seat_at n)) at)
 
-pub ends_long : {A : Type 0} (sessions_of : A → ℕ) (links : A → Custody LinkEnd) (next_faults done_faults : A → ℕ) (number : ℕ) (acceptors : List A)
-    → length (ends_from sessions_of links next_faults done_faults number acceptors) ≡ length acceptors
-ends_long sessions_of links next_faults done_faults number [] = refl
-ends_long sessions_of links next_faults done_faults number (acceptor ∷ later) = ap (λ (n : ℕ). suc n) (ends_long sessions_of links next_faults done_faults (number + 1) later)
+-- The acceptors, of which the first is of the panel of this number, are the panels' own.
+abbrev pub AreOwnFrom : {A : Type 0} → (A → Option Opening) → PlantData → ℕ → List A → Type 0
+AreOwnFrom opening_of plant number [] = Unit {0}
+AreOwnFrom opening_of plant number (acceptor ∷ later) =
+    (opening_of acceptor ≡ slice_get (acceptor_openings plant.server 0 plant.panels) number) × AreOwnFrom opening_of plant (number + 1) later
+
+pub own_from : {A : Type 0} (opening_of : A → Option Opening) (plant : PlantData) (number : ℕ) (acceptors : List A)
+    → ((k : ℕ) (acceptor : A) → slice_get acceptors k ≡ Some acceptor → opening_of acceptor ≡ slice_get (acceptor_openings plant.server 0 plant.panels) (number + k))
+    → AreOwnFrom opening_of plant number acceptors
+own_from opening_of plant number [] each = tt
+own_from {A} opening_of plant number (acceptor ∷ later) each =
+    let all : List Opening = acceptor_openings plant.server 0 plant.panels in
+    let here : number + 0 ≡ number = omega arith in (
+      each 0 acceptor refl ∙ ap (λ (n : ℕ). slice_get all n) here,
+      own_from opening_of plant (number + 1) later (λ k other at.
+          let next : number + suc k ≡ number + 1 + k = omega arith in
+          each (suc k) other at ∙ ap (λ (n : ℕ). slice_get all n) next),
+    )
+
+pub own_all : {A : Type 0} (opening_of : A → Option Opening) (plant : PlantData) (acceptors : List A) → AreOwn opening_of plant acceptors → AreOwnFrom opening_of plant 0 acceptors
+own_all opening_of plant acceptors own =
+    own_from opening_of plant 0 acceptors (λ k acceptor at.
+    let all : List Opening = acceptor_openings plant.server 0 plant.panels in
+    let same : k ≡ 0 + k = omega arith in
+    own k acceptor at ∙ ap (λ (n : ℕ). slice_get all n) same)
+
+pub ends_long : {A : Type 0} (opening_of : A → Option Opening) (sessions_of : A → ℕ) (links : A → Custody LinkEnd) (next_faults done_faults : A → ℕ) (number : ℕ) (acceptors : List A)
+    → length (ends_from opening_of sessions_of links next_faults done_faults number acceptors) ≡ length acceptors
+ends_long opening_of sessions_of links next_faults done_faults number [] = refl
+ends_long opening_of sessions_of links next_faults done_faults number (acceptor ∷ later) = ap (λ (n : ℕ). suc n) (ends_long opening_of sessions_of links next_faults done_faults (number + 1) later)
 
 -- what is so of each that is shown
 pub all_shown : {W X : Type 0} (shows : W → X) (Is : X → Type 0) (workers : List W) → All Is (map shows workers) → All (λ worker. Is (shows worker)) workers
@@ -55,25 +84,26 @@ all_shown shows Is [] all = All-nil (λ worker. Is (shows worker))
 all_shown shows Is (worker ∷ later) all =
     All-cons (λ worker. Is (shows worker)) worker later (All-head Is (shows worker) (map shows later) all) (all_shown shows Is later (All-tail Is (shows worker) (map shows later) all))
 
-module _ {A P : Type 0} (sessions_of : A → ℕ) (links : A → Custody LinkEnd) (next_faults done_faults : A → ℕ) (WasSent : P → List (List ℕ) → Type 0) (faults : P → ℕ)
+module _ {A P : Type 0} (opening_of : A → Option Opening) (sessions_of : A → ℕ) (links : A → Custody LinkEnd) (next_faults done_faults : A → ℕ) (WasSent : P → List (List ℕ) → Type 0) (faults : P → ℕ)
     (plant : PlantData) (lock : LockData State) where
   -- what was opened makes a new crew
-  pub new_crew : (number : ℕ) (sessions : List Session) (seats : List PlantSeat) (acceptors : List A) (traces : List SinkEnd) (port : P)
-      → AreSessions plant number sessions → AreNewFrom plant lock number seats → All (IsFreshFor sessions_of links next_faults done_faults plant.server) acceptors → IsFreshPort (WasSent port) (faults port)
+  pub new_crew : (number : ℕ) (sessions : List Session) (seats : List PlantSeat) (acceptors : List A) (traces : List SinkEnd) (port : PortEnd P)
+      → AreSessions plant number sessions → AreNewFrom plant lock number seats → All (IsFreshFor sessions_of links next_faults done_faults plant.server) acceptors → AreOwnFrom opening_of plant number acceptors
+      → IsFreshPort (WasSent port.port) (faults port.port) → port.opening ≡ Some (Display plant.server.display)
       → length sessions ≡ length acceptors → length seats ≡ length acceptors + 1 → length traces ≡ length acceptors + 1 → number + length acceptors ≡ length plant.panels
-      → IsNewCrew WasSent faults plant lock number (crew number sessions seats (ends_from sessions_of links next_faults done_faults number acceptors) traces port)
-  new_crew number [] [] acceptors traces port stand new fresh fresh_port a b c d = absurd (omega (arith, b))
-  new_crew number [] (seat ∷ seats) [] [] port stand new fresh fresh_port a b c d = absurd (omega (arith, c))
-  new_crew number [] (seat ∷ seats) [] (trace ∷ traces) port stand new fresh fresh_port a b c d = record { last = omega (arith, d); seat_is = new.0; fresh = fresh_port }
-  new_crew number [] (seat ∷ seats) (acceptor ∷ acceptors) traces port stand new fresh fresh_port a b c d = absurd (omega (arith, a))
-  new_crew number (session ∷ sessions) [] acceptors traces port stand new fresh fresh_port a b c d = absurd (omega (arith, b))
-  new_crew number (session ∷ sessions) (seat ∷ seats) [] traces port stand new fresh fresh_port a b c d = absurd (omega (arith, a))
-  new_crew number (session ∷ sessions) (seat ∷ seats) (acceptor ∷ acceptors) [] port stand new fresh fresh_port a b c d = absurd (omega (arith, c))
-  new_crew number (session ∷ sessions) (seat ∷ seats) (acceptor ∷ acceptors) (trace ∷ traces) port stand new fresh fresh_port a b c d =
+      → IsNewCrew WasSent faults plant lock number (crew number sessions seats (ends_from opening_of sessions_of links next_faults done_faults number acceptors) traces port)
+  new_crew number [] [] acceptors traces port stand new fresh own fresh_port own_port a b c d = absurd (omega (arith, b))
+  new_crew number [] (seat ∷ seats) [] [] port stand new fresh own fresh_port own_port a b c d = absurd (omega (arith, c))
+  new_crew number [] (seat ∷ seats) [] (trace ∷ traces) port stand new fresh own fresh_port own_port a b c d = record { last = omega (arith, d); seat_is = new.0; fresh = fresh_port; own = own_port }
+  new_crew number [] (seat ∷ seats) (acceptor ∷ acceptors) traces port stand new fresh own fresh_port own_port a b c d = absurd (omega (arith, a))
+  new_crew number (session ∷ sessions) [] acceptors traces port stand new fresh own fresh_port own_port a b c d = absurd (omega (arith, b))
+  new_crew number (session ∷ sessions) (seat ∷ seats) [] traces port stand new fresh own fresh_port own_port a b c d = absurd (omega (arith, a))
+  new_crew number (session ∷ sessions) (seat ∷ seats) (acceptor ∷ acceptors) [] port stand new fresh own fresh_port own_port a b c d = absurd (omega (arith, c))
+  new_crew number (session ∷ sessions) (seat ∷ seats) (acceptor ∷ acceptors) (trace ∷ traces) port stand new fresh own fresh_port own_port a b c d =
       let Fresh : A → Type 0 = IsFreshFor sessions_of links next_faults done_faults plant.server in
       let first = All-head Fresh acceptor acceptors fresh in (
-        record { number_is = refl; stands = stand.0; seat_is = new.0; fresh = first.fresh; most = first.most },
-        new_crew (number + 1) sessions seats acceptors traces port stand.1 new.1 (All-tail Fresh acceptor acceptors fresh) fresh_port (omega (arith, a)) (omega (arith, b)) (omega (arith, c)) (omega (arith, d)),
+        record { number_is = refl; stands = stand.0; seat_is = new.0; fresh = first.fresh; most = first.most; own = own.0 },
+        new_crew (number + 1) sessions seats acceptors traces port stand.1 new.1 (All-tail Fresh acceptor acceptors fresh) own.1 fresh_port own_port (omega (arith, a)) (omega (arith, b)) (omega (arith, c)) (omega (arith, d)),
       )
 
   -- each of a new crew may begin

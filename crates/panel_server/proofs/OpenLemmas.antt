@@ -6,15 +6,15 @@ use Rattle.std.proofs.lemmas.List.{append_assoc, append-nil, length-append}
 use Rattle.std.proofs.lemmas.List.Elements.{All-cons, All-head, All-tail}
 use Rattle.ctl_io.specs.Custody.{Custody, lent, returned}
 use Rattle.ctl_io.specs.Faults.{count_after}
-use Rattle.ctl_net.specs.Net.{AcceptorEnd, IsFreshAcceptor, ends_faulty, is_refused, opened, opening_lent}
+use Rattle.ctl_net.specs.Net.{AcceptorEnd, IsFreshAcceptor, PortEnd, ends_faulty, is_refused, opened, opening_lent}
 use Rattle.ctl_net.specs.declared.opening.Opening.{Opening}
-use Rattle.ctl_net.specs.declared.opening.Opening.TheVariants as opening
+use Rattle.ctl_net.specs.declared.opening.Opening.TheVariants.{Acceptor, Display}
 use Rattle.plant_config.specs.Plant.{PlantData}
 use Rattle.plant_config.specs.declared.records.Panel.{Panel}
 use Rattle.plant_file.specs.declared.entries.Server.{Server}
 use Rattle.panel_server.specs.PanelServed.{all_returned}
 use Rattle.panel_server.specs.PlantServed.{RefusesOpening, NetData, acceptor_openings, opened_all}
-use Rattle.panel_server.specs.ServeInside.{ComeBackFresh, WasRefused, opened_acceptors, with_acceptor, with_closed, with_port, with_refusal}
+use Rattle.panel_server.specs.ServeInside.{AreOwn, ComeBackFresh, WasRefused, opened_acceptors, with_acceptor, with_closed, with_port, with_refusal}
 
 -- two nets that show the same are the same
 pub same_net : {P : Type 0} (one other : NetData P) → one.openings ≡ other.openings → one.acceptors ≡ other.acceptors → one.ports ≡ other.ports
@@ -22,7 +22,7 @@ pub same_net : {P : Type 0} (one other : NetData P) → one.openings ≡ other.o
 same_net {P} one other openings acceptors ports refused faulty =
     ap (λ (x : Option (List Opening)). record one { openings = x }) openings
     ∙ ap (λ (x : Custody AcceptorEnd). record one { openings = other.openings; acceptors = x }) acceptors
-    ∙ ap (λ (x : Custody P). record other { ports = x; open_faults = one.open_faults; close_faults = one.close_faults }) ports
+    ∙ ap (λ (x : Custody (PortEnd P)). record other { ports = x; open_faults = one.open_faults; close_faults = one.close_faults }) ports
     ∙ ap (λ (x : ℕ). record other { open_faults = x; close_faults = one.close_faults }) refused
     ∙ ap (λ (x : ℕ). record other { close_faults = x }) faulty
 
@@ -43,15 +43,15 @@ openings_count server number (panel ∷ panels) = ap (λ (n : ℕ). suc n) (open
 -- the opening of the next panel
 pub openings_next : (server : Server) (from number : ℕ) (panels : List Panel) (other : Panel) → number < length panels
     → take (suc number) (acceptor_openings server from panels)
-    ≡ take number (acceptor_openings server from panels) ++ opening.Acceptor (from + number) server.listen (slice_index_or panels number other).port server.sessions server.idle_ms ∷ []
+    ≡ take number (acceptor_openings server from panels) ++ Acceptor (from + number) server.listen (slice_index_or panels number other).port server.sessions server.idle_ms ∷ []
 openings_next server from number [] other below = absurd (omega (arith, below))
 openings_next server from zero (panel ∷ panels) other below =
-    ap (λ (n : ℕ). opening.Acceptor n server.listen panel.port server.sessions server.idle_ms ∷ []) (omega arith)
+    ap (λ (n : ℕ). Acceptor n server.listen panel.port server.sessions server.idle_ms ∷ []) (omega arith)
 openings_next server from (suc number) (panel ∷ panels) other below =
-    let first = opening.Acceptor from server.listen panel.port server.sessions server.idle_ms in
+    let first = Acceptor from server.listen panel.port server.sessions server.idle_ms in
     let at : from + 1 + number ≡ from + suc number = omega arith in
     ap (λ (later : List Opening). first ∷ later) (openings_next server (from + 1) number panels other (omega (arith, below)))
-    ∙ ap (λ (n : ℕ). first ∷ (take number (acceptor_openings server (from + 1) panels) ++ opening.Acceptor n server.listen (slice_index_or panels number other).port server.sessions server.idle_ms ∷ [])) at
+    ∙ ap (λ (n : ℕ). first ∷ (take number (acceptor_openings server (from + 1) panels) ++ Acceptor n server.listen (slice_index_or panels number other).port server.sessions server.idle_ms ∷ [])) at
 
 module _ {P : Type 0} (plant : PlantData) (net : NetData P) where
   -- one acceptor more
@@ -59,11 +59,11 @@ module _ {P : Type 0} (plant : PlantData) (net : NetData P) where
       → with_acceptor plant.server number (slice_index_or plant.panels number other).port (opened_acceptors plant number net) ≡ opened_acceptors plant (number + 1) net
   opened_next number other below =
       let all = acceptor_openings plant.server 0 plant.panels in
-      let one = opening.Acceptor number plant.server.listen (slice_index_or plant.panels number other).port plant.server.sessions plant.server.idle_ms in
+      let one = Acceptor number plant.server.listen (slice_index_or plant.panels number other).port plant.server.sessions plant.server.idle_ms in
       let at : number ≡ 0 + number = omega arith in
       let next_at : suc number ≡ number + 1 = omega arith in
       let more : take number all ++ one ∷ [] ≡ take (number + 1) all =
-      ap (λ (n : ℕ). take number all ++ opening.Acceptor n plant.server.listen (slice_index_or plant.panels number other).port plant.server.sessions plant.server.idle_ms ∷ []) at
+      ap (λ (n : ℕ). take number all ++ Acceptor n plant.server.listen (slice_index_or plant.panels number other).port plant.server.sessions plant.server.idle_ms ∷ []) at
       ∙ sym (openings_next plant.server 0 number plant.panels other below) ∙ ap (λ (n : ℕ). take n all) next_at in
       let shown : opened_all (one ∷ []) (opened_all (take number all) net.openings) ≡ opened_all (take (number + 1) all) net.openings =
       opened_both (take number all) (one ∷ []) net.openings ∙ ap (λ (openings : List Opening). opened_all openings net.openings) more in
@@ -125,8 +125,8 @@ at_one_more (z ∷ xs) x y (suc k) is = elim (at_one_more xs x y k is) [
   | (inr last) ↦ inr (omega (arith, last.0), last.1)
 ]
 
-module _ {P : Type 0} (count : ℕ) (net : NetData P) where
-  pub back_begins : ComeBackFresh count 0 net net
+module _ {P : Type 0} (plant : PlantData) (count : ℕ) (net : NetData P) where
+  pub back_begins : ComeBackFresh plant count 0 net net
   back_begins = record {
     back = [];
     counted = refl;
@@ -135,9 +135,10 @@ module _ {P : Type 0} (count : ℕ) (net : NetData P) where
         ∙ ap (λ (n : ℕ). record net { acceptors = record (all_returned [] net.acceptors) { out = n } }) {x = net.acceptors.out} (omega arith);
   }
 
-  pub back_next : (some more : ℕ) (one : AcceptorEnd) (mid : NetData P) → ComeBackFresh count some net mid → more ≡ some + 1 → one.panel + more ≡ count
-      → IsFreshAcceptor one.links one.next_faults one.done_faults → ComeBackFresh count more net (with_closed one mid)
-  back_next some more one mid came is at fresh =
+  pub back_next : (some more : ℕ) (one : AcceptorEnd) (mid : NetData P) → ComeBackFresh plant count some net mid → more ≡ some + 1 → one.panel + more ≡ count
+      → IsFreshAcceptor one.links one.next_faults one.done_faults
+      → one.opening ≡ slice_get (acceptor_openings plant.server 0 plant.panels) one.panel → ComeBackFresh plant count more net (with_closed one mid)
+  back_next some more one mid came is at fresh own =
       let same : with_closed one mid ≡ record mid { acceptors = returned one mid.acceptors } =
       ap (λ (n : ℕ). record mid { acceptors = returned one mid.acceptors; close_faults = count_after (ends_faulty n one.done_faults) mid.close_faults }) fresh.next_count
       ∙ ap (λ (n : ℕ). record mid { acceptors = returned one mid.acceptors; close_faults = count_after (ends_faulty 0 n) mid.close_faults }) fresh.done_count in
@@ -147,8 +148,9 @@ module _ {P : Type 0} (count : ℕ) (net : NetData P) where
         counted = omega (arith, is, came.counted, length-append came.back (one ∷ []));
         each = λ k other place. elim (at_one_more came.back one other k place) [
           | (inl before) ↦ came.each k other before
-          | (inr last) ↦ subst (λ (end : AcceptorEnd). (end.panel + (k + 1) ≡ count) × IsFreshAcceptor end.links end.next_faults end.done_faults) last.1
-              (omega (arith, at, is, last.0, came.counted), fresh)
+          | (inr last) ↦ subst (λ (end : AcceptorEnd). (end.panel + (k + 1) ≡ count) × IsFreshAcceptor end.links end.next_faults end.done_faults
+              × (end.opening ≡ slice_get (acceptor_openings plant.server 0 plant.panels) end.panel)) last.1
+              (omega (arith, at, is, last.0, came.counted), fresh, own)
         ];
         net_is = same ∙ ap (λ (before : NetData P). record before { acceptors = returned one before.acceptors }) came.net_is
             ∙ ap (λ (back : Option (List AcceptorEnd)). record net { acceptors = record { out = net.acceptors.out - some - 1; back = back } }) (back_both came.back (one ∷ []) net.acceptors.back)
@@ -163,10 +165,10 @@ front_of {X} (x ∷ xs) ys (suc n) few = ap (λ (later : List X). x ∷ later) (
 
 -- An opening was refused, and what was opened came back.
 pub refused_all : {P : Type 0} (plant : PlantData) (count : ℕ) (net mid end : NetData P) → count ≤ length plant.panels → WasRefused plant count net mid
-    → ComeBackFresh count count mid end → RefusesOpening plant net end
+    → ComeBackFresh plant count count mid end → RefusesOpening plant net end
 refused_all {P} plant count net mid end few refused came =
     let all = acceptor_openings plant.server 0 plant.panels in
-    let last = opening.Display plant.server.display ∷ [] in
+    let last = Display plant.server.display ∷ [] in
     let counted = openings_count plant.server 0 plant.panels in
     let front : take count all ≡ take count (all ++ last) = front_of all last count (omega (arith, few, counted)) in
     let out : net.acceptors.out + count - count ≡ net.acceptors.out = omega arith in
@@ -221,3 +223,65 @@ pub opened_whole : {P : Type 0} (plant : PlantData) (count : ℕ) (net mid next 
 opened_whole {P} plant count net mid next server server_is counted before is =
     is ∙ ap (λ (server : Server). with_port server mid) server_is ∙ ap (λ (mid : NetData P). with_port plant.server mid) before
     ∙ ap (λ (count : ℕ). with_port plant.server (opened_acceptors plant count net)) counted
+
+-- what stands in a list with one more behind it
+at_front : {X : Type 0} → (xs : List X) (x : X) (k : ℕ) (y : X) → slice_get xs k ≡ Some y → slice_get (xs ++ x ∷ []) k ≡ Some y
+at_front [] x k y at = absurd cc
+at_front (z ∷ xs) x zero y at = at
+at_front (z ∷ xs) x (suc k) y at = at_front xs x k y at
+
+at_last : {X : Type 0} → (xs : List X) (x : X) → slice_get (xs ++ x ∷ []) (length xs) ≡ Some x
+at_last [] x = refl
+at_last (z ∷ xs) x = at_last xs x
+
+-- the opening of the panel at a place
+pub opening_at : (server : Server) (from number : ℕ) (panels : List Panel) (other : Panel) → number < length panels
+    → slice_get (acceptor_openings server from panels) number ≡ Some (Acceptor (from + number) server.listen (slice_index_or panels number other).port server.sessions server.idle_ms)
+opening_at server from number [] other below = absurd (omega (arith, below))
+opening_at server from zero (panel ∷ panels) other below =
+    ap (λ (n : ℕ). Some (Acceptor n server.listen panel.port server.sessions server.idle_ms)) (omega arith)
+opening_at server from (suc number) (panel ∷ panels) other below =
+    let at : from + 1 + number ≡ from + suc number = omega arith in
+    opening_at server (from + 1) number panels other (omega (arith, below))
+    ∙ ap (λ (n : ℕ). Some (Acceptor n server.listen (slice_index_or panels number other).port server.sessions server.idle_ms)) at
+
+module _ {A : Type 0} (opening : A → Option Opening) (plant : PlantData) where
+  -- none is there yet
+  pub own_none : (acceptors : List A) → acceptors ≡ [] → AreOwn opening plant acceptors
+  own_none acceptors none = λ k acceptor at.
+      let Of : List A → Type 0 = λ acceptors. slice_get acceptors k ≡ Some acceptor in
+      let never : None ≡ Some acceptor = subst Of none at in
+      absurd cc
+
+  -- one more
+  pub own_push : (acceptors : List A) (acceptor : A) → AreOwn opening plant acceptors → opening acceptor ≡ slice_get (acceptor_openings plant.server 0 plant.panels) (length acceptors)
+      → AreOwn opening plant (acceptors ++ acceptor ∷ [])
+  own_push acceptors acceptor own is = λ k other at.
+      let all : List Opening = acceptor_openings plant.server 0 plant.panels in
+      elim (at_one_more acceptors acceptor other k at) [
+        | (inl before) ↦ own k other before
+        | (inr last) ↦ ap opening (sym last.1) ∙ is ∙ ap (λ (n : ℕ). slice_get all n) (sym last.0)
+      ]
+
+  -- the same by what was asked of the net for it
+  pub own_step : (server : Server) (panels : List Panel) (number told : ℕ) (other : Panel) (acceptors : List A) (acceptor : A) → server ≡ plant.server → panels ≡ plant.panels
+      → number < length panels → told ≡ number → length acceptors ≡ number
+      → opening acceptor ≡ Some (Acceptor told server.listen (slice_index_or panels number other).port server.sessions server.idle_ms)
+      → AreOwn opening plant acceptors → AreOwn opening plant (acceptors ++ acceptor ∷ [])
+  own_step server panels number told other acceptors acceptor server_is panels_are below told_is counted is own =
+      let all : List Opening = acceptor_openings plant.server 0 plant.panels in
+      let at : 0 + number ≡ told = omega (arith, told_is) in
+      own_push acceptors acceptor own
+      (is
+      ∙ ap (λ (server : Server). Some (Acceptor told server.listen (slice_index_or panels number other).port server.sessions server.idle_ms)) server_is
+      ∙ ap (λ (panels : List Panel). Some (Acceptor told plant.server.listen (slice_index_or panels number other).port plant.server.sessions plant.server.idle_ms)) panels_are
+      ∙ ap (λ (n : ℕ). Some (Acceptor n plant.server.listen (slice_index_or plant.panels number other).port plant.server.sessions plant.server.idle_ms)) (sym at)
+      ∙ sym (opening_at plant.server 0 number plant.panels other (subst (λ (panels : List Panel). number < length panels) panels_are below))
+      ∙ ap (λ (n : ℕ). slice_get all n) (sym counted))
+
+  -- the last one, and those before it
+  pub own_front : (acceptors : List A) (acceptor : A) → AreOwn opening plant (acceptors ++ acceptor ∷ []) → AreOwn opening plant acceptors
+  own_front acceptors acceptor own = λ k other at. own k other (at_front acceptors acceptor k other at)
+
+  pub own_last : (acceptors : List A) (acceptor : A) → AreOwn opening plant (acceptors ++ acceptor ∷ []) → opening acceptor ≡ slice_get (acceptor_openings plant.server 0 plant.panels) (length acceptors)
+  own_last acceptors acceptor own = own (length acceptors) acceptor (at_last acceptors acceptor)

@@ -1,10 +1,11 @@
 -- No further link of a panel is taken.
-use Rattle.std.proofs.Common.{◌≡◌, ◌≢◌, ℕ, ◌+◌, ◌||◌, Bool, true, false, cond, List, [], ◌∷◌, refl, sym, ap, ◌∙◌, subst, inl, inr, ◌⊎◌}
+use Rattle.std.proofs.Common.{◌≡◌, ◌≢◌, ℕ, ◌+◌, ◌||◌, Bool, true, false, cond, List, [], ◌∷◌, Option, refl, sym, ap, ◌∙◌, subst, inl, inr, ◌⊎◌}
 use Rattle.std.proofs.lemmas.Bool.{false≢true}
 use Rattle.ctl_io.specs.Custody.{Custody, lent, returned}
 use Rattle.ctl_io.specs.Faults.{count_after}
 use Rattle.ctl_net.specs.Acceptor.{LinkEnd, IsFresh, is_faulty_link}
 use Rattle.ctl_net.specs.Net.{AcceptorEnd, acceptor_end}
+use Rattle.ctl_net.specs.declared.opening.Opening.{Opening}
 use Rattle.plant_config.specs.Plant.{PlantData}
 use Rattle.panel_session.specs.declared.serve.SessionEnd.{SessionEnd}
 use Rattle.panel_session.specs.declared.serve.SessionEnd.TheVariants.{Ended, ReadFault, WriteFault, IdleOut, Spent}
@@ -26,25 +27,26 @@ none_not true x xs is such = absurd (false≢true (sym such))
 none_not false x xs is such = is
 
 -- what an acceptor shows is the same where each part of it is
-pub end_same : (panel : ℕ) {sessions sessions_then : ℕ} {links links_then : Custody LinkEnd} {next next_then back back_then : ℕ} → sessions_then ≡ sessions → links_then ≡ links → next_then ≡ next → back_then ≡ back
-    → acceptor_end panel sessions_then links_then next_then back_then ≡ acceptor_end panel sessions links next back
-end_same panel {sessions} {sessions_then} {links} {links_then} {next} {next_then} {back} {back_then} a b c d =
-    ap (λ (n : ℕ). acceptor_end panel n links_then next_then back_then) a
-    ∙ ap (λ (custody : Custody LinkEnd). acceptor_end panel sessions custody next_then back_then) b
-    ∙ ap (λ (n : ℕ). acceptor_end panel sessions links n back_then) c
-    ∙ ap (λ (n : ℕ). acceptor_end panel sessions links next n) d
+pub end_same : (panel : ℕ) {opening opening_then : Option Opening} {sessions sessions_then : ℕ} {links links_then : Custody LinkEnd} {next next_then back back_then : ℕ} → opening_then ≡ opening → sessions_then ≡ sessions → links_then ≡ links → next_then ≡ next → back_then ≡ back
+    → acceptor_end panel opening_then sessions_then links_then next_then back_then ≡ acceptor_end panel opening sessions links next back
+end_same panel {opening} {opening_then} {sessions} {sessions_then} {links} {links_then} {next} {next_then} {back} {back_then} o a b c d =
+    ap (λ (one : Option Opening). acceptor_end panel one sessions_then links_then next_then back_then) o
+    ∙ ap (λ (n : ℕ). acceptor_end panel opening n links_then next_then back_then) a
+    ∙ ap (λ (custody : Custody LinkEnd). acceptor_end panel opening sessions custody next_then back_then) b
+    ∙ ap (λ (n : ℕ). acceptor_end panel opening sessions links n back_then) c
+    ∙ ap (λ (n : ℕ). acceptor_end panel opening sessions links next n) d
 
 -- A link that was handed out was served and given back.
-pub handed : (link : LinkEnd) (q between r : AcceptorEnd) → between.panel ≡ q.panel → between.links ≡ lent q.links → between.next_faults ≡ q.next_faults → between.done_faults ≡ q.done_faults
+pub handed : (link : LinkEnd) (q between r : AcceptorEnd) → between.panel ≡ q.panel → between.opening ≡ q.opening → between.links ≡ lent q.links → between.next_faults ≡ q.next_faults → between.done_faults ≡ q.done_faults
     → r ≡ record between {
       links = returned link between.links;
       done_faults = count_after (is_faulty_link link.write_faults link.read_half) between.done_faults;
     } → handed_back link r.sessions q r
-handed link q between r panel links next back is =
+handed link q between r panel opening links next back is =
     let faulty : Bool = is_faulty_link link.write_faults link.read_half in
     is
-    ∙ ap (λ (n : ℕ). record { panel = n; sessions = between.sessions; links = returned link between.links; next_faults = between.next_faults; done_faults = count_after faulty between.done_faults }) panel
-    ∙ end_same q.panel refl (ap (λ (custody : Custody LinkEnd). returned link custody) links) next (ap (count_after faulty) back)
+    ∙ ap (λ (n : ℕ). record { panel = n; opening = between.opening; sessions = between.sessions; links = returned link between.links; next_faults = between.next_faults; done_faults = count_after faulty between.done_faults }) panel
+    ∙ end_same q.panel opening refl (ap (λ (custody : Custody LinkEnd). returned link custody) links) next (ap (count_after faulty) back)
     ∙ ap (λ (n : ℕ). record q { sessions = n; links = returned link (lent q.links); done_faults = count_after faulty q.done_faults }) (sym (ap (λ (acceptor : AcceptorEnd). acceptor.sessions) is))
 
 -- what became of such a link
@@ -149,26 +151,26 @@ module _ {plant : PlantData} {panel turns : ℕ} {done : PanelDone} {a b : Plant
       }
 
   link_more : (d : ServedLinks plant panel turns done a b p q s t) → that_ended is_last_end d.links ≡ [] → done.trace_failed ≡ false → done.refused ≡ false → (end : SessionEnd) (session : Session) (c : PlantSeat) (link : LinkEnd) (between r : AcceptorEnd) (u : TraceData)
-      (fresh : IsFresh link) (gives : GivesBack plant panel turns end session b c link between r t u) → between.panel ≡ q.panel → q.sessions ≡ between.sessions + 1 → between.links ≡ lent q.links → between.next_faults ≡ q.next_faults → between.done_faults ≡ q.done_faults
+      (fresh : IsFresh link) (gives : GivesBack plant panel turns end session b c link between r t u) → between.panel ≡ q.panel → between.opening ≡ q.opening → q.sessions ≡ between.sessions + 1 → between.links ≡ lent q.links → between.next_faults ≡ q.next_faults → between.done_faults ≡ q.done_faults
       → ServedMore d (the_link end session c link between r u fresh gives) r
-  link_more d none good asked end session c link between r u fresh gives here used links next back =
-      served_more d none good asked (the_link end session c link between r u fresh gives) refl refl r (used ∙ ap (λ (acceptor : AcceptorEnd). acceptor.sessions + 1) (sym gives.acceptor_is)) (handed gives.link_then q between r here links next back gives.acceptor_is)
+  link_more d none good asked end session c link between r u fresh gives here own used links next back =
+      served_more d none good asked (the_link end session c link between r u fresh gives) refl refl r (used ∙ ap (λ (acceptor : AcceptorEnd). acceptor.sessions + 1) (sym gives.acceptor_is)) (handed gives.link_then q between r here own links next back gives.acceptor_is)
 
   -- It is the last,
   pub served_last : (on : ServesOn plant panel turns done a b p q s t) → done.trace_failed ≡ false → done.refused ≡ false → (end : SessionEnd) (session : Session) (c : PlantSeat) (link : LinkEnd) (between r : AcceptorEnd) (u : TraceData)
-      → IsFresh link → GivesBack plant panel turns end session b c link between r t u → between.panel ≡ q.panel → q.sessions ≡ between.sessions + 1 → between.links ≡ lent q.links → between.next_faults ≡ q.next_faults → between.done_faults ≡ q.done_faults
+      → IsFresh link → GivesBack plant panel turns end session b c link between r t u → between.panel ≡ q.panel → between.opening ≡ q.opening → q.sessions ≡ between.sessions + 1 → between.links ≡ lent q.links → between.next_faults ≡ q.next_faults → between.done_faults ≡ q.done_faults
       → is_last_end end ≡ true → (full : Bool) → full ≡ is_full end → (now : PanelDone) → now ≡ with_session end done → ServedAll plant panel turns now full a c p r s u
-  served_last on good asked end session c link between r u fresh gives here used links next back last full same now is =
+  served_last on good asked end session c link between r u fresh gives here own used links next back last full same now is =
       let Done : PanelDone → Type 0 = λ now. ServedAll plant panel turns now full a c p r s u in
-      subst Done (sym is) (over_last on.served on.none_last good asked (the_link end session c link between r u fresh gives) r (link_more on.served on.none_last good asked end session c link between r u fresh gives here used links next back) last full same)
+      subst Done (sym is) (over_last on.served on.none_last good asked (the_link end session c link between r u fresh gives) r (link_more on.served on.none_last good asked end session c link between r u fresh gives here own used links next back) last full same)
 
   -- or a further one is taken behind it.
   pub served_on : (on : ServesOn plant panel turns done a b p q s t) → done.trace_failed ≡ false → done.refused ≡ false → (end : SessionEnd) (session : Session) (c : PlantSeat) (link : LinkEnd) (between r : AcceptorEnd) (u : TraceData)
-      → IsFresh link → GivesBack plant panel turns end session b c link between r t u → between.panel ≡ q.panel → q.sessions ≡ between.sessions + 1 → between.links ≡ lent q.links → between.next_faults ≡ q.next_faults → between.done_faults ≡ q.done_faults
+      → IsFresh link → GivesBack plant panel turns end session b c link between r t u → between.panel ≡ q.panel → between.opening ≡ q.opening → q.sessions ≡ between.sessions + 1 → between.links ≡ lent q.links → between.next_faults ≡ q.next_faults → between.done_faults ≡ q.done_faults
       → is_last_end end ≡ false → (now : PanelDone) → now ≡ with_session end done → ServesOn plant panel turns now a c p r s u
-  served_on on good asked end session c link between r u fresh gives here used links next back more now is =
+  served_on on good asked end session c link between r u fresh gives here own used links next back more now is =
       let one : LinkServed plant panel turns = the_link end session c link between r u fresh gives in
-      let grown = link_more on.served on.none_last good asked end session c link between r u fresh gives here used links next back in
+      let grown = link_more on.served on.none_last good asked end session c link between r u fresh gives here own used links next back in
       let Done : PanelDone → Type 0 = λ now. ServesOn plant panel turns now a c p r s u in
       let End = λ (one : LinkServed plant panel turns). is_last_end one.end in
       subst Done (sym is) (record {

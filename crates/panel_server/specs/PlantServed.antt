@@ -8,9 +8,9 @@ use mathlib.Core.List.{IsPrefix}
 use Rattle.ctl_io.specs.Custody.{Custody}
 use Rattle.ctl_io.specs.Faults.{Rose, count_after, is_faulty, one_more}
 use Rattle.ctl_io.specs.Sink.{appended}
-use Rattle.ctl_net.specs.Net.{AcceptorEnd, IsFreshAcceptor, IsFreshPort, ends_faulty}
+use Rattle.ctl_net.specs.Net.{AcceptorEnd, IsFreshAcceptor, IsFreshPort, PortEnd, ends_faulty, port_end}
 use Rattle.ctl_net.specs.declared.opening.Opening.{Opening}
-use Rattle.ctl_net.specs.declared.opening.Opening.TheVariants as opening
+use Rattle.ctl_net.specs.declared.opening.Opening.TheVariants.{Acceptor, Display}
 use Rattle.history_lock.specs.Calls.{HasOwn}
 use Rattle.history_lock.specs.Closing.{FullByTicket}
 use Rattle.history_lock.specs.History.{IsLegal}
@@ -38,12 +38,12 @@ use Rattle.panel_server.specs.PanelServed.{PanelServed, all_returned}
 pub record NetData (P : Type 0) : Type 0 where
   pub openings : Option (List Opening)
   pub acceptors : Custody AcceptorEnd
-  pub ports : Custody P
+  pub ports : Custody (PortEnd P)
   pub open_faults : ℕ
   pub close_faults : ℕ
 
 abbrev pub net_shows : {N P : Type 0} → (N → Option (List Opening)) → (N → Custody AcceptorEnd)
-    → (N → Custody P) → (N → ℕ) → (N → ℕ) → N → NetData P
+    → (N → Custody (PortEnd P)) → (N → ℕ) → (N → ℕ) → N → NetData P
 net_shows openings acceptors ports open_faults close_faults net = record {
   openings = openings net;
   acceptors = acceptors net;
@@ -56,13 +56,13 @@ net_shows openings acceptors ports open_faults close_faults net = record {
 abbrev pub acceptor_openings : Server → ℕ → List Panel → List Opening
 acceptor_openings server number [] = []
 acceptor_openings server number (panel ∷ later) =
-    opening.Acceptor number server.listen panel.port server.sessions server.idle_ms
+    Acceptor number server.listen panel.port server.sessions server.idle_ms
     ∷ acceptor_openings server (number + 1) later
 
 -- what is opened to serve a plant: the acceptors in the order of the panels, and then the port to its displays
 abbrev pub openings_of : PlantData → List Opening
 openings_of plant =
-    acceptor_openings plant.server 0 plant.panels ++ opening.Display plant.server.display ∷ []
+    acceptor_openings plant.server 0 plant.panels ++ Display plant.server.display ∷ []
 
 -- these openings were made behind the former ones, where they are shown
 abbrev pub opened_all : List Opening → Option (List Opening) → Option (List Opening)
@@ -82,7 +82,8 @@ pub record IsSeatIn (past : List PlantEntry) (seat : PlantSeat) : Type 0 where
   pub full : FullByTicket (length past) seat
 
 -- What the worker of one panel did in the history of this lock, from a new seat and a new acceptor of at most as many sessions
--- as the plant says: the acceptor and the trace that were handed back show it.
+-- as the plant says: the acceptor and the trace that were handed back show it. The acceptor is the panel's own: it was made by
+-- the opening that is listed for the panel, and that same one was given back, with the panel's number.
 pub record PanelRun (plant : PlantData) (lock : LockData State) (past : List PlantEntry)
     : Type 0 where
   pub panel : ℕ
@@ -95,22 +96,27 @@ pub record PanelRun (plant : PlantData) (lock : LockData State) (past : List Pla
   pub trace_then : TraceData
   pub new : IsFreshAcceptor acceptor.links acceptor.next_faults acceptor.done_faults
   pub most : acceptor.sessions ≤ plant.server.sessions
+  pub own : acceptor.opening ≡ slice_get (acceptor_openings plant.server 0 plant.panels) panel
+  pub kept : acceptor_then.opening ≡ acceptor.opening
   pub named : acceptor_then.panel ≡ panel
   pub served : PanelServed plant panel plant.server.turns done session_then
       (new_seat lock.id (start plant) panel) seat_then acceptor acceptor_then trace
       trace_then
   pub seat_in : IsSeatIn past seat_then
 
--- What the worker of the displays did in it, from the seat behind those of the panels and a new port.
+-- What the worker of the displays did in it, from the seat behind those of the panels and a new port, which shows the opening
+-- to the address of the plant's displays.
 pub record DisplayRun {P : Type 0} (WasSent : P → List (List ℕ) → Type 0) (faults : P → ℕ)
     (plant : PlantData) (lock : LockData State) (past : List PlantEntry) : Type 0 where
   pub end : DriverEnd
   pub seat_then : PlantSeat
+  pub opening : Option Opening
   pub port : P
   pub port_then : P
   pub trace : TraceData
   pub trace_then : TraceData
   pub new : IsFreshPort (WasSent port) (faults port)
+  pub own : opening ≡ Some (Display plant.server.display)
   pub driven : Driven WasSent faults plant end
       (new_seat lock.id (start plant) (length plant.panels)) seat_then port port_then trace
       trace_then
@@ -135,7 +141,8 @@ pub record PlantServed {P : Type 0} (WasSent : P → List (List ℕ) → Type 0)
   pub openings : net_then.openings ≡ opened_all (openings_of plant) net.openings
   pub acceptors : net_then.acceptors
       ≡ all_returned (map (λ run. run.acceptor_then) panels) net.acceptors
-  pub port : net_then.ports ≡ all_returned (displays.port_then ∷ []) net.ports
+  pub port : net_then.ports
+      ≡ all_returned (port_end displays.opening displays.port_then ∷ []) net.ports
   pub open_count : net_then.open_faults ≡ net.open_faults
   pub close_count : net_then.close_faults
       ≡ count_after (is_faulty (faults displays.port_then))
@@ -191,7 +198,7 @@ pub record AreCounted {P : Type 0} {WasSent : P → List (List ℕ) → Type 0} 
   pub failed_trace : done.failed_trace ≡ first_true 0 (trace_failures panels displays)
 
 -- An opening was refused: those before it were made, and the acceptors that they opened came back as they were, the last one
--- first.
+-- first, each with the number of its panel.
 pub record RefusesOpening {P : Type 0} (plant : PlantData) (net net_then : NetData P) : Type 0 where
   pub count : ℕ
   pub back : List AcceptorEnd
@@ -202,6 +209,7 @@ pub record RefusesOpening {P : Type 0} (plant : PlantData) (net net_then : NetDa
   pub fresh : (k : ℕ) (one : AcceptorEnd) → slice_get back k ≡ Some one
       → (one.panel + (k + 1) ≡ count)
       × IsFreshAcceptor one.links one.next_faults one.done_faults
+      × (one.opening ≡ slice_get (acceptor_openings plant.server 0 plant.panels) one.panel)
   pub ports : net_then.ports ≡ net.ports
   pub open_count : net_then.open_faults ≡ one_more net.open_faults
   pub close_count : net_then.close_faults ≡ net.close_faults

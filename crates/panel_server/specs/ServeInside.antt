@@ -3,8 +3,9 @@ use Rattle.std.specs.Prelude.{◌≡◌, ℕ, ◌+◌, ◌-◌, ◌*◌, ◌<◌
 use Rattle.ctl_io.specs.Custody.{Custody, SinkEnd, lent, returned}
 use Rattle.ctl_io.specs.Faults.{count_after, is_faulty, one_more}
 use Rattle.ctl_net.specs.Acceptor.{LinkEnd}
-use Rattle.ctl_net.specs.Net.{AcceptorEnd, IsFreshAcceptor, ends_faulty}
-use Rattle.ctl_net.specs.declared.opening.Opening.TheVariants as opening
+use Rattle.ctl_net.specs.Net.{AcceptorEnd, IsFreshAcceptor, PortEnd, ends_faulty}
+use Rattle.ctl_net.specs.declared.opening.Opening.{Opening}
+use Rattle.ctl_net.specs.declared.opening.Opening.TheVariants.{Acceptor, Display}
 use Rattle.history_lock.specs.Locks.{AreNew, IsLockOf}
 use Rattle.plant_config.specs.IsPlant.{IsPlant}
 use Rattle.plant_config.specs.Plant.{PlantData}
@@ -46,8 +47,7 @@ pub record HasPlaces {A P K : Type 0} (panels : ℕ) (lists : Lists A P K) : Typ
   pub seats : panels + 1 ≤ vec_capacity lists.seats
   pub traces : panels + 1 ≤ vec_capacity lists.traces
 
--- The lock was made with the start of the plant, and has a new seat for each panel and one for the displays. The sessions are
--- new, one for each panel.
+-- The lock has the start of the plant, and a new seat for each panel and one for the displays. Each panel has a new session.
 pub record IsRoomFor {A P K : Type 0} (plant : PlantData) (room : ServeRoom A P K) : Type 0 where
   pub is_plant : IsPlant plant
   pub lock : IsLockOf (start plant) (length plant.panels + 1) room.lock
@@ -71,7 +71,7 @@ lent_times count custody = record custody { out = custody.out + count }
 abbrev pub with_acceptor : {P : Type 0} → Server → ℕ → ℕ → NetData P → NetData P
 with_acceptor server number port net = record net {
   openings = opened_all
-      (opening.Acceptor number server.listen port server.sessions server.idle_ms ∷ []) net.openings;
+      (Acceptor number server.listen port server.sessions server.idle_ms ∷ []) net.openings;
   acceptors = lent net.acceptors;
 }
 
@@ -88,7 +88,7 @@ opened_acceptors plant count net = record net {
 -- the same once it then opened the port to the displays
 abbrev pub with_port : {P : Type 0} → Server → NetData P → NetData P
 with_port server net = record net {
-  openings = opened_all (opening.Display server.display ∷ []) net.openings;
+  openings = opened_all (Display server.display ∷ []) net.openings;
   ports = lent net.ports;
 }
 
@@ -99,10 +99,10 @@ with_closed end net = record net {
   close_faults = count_after (ends_faulty end.next_faults end.done_faults) net.close_faults;
 }
 
-abbrev pub with_closed_port : {P : Type 0} → (P → ℕ) → P → NetData P → NetData P
+abbrev pub with_closed_port : {P : Type 0} → (P → ℕ) → PortEnd P → NetData P → NetData P
 with_closed_port faults port net = record net {
   ports = returned port net.ports;
-  close_faults = count_after (is_faulty (faults port)) net.close_faults;
+  close_faults = count_after (is_faulty (faults port.port)) net.close_faults;
 }
 
 -- So many acceptors were opened, and the next opening was refused.
@@ -115,10 +115,15 @@ pub record IsFreshFor {A : Type 0} (sessions : A → ℕ) (links : A → Custody
   pub fresh : IsFreshAcceptor (links acceptor) (next_faults acceptor) (done_faults acceptor)
   pub most : sessions acceptor ≤ server.sessions
 
+-- The acceptors are those of the first panels, in their order: each was made by the opening that is listed for its panel.
+abbrev pub AreOwn : {A : Type 0} → (A → Option Opening) → PlantData → List A → Type 0
+AreOwn {A} opening plant acceptors = (k : ℕ) (acceptor : A) → slice_get acceptors k ≡ Some acceptor
+    → opening acceptor ≡ slice_get (acceptor_openings plant.server 0 plant.panels) k
+
 -- It is room for a plant whose acceptors were opened.
-pub record IsOpenedFor {A P K : Type 0} (sessions : A → ℕ) (links : A → Custody LinkEnd)
-    (next_faults done_faults : A → ℕ) (plant : PlantData) (room : ServeRoom A P K)
-    : Type 0 where
+pub record IsOpenedFor {A P K : Type 0} (opening : A → Option Opening) (sessions : A → ℕ)
+    (links : A → Custody LinkEnd) (next_faults done_faults : A → ℕ) (plant : PlantData)
+    (room : ServeRoom A P K) : Type 0 where
   pub is_plant : IsPlant plant
   pub lock : IsLockOf (start plant) (length plant.panels + 1) room.lock
   pub seats : AreNew room.lock.id (start plant) (length plant.panels + 1) room.seats.items
@@ -128,6 +133,7 @@ pub record IsOpenedFor {A P K : Type 0} (sessions : A → ℕ) (links : A → Cu
   pub acceptors : All (IsFreshFor sessions links next_faults done_faults plant.server)
       room.lists.acceptors.items
   pub acceptor_count : length room.lists.acceptors.items ≡ length plant.panels
+  pub own : AreOwn opening plant room.lists.acceptors.items
   pub no_workers : room.lists.workers.items ≡ []
   pub no_seats : room.lists.seats.items ≡ []
   pub no_traces : room.lists.traces.items ≡ []
@@ -136,23 +142,25 @@ pub record IsOpenedFor {A P K : Type 0} (sessions : A → ℕ) (links : A → Cu
   pub traces : length plant.panels + 1 ≤ vec_capacity room.lists.traces
 
 -- Of the acceptors of the panels below a count, so many came back as they were, the last one first.
-pub record ComeBackFresh {P : Type 0} (count some : ℕ) (net net_then : NetData P) : Type 0 where
+pub record ComeBackFresh {P : Type 0} (plant : PlantData) (count some : ℕ)
+    (net net_then : NetData P) : Type 0 where
   pub back : List AcceptorEnd
   pub counted : length back ≡ some
   pub each : (k : ℕ) (one : AcceptorEnd) → slice_get back k ≡ Some one
       → (one.panel + (k + 1) ≡ count)
       × IsFreshAcceptor one.links one.next_faults one.done_faults
+      × (one.opening ≡ slice_get (acceptor_openings plant.server 0 plant.panels) one.panel)
   pub net_is : net_then ≡ record net {
     acceptors = record (all_returned back net.acceptors) { out = net.acceptors.out - some };
   }
 
 -- what acceptors show, of which the first is of the panel of this number
-abbrev pub ends_from : {A : Type 0} → (A → ℕ) → (A → Custody LinkEnd) → (A → ℕ) → (A → ℕ) → ℕ
-    → List A → List AcceptorEnd
-ends_from sessions links next_faults done_faults number [] = []
-ends_from sessions links next_faults done_faults number (acceptor ∷ later) =
-    acceptor_shows number sessions links next_faults done_faults acceptor
-    ∷ ends_from sessions links next_faults done_faults (number + 1) later
+abbrev pub ends_from : {A : Type 0} → (A → Option Opening) → (A → ℕ) → (A → Custody LinkEnd)
+    → (A → ℕ) → (A → ℕ) → ℕ → List A → List AcceptorEnd
+ends_from opening sessions links next_faults done_faults number [] = []
+ends_from opening sessions links next_faults done_faults number (acceptor ∷ later) =
+    acceptor_shows number opening sessions links next_faults done_faults acceptor
+    ∷ ends_from opening sessions links next_faults done_faults (number + 1) later
 
 -- what a worker of a panel has done that did nothing yet
 abbrev pub nothing_done : PanelDone
@@ -167,7 +175,7 @@ nothing_done = record {
 -- the workers of the panels from this number on, each with the next session, seat, acceptor and trace, and last that of the
 -- displays with the last seat and trace and the port
 abbrev pub crew : {P : Type 0} → ℕ → List Session → List PlantSeat → List AcceptorEnd
-    → List SinkEnd → P → List (WorkerData P)
+    → List SinkEnd → PortEnd P → List (WorkerData P)
 crew number (session ∷ sessions) (seat ∷ seats) (acceptor ∷ acceptors) (trace ∷ traces) port =
     of_panel (record {
       number = number;

@@ -2,7 +2,8 @@
 use Rattle.std.specs.Prelude.{◌≡◌, ℕ, List, Option}
 use Rattle.ctl_io.specs.Custody.{Custody, SinkEnd}
 use Rattle.ctl_net.specs.Acceptor.{LinkEnd}
-use Rattle.ctl_net.specs.Net.{AcceptorEnd, TakesAll}
+use Rattle.ctl_net.specs.Net.{AcceptorEnd, PortEnd, TakesAll, port_end}
+use Rattle.ctl_net.specs.declared.opening.Opening.{Opening}
 use Rattle.history_lock.specs.Locks.{LockData}
 use Rattle.plant_config.specs.Plant.{PlantData}
 use Rattle.plant_core.specs.State.{State}
@@ -30,7 +31,7 @@ pub record PanelData : Type 0 where
 -- what the worker of the displays has, and why it ended
 pub record DisplayData (P : Type 0) : Type 0 where
   pub seat : PlantSeat
-  pub port : P
+  pub port : PortEnd P
   pub trace : SinkEnd
   pub end : DriverEnd
 
@@ -49,21 +50,25 @@ abbrev pub trace_of : SinkEnd → TraceData
 trace_of sink = record { written = sink.written; faults = sink.faults }
 
 -- what a worker has, as it is shown
-abbrev pub worker_shows : {A P K : Type 0} → (A → ℕ) → (A → Custody LinkEnd) → (A → ℕ) → (A → ℕ)
+abbrev pub worker_shows : {A P K : Type 0} → (A → Option Opening) → (A → ℕ)
+    → (A → Custody LinkEnd) → (A → ℕ) → (A → ℕ) → (P → Option Opening)
     → (K → Option (List ℕ)) → (K → Option (List ℕ)) → (K → ℕ) → Worker A P K → WorkerData P
-worker_shows sessions links next_faults done_faults name written faults (Panel panel) =
+worker_shows opening sessions links next_faults done_faults port_opening name written faults
+    (Panel panel) =
     of_panel (record {
       number = panel.number;
       session = panel.session;
       seat = panel.seat;
-      acceptor = acceptor_shows panel.number sessions links next_faults done_faults panel.acceptor;
+      acceptor = acceptor_shows panel.number opening sessions links next_faults done_faults
+          panel.acceptor;
       trace = sink_shows name written faults panel.trace;
       done = panel.done;
     })
-worker_shows sessions links next_faults done_faults name written faults (Displays displays) =
+worker_shows opening sessions links next_faults done_faults port_opening name written faults
+    (Displays displays) =
     of_displays (record {
       seat = displays.seat;
-      port = displays.port;
+      port = port_end (port_opening displays.port) displays.port;
       trace = sink_shows name written faults displays.trace;
       end = displays.end;
     })
@@ -88,6 +93,7 @@ MayWork takes plant lock (of_displays displays) =
 pub record HasServedPanel (plant : PlantData) (before now : PanelData) : Type 0 where
   pub number : now.number ≡ before.number
   pub named : now.acceptor.panel ≡ now.number
+  pub kept : now.acceptor.opening ≡ before.acceptor.opening
   pub name : now.trace.name ≡ before.trace.name
   pub served : StandsFor plant before.number before.session nothing_yet
       → PanelServed plant before.number plant.server.turns now.done now.session before.seat
@@ -97,7 +103,9 @@ pub record HasServedPanel (plant : PlantData) (before now : PanelData) : Type 0 
 pub record HasDriven {P : Type 0} (WasSent : P → List (List ℕ) → Type 0) (faults : P → ℕ)
     (plant : PlantData) (before now : DisplayData P) : Type 0 where
   pub name : now.trace.name ≡ before.trace.name
-  pub driven : Driven WasSent faults plant now.end before.seat now.seat before.port now.port
+  pub kept : now.port.opening ≡ before.port.opening
+  pub driven : Driven WasSent faults plant now.end before.seat now.seat before.port.port
+      now.port.port
       (trace_of before.trace) (trace_of now.trace)
 
 -- What a worker has done.

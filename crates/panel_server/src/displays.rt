@@ -54,6 +54,7 @@ pub fn drive_displays<W: Wait, P: DisplayPort, K: Sink>(
     ensures driven { Driven P.was_sent P.faults plant.now result seat.old seat.new port.old
         port.new (trace_shows K.written K.faults trace.old)
         (trace_shows K.written K.faults trace.new) }
+    ensures opening { P.opening port.new ≡ P.opening port.old }
     ensures trace_name { K.name trace.new ≡ K.name trace.old }
 {
     match PollRoom::new(alloc, plant) {
@@ -78,6 +79,7 @@ fn drive<W: Wait, P: DisplayPort, K: Sink>(
     ensures driven { Driven P.was_sent P.faults plant.now result seat.old seat.new port.old
         port.new (trace_shows K.written K.faults trace.old)
         (trace_shows K.written K.faults trace.new) }
+    ensures opening { P.opening port.new ≡ P.opening port.old }
     ensures trace_name { K.name trace.new ≡ K.name trace.old }
 {
     let screens = plant.screens();
@@ -129,6 +131,7 @@ fn has_refresh(every: u64, round: u64) -> bool
 fn pause_unless<P: DisplayPort>(lit: bool, port: &mut P)
     ensures packets { (packets : List (List ℕ)) → P.was_sent port.old packets
         → P.was_sent port.new packets }
+    ensures opening { P.opening port.new ≡ P.opening port.old }
     ensures count { P.faults port.new ≡ P.faults port.old }
 {
     if !lit {

@@ -3,10 +3,13 @@
 ghost use Rattle.std.specs.Prelude.{◌≡◌, ◌^◌, ◌<◌, ◌≤◌, All, [], length, vec_capacity};
 ghost use Rattle.std.specs.Prelude.{IfSome, IfNone, OnSome};
 ghost use Rattle.std.specs.Bool.{OnFalse, OnTrue};
-ghost use Rattle.ctl_net.specs.Net.{IsFreshAcceptor, IsFreshPort, TakesAll};
+ghost use Rattle.ctl_net.specs.Net.{IsFreshAcceptor, IsFreshPort, TakesAll, port_end};
+ghost use Rattle.ctl_net.specs.declared.opening.Opening.{Opening};
+ghost use Rattle.plant_config.specs.Plant.{PlantData};
 ghost use Rattle.panel_server.specs.PanelServed.{acceptor_shows};
 ghost use Rattle.panel_server.specs.PlantServed.{RefusesOpening, net_shows};
-ghost use Rattle.panel_server.specs.ServeInside.{ComeBackFresh, IsFreshFor, WasRefused};
+ghost use Rattle.panel_server.specs.ServeInside.{AreOwn, ComeBackFresh, IsFreshFor};
+ghost use Rattle.panel_server.specs.ServeInside.{WasRefused};
 ghost use Rattle.panel_server.specs.ServeInside.{opened_acceptors, with_acceptor, with_port};
 ghost use Rattle.panel_server.specs.ServeInside.{with_closed, with_closed_port, with_refusal};
 
@@ -30,7 +33,10 @@ pub(crate) fn open_all<N: Net>(
     ensures count { OnSome result (length acceptors.new.items ≡ length plant.now.panels) }
     ensures fresh { OnSome result (All (IsFreshFor N.A.sessions N.A.links N.A.next_faults
         N.A.done_faults plant.now.server) acceptors.new.items) }
+    ensures own { OnSome result (AreOwn N.A.opening plant.now acceptors.new.items) }
     ensures new { IfSome result (λ port. IsFreshPort (N.P.was_sent port) (N.P.faults port)) }
+    ensures port { IfSome result (λ port.
+        N.P.opening port ≡ Some (Opening.Display plant.now.server.display)) }
     ensures takes { OnSome result (TakesAll N.P.takes) }
     ensures refused { IfNone result (RefusesOpening plant.now
         (net_shows N.openings N.acceptors N.ports N.open_faults N.close_faults net.old)
@@ -66,6 +72,7 @@ fn open_acceptors<N: Net>(net: &mut N, plant: &Plant, acceptors: &mut Vec<N::A>)
     ensures few { length acceptors.new.items < 2 ^ 32 }
     ensures fresh { All (IsFreshFor N.A.sessions N.A.links N.A.next_faults N.A.done_faults
         plant.now.server) acceptors.new.items }
+    ensures own { AreOwn N.A.opening plant.now acceptors.new.items }
 {
     let server = plant.server();
     for (number, panel) in plant.panels().iter().enumerate() {
@@ -90,6 +97,8 @@ fn open_acceptor<N: Net>(net: &mut N, server: &Server, number: u32, port: u16) -
         (net_shows N.openings N.acceptors N.ports N.open_faults N.close_faults net.old)) }
     ensures fresh { IfSome result (IsFreshFor N.A.sessions N.A.links N.A.next_faults
         N.A.done_faults server.now) }
+    ensures own { IfSome result (λ acceptor. N.A.opening acceptor ≡ Some (Opening.Acceptor
+        number server.now.listen port server.now.sessions server.now.idle_ms)) }
 {
     let address = server.listen.as_str();
     net.acceptor(number, address, port, server.sessions, server.idle_ms)
@@ -107,6 +116,8 @@ fn open_port<N: Net>(net: &mut N, server: &Server) -> Option<N::P>
         ≡ with_refusal
         (net_shows N.openings N.acceptors N.ports N.open_faults N.close_faults net.old)) }
     ensures new { IfSome result (λ port. IsFreshPort (N.P.was_sent port) (N.P.faults port)) }
+    ensures own { IfSome result (λ port.
+        N.P.opening port ≡ Some (Opening.Display server.now.display)) }
     ensures takes { TakesAll N.P.takes }
 {
     net.port(server.display.as_str())
@@ -116,7 +127,7 @@ fn open_port<N: Net>(net: &mut N, server: &Server) -> Option<N::P>
 pub(crate) fn close_acceptor<N: Net>(net: &mut N, number: u32, acceptor: N::A)
     requires { 0 < (N.acceptors net.old).out }
     ensures { net_shows N.openings N.acceptors N.ports N.open_faults N.close_faults net.new
-        ≡ with_closed (acceptor_shows number N.A.sessions N.A.links N.A.next_faults
+        ≡ with_closed (acceptor_shows number N.A.opening N.A.sessions N.A.links N.A.next_faults
         N.A.done_faults acceptor)
         (net_shows N.openings N.acceptors N.ports N.open_faults N.close_faults net.old) }
 {
@@ -127,20 +138,21 @@ pub(crate) fn close_acceptor<N: Net>(net: &mut N, number: u32, acceptor: N::A)
 pub(crate) fn close_port<N: Net>(net: &mut N, port: N::P)
     requires { 0 < (N.ports net.old).out }
     ensures { net_shows N.openings N.acceptors N.ports N.open_faults N.close_faults net.new
-        ≡ with_closed_port N.P.faults port
+        ≡ with_closed_port N.P.faults (port_end (N.P.opening port) port)
         (net_shows N.openings N.acceptors N.ports N.open_faults N.close_faults net.old) }
 {
     net.close_port(port);
 }
 
-// Gives acceptors back that nothing was asked of, the last one first.
+// Gives acceptors back that nothing was asked of, the last one first. They are those of the first panels.
 fn close_acceptors<N: Net>(net: &mut N, acceptors: &mut Vec<N::A>)
     requires out { length acceptors.old.items ≤ (N.acceptors net.old).out }
     requires few { length acceptors.old.items < 2 ^ 32 }
     requires fresh { All (λ acceptor. IsFreshAcceptor (N.A.links acceptor)
         (N.A.next_faults acceptor) (N.A.done_faults acceptor)) acceptors.old.items }
     ensures emptied { acceptors.new.items ≡ [] }
-    ensures back { ComeBackFresh (length acceptors.old.items) (length acceptors.old.items)
+    ensures back { (plant : PlantData) → AreOwn N.A.opening plant acceptors.old.items
+        → ComeBackFresh plant (length acceptors.old.items) (length acceptors.old.items)
         (net_shows N.openings N.acceptors N.ports N.open_faults N.close_faults net.old)
         (net_shows N.openings N.acceptors N.ports N.open_faults N.close_faults net.new) }
 {

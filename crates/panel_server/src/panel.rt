@@ -73,10 +73,11 @@ pub fn serve_panel<W: Wait, A: Acceptor, G: Gate, K: Sink>(
     ensures served { (plant : PlantData) (panel : ℕ)
         → StandsFor plant panel session.old nothing_yet
         → PanelServed plant panel turns result session.new seat.old seat.new
-        (acceptor_shows panel A.sessions A.links A.next_faults A.done_faults acceptor.old)
-        (acceptor_shows panel A.sessions A.links A.next_faults A.done_faults acceptor.new)
+        (acceptor_shows panel A.opening A.sessions A.links A.next_faults A.done_faults acceptor.old)
+        (acceptor_shows panel A.opening A.sessions A.links A.next_faults A.done_faults acceptor.new)
         (trace_shows K.written K.faults trace.old)
         (trace_shows K.written K.faults trace.new) }
+    ensures opening { A.opening acceptor.new ≡ A.opening acceptor.old }
     ensures trace_name { K.name trace.new ≡ K.name trace.old }
 {
     let (mut done, full) = serve_links(rt, session, lock, seat, acceptor, gate, trace, turns);
@@ -107,13 +108,14 @@ fn serve_links<W: Wait, A: Acceptor, G: Gate, K: Sink>(
     requires turns { turns ≤ 2 ^ 40 }
     ensures served { (plant : PlantData) (panel : ℕ) → MayBegin plant panel session.old
         → ServedAll plant panel turns result.0 result.1 seat.old seat.new
-        (acceptor_shows panel A.sessions A.links A.next_faults A.done_faults acceptor.old)
-        (acceptor_shows panel A.sessions A.links A.next_faults A.done_faults acceptor.new)
+        (acceptor_shows panel A.opening A.sessions A.links A.next_faults A.done_faults acceptor.old)
+        (acceptor_shows panel A.opening A.sessions A.links A.next_faults A.done_faults acceptor.new)
         (trace_shows K.written K.faults trace.old)
         (trace_shows K.written K.faults trace.new) }
     ensures begins { (plant : PlantData) (panel : ℕ) → MayBegin plant panel session.old
         → MayBegin plant panel session.new }
     ensures may { MayServeOn session.new lock.now seat.new }
+    ensures opening { A.opening acceptor.new ≡ A.opening acceptor.old }
     ensures trace_name { K.name trace.new ≡ K.name trace.old }
 {
     let mut done = PanelDone {
@@ -164,14 +166,15 @@ fn serve_link<W: Wait, A: Acceptor, G: Gate, K: Sink>(
     ensures gives_back { (plant : PlantData) (panel : ℕ) → MayBegin plant panel session.old
         → GivesBack plant panel turns result session.new seat.old seat.new
         (link_end (A.L.written link) (A.L.faults link) (A.L.read_half link))
-        (acceptor_shows panel A.sessions A.links A.next_faults A.done_faults acceptor.old)
-        (acceptor_shows panel A.sessions A.links A.next_faults A.done_faults acceptor.new)
+        (acceptor_shows panel A.opening A.sessions A.links A.next_faults A.done_faults acceptor.old)
+        (acceptor_shows panel A.opening A.sessions A.links A.next_faults A.done_faults acceptor.new)
         (trace_shows K.written K.faults trace.old)
         (trace_shows K.written K.faults trace.new) }
     ensures begins { (plant : PlantData) (panel : ℕ) → MayBegin plant panel session.old
         → MayBegin plant panel session.new }
     ensures may { MayServeOn session.new lock.now seat.new }
     ensures sessions { A.sessions acceptor.new ≡ A.sessions acceptor.old }
+    ensures opening { A.opening acceptor.new ≡ A.opening acceptor.old }
     ensures trace_name { K.name trace.new ≡ K.name trace.old }
 {
     let mut link = link;

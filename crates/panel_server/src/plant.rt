@@ -2,6 +2,7 @@
 
 ghost use Rattle.std.specs.Prelude.{◌≡◌, ◌+◌, ◌<◌, ◌≤◌, length, map};
 ghost use Rattle.ctl_net.specs.Net.{IsFreshPort, TakesAll};
+ghost use Rattle.ctl_net.specs.declared.opening.Opening.{Opening};
 ghost use Rattle.panel_session.specs.Served.{trace_shows};
 ghost use Rattle.panel_server.specs.PlantServed.{NetData, ServedSo, net_shows};
 ghost use Rattle.panel_server.specs.ServeInside.{IsOpenedFor, opened_acceptors, with_port};
@@ -96,9 +97,10 @@ fn serve_opened<W: Wait + Threads + Sync, N: Net, G: Gate, K: Sink>(
     traces: Vec<K>,
 ) -> (Vec<K>, Result<PlantDone, ServeFault>)
     requires traces { length traces.items ≡ length plant.now.panels + 1 }
-    requires opened { IsOpenedFor N.A.sessions N.A.links N.A.next_faults N.A.done_faults plant.now
-        room }
+    requires opened { IsOpenedFor N.A.opening N.A.sessions N.A.links N.A.next_faults N.A.done_faults
+        plant.now room }
     requires port { IsFreshPort (N.P.was_sent port) (N.P.faults port) × TakesAll N.P.takes }
+    requires own { N.P.opening port ≡ Some (Opening.Display plant.now.server.display) }
     requires out { (length plant.now.panels ≤ (N.acceptors net.old).out)
         × (0 < (N.ports net.old).out) }
     ensures served { (before : NetData N.P)

@@ -100,6 +100,7 @@ pub(crate) fn poll_screen<W: Wait, P: DisplayPort, K: Sink>(
     ensures ends { IfErr result (λ end. EndsPolling end plant.now (DisplayPoll screen refresh)
         seat.old seat.new (K.written trace.old) (K.written trace.new)) }
     ensures unsent { OnErr result (port.new ≡ port.old) }
+    ensures opening { P.opening port.new ≡ P.opening port.old }
     ensures cause { IfErr result (λ end.
         K.faults trace.new ≡ count_after (ends_by_trace end) (K.faults trace.old)) }
     ensures room { HasRoomFor plant.now room.new }
@@ -168,6 +169,7 @@ fn tell<P: DisplayPort>(
     ensures told { (seat : ℕ) (refresh : Bool)
         → TellsLamps P.was_sent P.faults plant.now (polled_by seat screen refresh answers.now)
         result port.old port.new }
+    ensures opening { P.opening port.new ≡ P.opening port.old }
     ensures room { vec_capacity packet.new ≡ vec_capacity packet.old }
 {
     match answers {

@@ -11,7 +11,7 @@ use crate::panel::PanelDone;
 use crate::plant::{PlantDone, ServeFault};
 use crate::worker::Worker;
 use ctl_io::Sink;
-use ctl_net::Acceptor;
+use ctl_net::{Acceptor, DisplayPort};
 use history_lock::Closed;
 use plant_core::PlantState;
 
@@ -32,13 +32,17 @@ impl Sums {
     ghost use Rattle.panel_server.specs.ServeInside.{with_worker};
 
     // Adds what a worker has done, whose trace stands at this place.
-    fn add_worker<A: Acceptor, P, K: Sink>(&mut self, place: u32, worker: &Worker<'_, A, P, K>)
+    fn add_worker<A: Acceptor, P: DisplayPort, K: Sink>(
+        &mut self,
+        place: u32,
+        worker: &Worker<'_, A, P, K>,
+    )
         requires place { place < 2 ^ 16 }
         requires few { AreFew place self.old }
-        requires done { CountsFew (worker_shows A.sessions A.links A.next_faults A.done_faults
-            K.name K.written K.faults worker.now) }
-        ensures { self.new ≡ with_worker place (worker_shows A.sessions A.links A.next_faults
-            A.done_faults K.name K.written K.faults worker.now) self.old }
+        requires done { CountsFew (worker_shows A.opening A.sessions A.links A.next_faults
+            A.done_faults P.opening K.name K.written K.faults worker.now) }
+        ensures { self.new ≡ with_worker place (worker_shows A.opening A.sessions A.links
+            A.next_faults A.done_faults P.opening K.name K.written K.faults worker.now) self.old }
     {
         match worker {
             Worker::Panel(panel) => self.add_panel(place, &panel.done),
@@ -114,12 +118,12 @@ impl Sums {
 }
 
 // Adds up what all workers have done.
-pub(crate) fn add_up<A: Acceptor, P, K: Sink>(workers: &[Worker<'_, A, P, K>]) -> Sums
+pub(crate) fn add_up<A: Acceptor, P: DisplayPort, K: Sink>(workers: &[Worker<'_, A, P, K>]) -> Sums
     requires few { length workers.now ≤ 2 ^ 16 }
-    requires done { All (λ worker. CountsFew (worker_shows A.sessions A.links A.next_faults
-        A.done_faults K.name K.written K.faults worker)) workers.now }
-    ensures sums { result ≡ sums_from 0 (map (worker_shows A.sessions A.links A.next_faults
-        A.done_faults K.name K.written K.faults) workers.now) no_sums }
+    requires done { All (λ worker. CountsFew (worker_shows A.opening A.sessions A.links
+        A.next_faults A.done_faults P.opening K.name K.written K.faults worker)) workers.now }
+    ensures sums { result ≡ sums_from 0 (map (worker_shows A.opening A.sessions A.links
+        A.next_faults A.done_faults P.opening K.name K.written K.faults) workers.now) no_sums }
     ensures few { AreFew (length workers.now) result }
 {
     let mut sums = Sums {

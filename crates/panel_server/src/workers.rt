@@ -3,6 +3,7 @@
 ghost use Rattle.std.specs.Prelude.{◌≡◌, ◌+◌, ◌^◌, ◌<◌, ◌≤◌, ◌∷◌, ℕ, All, [], length, map};
 ghost use Rattle.std.specs.Prelude.{slice_index_or, vec_capacity};
 ghost use Rattle.std.specs.Vec.Iter.{into_iter_items, into_iter_len};
+ghost use Rattle.ctl_net.specs.Net.{port_end};
 ghost use Rattle.panel_server.specs.ServeInside.{crew, ends_from};
 ghost use Rattle.panel_server.specs.Workers.{HasDoneWork, MayWork, sink_shows, worker_shows};
 
@@ -35,10 +36,11 @@ pub(crate) fn man<'p, A: Acceptor, P: DisplayPort, K: Sink>(
     requires sessions { length sessions.items ≡ length acceptors.items }
     requires seats { length seats.items ≡ length acceptors.items + 1 }
     requires traces { length traces.items ≡ length acceptors.items + 1 }
-    ensures { map (worker_shows A.sessions A.links A.next_faults A.done_faults K.name K.written
-        K.faults) result.items ≡ crew 0 sessions.entry.items seats.items
-        (ends_from A.sessions A.links A.next_faults A.done_faults 0 acceptors.items)
-        (map (sink_shows K.name K.written K.faults) traces.items) port }
+    ensures { map (worker_shows A.opening A.sessions A.links A.next_faults A.done_faults P.opening
+        K.name K.written K.faults) result.items ≡ crew 0 sessions.entry.items seats.items
+        (ends_from A.opening A.sessions A.links A.next_faults A.done_faults 0 acceptors.items)
+        (map (sink_shows K.name K.written K.faults) traces.items)
+        (port_end (P.opening port) port) }
 {
     let mut workers = workers;
     let mut sessions = sessions.into_iter();
@@ -103,15 +105,15 @@ pub(crate) fn all_work<W: Wait + Threads + Sync, A: Acceptor, P: DisplayPort, G:
 )
     requires some { 0 < length workers.old }
     requires may { All (λ worker. MayWork P.takes plant.now lock.now
-        (worker_shows A.sessions A.links A.next_faults A.done_faults K.name K.written K.faults
-        worker)) workers.old }
+        (worker_shows A.opening A.sessions A.links A.next_faults A.done_faults P.opening K.name
+        K.written K.faults worker)) workers.old }
     ensures length { length workers.new ≡ length workers.old }
     ensures worked { (k : ℕ) (other : _) → k < length workers.old
         → HasDoneWork P.was_sent P.faults plant.now
-        (worker_shows A.sessions A.links A.next_faults A.done_faults K.name K.written K.faults
-        (slice_index_or workers.old k other))
-        (worker_shows A.sessions A.links A.next_faults A.done_faults K.name K.written K.faults
-        (slice_index_or workers.new k other)) }
+        (worker_shows A.opening A.sessions A.links A.next_faults A.done_faults P.opening K.name
+        K.written K.faults (slice_index_or workers.old k other))
+        (worker_shows A.opening A.sessions A.links A.next_faults A.done_faults P.opening K.name
+        K.written K.faults (slice_index_or workers.new k other)) }
 {
     let threads = workers.len();
     for_each_mut(
@@ -120,13 +122,13 @@ pub(crate) fn all_work<W: Wait + Threads + Sync, A: Acceptor, P: DisplayPort, G:
         threads,
         &|_, worker: &mut Worker<'_, A, P, K>|
             requires { MayWork P.takes plant.now lock.now
-                (worker_shows A.sessions A.links A.next_faults A.done_faults K.name K.written
-                K.faults worker.now) }
+                (worker_shows A.opening A.sessions A.links A.next_faults A.done_faults P.opening
+                K.name K.written K.faults worker.now) }
             ensures { HasDoneWork P.was_sent P.faults plant.entry.now
-                (worker_shows A.sessions A.links A.next_faults A.done_faults K.name K.written
-                K.faults worker.entry.now)
-                (worker_shows A.sessions A.links A.next_faults A.done_faults K.name K.written
-                K.faults worker.exit.now) }
+                (worker_shows A.opening A.sessions A.links A.next_faults A.done_faults P.opening
+                K.name K.written K.faults worker.entry.now)
+                (worker_shows A.opening A.sessions A.links A.next_faults A.done_faults P.opening
+                K.name K.written K.faults worker.exit.now) }
         { work(rt, alloc, plant, lock, gate, worker) },
     );
 }

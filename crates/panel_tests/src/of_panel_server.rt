@@ -3,6 +3,7 @@
 mod panels;
 mod plants;
 mod stadium;
+mod wires;
 
 use crate::examples::of_panel_server::{LINES, TOWER, driven};
 use crate::in_memory::Call::{Line, Send};

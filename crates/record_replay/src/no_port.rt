@@ -7,6 +7,11 @@ use ctl_net::{DisplayPort, Sent};
 pub(crate) struct NoPort;
 
 impl DisplayPort for NoPort {
+    ghost use Rattle.std.specs.Prelude.{None};
+
+    // No net opened it.
+    ghost opening = { λ _. None };
+
     ghost takes = { λ _. Unit {0} };
 
     // It shows no packets.

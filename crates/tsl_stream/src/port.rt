@@ -84,9 +84,13 @@ impl<K> StreamPort<K> {
 }
 
 impl<K: Sink> DisplayPort for StreamPort<K> {
+    ghost use Rattle.std.specs.Prelude.{None};
     ghost use Rattle.ctl_io.specs.Faults.{count_after};
     ghost use Rattle.ctl_net.specs.Port.{send_failed, sent_after};
     ghost use Rattle.tsl_stream.specs.Port.{sink_of, HasSent};
+
+    // No net opened it.
+    ghost opening = { λ _. None };
 
     ghost takes = { IsPacketText };
 

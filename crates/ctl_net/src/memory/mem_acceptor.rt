@@ -4,10 +4,10 @@ ghost use Rattle.std.specs.Prelude.{◌≡◌, ◌^◌, ◌<◌, ◌≤◌, IfOk
 ghost use Rattle.ctl_net.specs.Acceptor.{IfOne};
 ghost use Rattle.ctl_net.specs.MemLink.{IsNewLink};
 ghost use Rattle.ctl_net.specs.MemAcceptor.{unasked, AreNewLinks, next_answer, without_link};
-ghost use Rattle.ctl_net.specs.MemAcceptor.{after_next, after_done, at_most, links_of};
+ghost use Rattle.ctl_net.specs.MemAcceptor.{after_next, after_done, at_most, links_of, opened_as};
 
 use crate::memory::queue::take_front;
-use crate::{Acceptor, MemLink, Next};
+use crate::{Acceptor, MemLink, Next, Opening};
 use ctl_io::{CallCount, FaultCount};
 use std::alloc::{AllocError, Global};
 use std::marker::Model;
@@ -18,6 +18,8 @@ const MAX_SESSIONS: usize = 1 << 63;
 /// An acceptor in memory. It hands out its links in their order, and what is given back isn't handed out again.
 #[derive(Debug, Drop)]
 pub struct MemAcceptor {
+    // The opening that made it, if a net opened it.
+    opening: Option<Opening>,
     waiting: Vec<MemLink>,
     // So many sessions are left.
     sessions: usize,
@@ -59,6 +61,7 @@ impl MemAcceptor {
             return Err(AllocError);
         }
         Ok(MemAcceptor {
+            opening: None,
             waiting: links,
             sessions,
             objects,
@@ -99,6 +102,14 @@ impl MemAcceptor {
         ensures { self.new ≡ at_most sessions self.old }
     {
         self.sessions = self.sessions.min(sessions as usize);
+    }
+
+    /// Makes it the acceptor of this opening, for at most so many sessions.
+    pub fn open(&mut self, opening: Opening, sessions: u32)
+        ensures { self.new ≡ opened_as opening sessions self.old }
+    {
+        self.lower(sessions);
+        self.opening = Some(opening);
     }
 
     /// The links that were given back, in order.
@@ -159,6 +170,8 @@ impl MemAcceptor {
 
 impl Acceptor for MemAcceptor {
     type L = MemLink;
+
+    ghost opening = { λ a. a.opening };
 
     ghost sessions = { λ a. a.sessions };
 

@@ -76,10 +76,10 @@ impl MemNet {
         })
     }
 
-    /// Hands out the first acceptor that waits, with at most `sessions` sessions left. It refuses where the call's number is
-    /// listed, and for want of objects or of an acceptor.
+    /// Hands out the first acceptor that waits, with this opening and at most `sessions` sessions left. It refuses where the
+    /// call's number is listed, and for want of objects or of an acceptor.
     pub fn lend_acceptor(&mut self, opening: Opening, sessions: u32) -> Option<MemAcceptor>
-        ensures answer { result ≡ acceptor_answer self.old sessions }
+        ensures answer { result ≡ acceptor_answer self.old opening sessions }
         ensures after { self.new ≡ after_acceptor result opening self.old }
         ensures new { IfSome result IsNewAcceptor }
     {
@@ -88,10 +88,10 @@ impl MemNet {
         lent
     }
 
-    /// Hands out the first port that waits. It refuses where the call's number is listed, and for want of objects or of a
-    /// port.
+    /// Hands out the first port that waits, with this opening. It refuses where the call's number is listed, and for want of
+    /// objects or of a port.
     pub fn lend_port(&mut self, opening: Opening) -> Option<MemPort>
-        ensures answer { result ≡ port_answer self.old }
+        ensures answer { result ≡ port_answer self.old opening }
         ensures after { self.new ≡ after_port result opening self.old }
         ensures new { IfSome result IsNewPort }
     {
@@ -161,7 +161,7 @@ impl MemNet {
 
     // Takes out the first acceptor, without counting the call.
     fn first_acceptor(&mut self, opening: Opening, sessions: u32) -> Option<MemAcceptor>
-        ensures answer { result ≡ acceptor_answer self.old sessions }
+        ensures answer { result ≡ acceptor_answer self.old opening sessions }
         ensures after { self.new ≡ without_acceptor result opening self.old }
         ensures new { IfSome result IsNewAcceptor }
     {
@@ -170,7 +170,7 @@ impl MemNet {
         }
         match take_front(&mut self.acceptors) {
             Some(mut acceptor) => {
-                acceptor.lower(sessions);
+                acceptor.open(opening.copied(), sessions);
                 self.openings.push_reserved(opening);
                 self.objects -= 1;
                 self.acceptors_out += 1;
@@ -182,7 +182,7 @@ impl MemNet {
 
     // Takes out the first port, without counting the call.
     fn first_port(&mut self, opening: Opening) -> Option<MemPort>
-        ensures answer { result ≡ port_answer self.old }
+        ensures answer { result ≡ port_answer self.old opening }
         ensures after { self.new ≡ without_port result opening self.old }
         ensures new { IfSome result IsNewPort }
     {
@@ -190,7 +190,8 @@ impl MemNet {
             return None;
         }
         match take_front(&mut self.ports) {
-            Some(port) => {
+            Some(mut port) => {
+                port.open(opening.copied());
                 self.openings.push_reserved(opening);
                 self.objects -= 1;
                 self.ports_out += 1;

@@ -4,9 +4,9 @@ ghost use Rattle.std.specs.Prelude.{◌≡◌, ◌+◌, ◌<◌, ◌≤◌, [], 
 ghost use Rattle.std.specs.Prelude.{vec_len, vec_capacity};
 ghost use Rattle.std.specs.List.{concat};
 ghost use Rattle.ctl_io.specs.Calls.{uncalled};
-ghost use Rattle.ctl_net.specs.MemPort.{send_answer, after_send};
+ghost use Rattle.ctl_net.specs.MemPort.{send_answer, after_send, opened_to};
 
-use crate::{DisplayPort, Sent};
+use crate::{DisplayPort, Opening, Sent};
 use ctl_io::CallCount;
 use std::alloc::{AllocError, Global};
 use std::marker::Model;
@@ -14,6 +14,8 @@ use std::marker::Model;
 /// A display port in memory, with room for so many bytes. It takes each packet that isn't empty.
 #[derive(Debug, Drop)]
 pub struct MemPort {
+    // The opening that made it, if a net opened it.
+    opening: Option<Opening>,
     // The packets, one behind the other.
     bytes: Vec<u8>,
     lengths: Vec<usize>,
@@ -36,9 +38,15 @@ impl MemPort {
     /// sends that fail.
     pub fn new(alloc: Global, room: usize, failing: Vec<u64>) -> Result<MemPort, AllocError>
         ensures { IfOk result (λ port.
-            port ≡ record { packets = []; room = room; calls = uncalled failing.items }) }
+            port ≡ record {
+              opening = None;
+              packets = [];
+              room = room;
+              calls = uncalled failing.items;
+            }) }
     {
         Ok(MemPort {
+            opening: None,
             bytes: Vec::with_capacity(alloc, room)?,
             lengths: Vec::with_capacity(alloc, room)?,
             calls: CallCount::new(failing),
@@ -60,6 +68,13 @@ impl MemPort {
         append(packet, &mut self.bytes);
         self.lengths.push_reserved(packet.len());
         Sent::Done
+    }
+
+    /// Makes it the port of this opening.
+    pub fn open(&mut self, opening: Opening)
+        ensures { self.new ≡ opened_to opening self.old }
+    {
+        self.opening = Some(opening);
     }
 
     /// The packets that were sent, one behind the other.
@@ -86,6 +101,8 @@ impl MemPort {
 
 impl DisplayPort for MemPort {
     ghost use Rattle.ctl_net.specs.Port.{IsSomePacket};
+
+    ghost opening = { λ p. p.opening };
 
     ghost takes = { IsSomePacket };
 

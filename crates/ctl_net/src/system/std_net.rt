@@ -1,8 +1,8 @@
 //! The adapter over the sockets of the system.
 
-ghost use Rattle.std.specs.Prelude.{◌≡◌, None, IfOk};
+ghost use Rattle.std.specs.Prelude.{◌≡◌, ◌≤◌, None, IfOk, length};
 
-use crate::{Net, TcpAcceptor, UdpPort};
+use crate::{Address, Net, Opening, TcpAcceptor, UdpPort};
 use ctl_io::{FaultCount, call_again};
 use std::io::{self, ErrorKind};
 use std::net::{self, Ipv4Addr, Ipv6Addr, SocketAddr, TcpListener, ToSocketAddrs, UdpSocket};
@@ -75,7 +75,7 @@ where
 
     fn acceptor(
         &mut self,
-        _panel: u32,
+        panel: u32,
         address: &str,
         port: u16,
         sessions: u32,
@@ -89,7 +89,14 @@ where
             Ok(listener) => {
                 self.acceptors_out += 1;
                 let timeout = Duration::from_millis(u64::from(idle_ms));
-                Some(TcpAcceptor::new(listener, sessions, timeout))
+                let opening = Opening::Acceptor {
+                    panel,
+                    address: Address::of(address),
+                    port,
+                    sessions,
+                    idle_ms,
+                };
+                Some(TcpAcceptor::new(listener, sessions, timeout, Some(opening)))
             }
             Err(_) => {
                 self.open_faults.raise();
@@ -132,12 +139,19 @@ where
 
 // The port to the first of an address's hosts that the system takes as its peer, over a socket of the same family.
 fn connected<R: net::Net + Clock + Clone + Drop>(rt: &R, address: &str) -> io::Result<UdpPort<R>>
-    ensures { IfOk result (λ port. port.faults ≡ 0) }
+    requires { length address.now ≤ 64 }
+    ensures opening { IfOk result (λ port. port.opening ≡ Some (Opening.Display address.now)) }
+    ensures faults { IfOk result (λ port. port.faults ≡ 0) }
 {
     let mut last = io::Error::from(ErrorKind::AddrNotAvailable);
     for peer in address.to_socket_addrs(rt)? {
         match socket_to(rt, peer) {
-            Ok(socket) => return Ok(UdpPort::new(rt.clone()?, socket)),
+            Ok(socket) => {
+                let opening = Opening::Display {
+                    address: Address::of(address),
+                };
+                return Ok(UdpPort::new(rt.clone()?, socket, Some(opening)));
+            }
             Err(error) => last = error,
         }
     }

@@ -2,7 +2,7 @@
 
 ghost use Rattle.std.specs.Prelude.{◌≡◌, IfOk};
 
-use crate::{Acceptor, Next, TcpLink};
+use crate::{Acceptor, Next, Opening, TcpLink};
 use ctl_io::{FaultCount, call_again};
 use std::io::{self, ErrorKind};
 use std::net::{OpenListener, OpenStream};
@@ -11,6 +11,8 @@ use std::time::Duration;
 /// An acceptor over a listener, for so many sessions. It keeps nothing of what is given back.
 #[derive(Drop)]
 pub struct TcpAcceptor<T> {
+    // The opening that made it, if a net opened it.
+    opening: Option<Opening>,
     listener: T,
     sessions: u32,
     // A read of a link waits at most so long.
@@ -21,14 +23,21 @@ pub struct TcpAcceptor<T> {
 }
 
 impl<T: OpenListener> TcpAcceptor<T> {
-    /// An acceptor for so many sessions, with links of which a read waits at most `timeout`.
-    pub fn new(listener: T, sessions: u32, timeout: Duration) -> TcpAcceptor<T>
+    /// An acceptor for so many sessions, with links of which a read waits at most `timeout`. It shows this opening.
+    pub fn new(
+        listener: T,
+        sessions: u32,
+        timeout: Duration,
+        opening: Option<Opening>,
+    ) -> TcpAcceptor<T>
+        ensures opening { result.opening ≡ opening }
         ensures sessions { result.sessions ≡ sessions }
         ensures out { result.out ≡ 0 }
         ensures next_faults { result.next_faults ≡ 0 }
         ensures done_faults { result.done_faults ≡ 0 }
     {
         TcpAcceptor {
+            opening,
             listener,
             sessions,
             timeout,
@@ -60,6 +69,8 @@ where
     ghost use Rattle.ctl_io.specs.Custody.{only_out};
 
     type L = TcpLink<T::Stream>;
+
+    ghost opening = { λ a. a.opening };
 
     ghost sessions = { λ a. a.sessions };
 

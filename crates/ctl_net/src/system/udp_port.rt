@@ -2,7 +2,7 @@
 
 ghost use Rattle.std.specs.Prelude.{◌≡◌};
 
-use crate::{DisplayPort, Sent};
+use crate::{DisplayPort, Opening, Sent};
 use ctl_io::{FaultCount, call_again};
 use std::net::UdpSocket;
 use std::thread;
@@ -15,17 +15,21 @@ const PAUSE: u64 = 20;
 /// part is sent has failed.
 #[derive(Drop)]
 pub struct UdpPort<R> {
+    // The opening that made it, if a net opened it.
+    opening: Option<Opening>,
     rt: R,
     socket: UdpSocket,
     faults: FaultCount,
 }
 
 impl<R: Clock> UdpPort<R> {
-    /// A port over a socket that was connected to its peer.
-    pub fn new(rt: R, socket: UdpSocket) -> UdpPort<R>
-        ensures { result.faults ≡ 0 }
+    /// A port over a socket that was connected to its peer. It shows this opening.
+    pub fn new(rt: R, socket: UdpSocket, opening: Option<Opening>) -> UdpPort<R>
+        ensures opening { result.opening ≡ opening }
+        ensures faults { result.faults ≡ 0 }
     {
         UdpPort {
+            opening,
             rt,
             socket,
             faults: FaultCount::new(),
@@ -42,6 +46,8 @@ impl<R: Clock> UdpPort<R> {
 
 impl<R: Clock + Send> DisplayPort for UdpPort<R> {
     ghost use Rattle.ctl_net.specs.Port.{IsSomePacket};
+
+    ghost opening = { λ p. p.opening };
 
     ghost takes = { IsSomePacket };
 

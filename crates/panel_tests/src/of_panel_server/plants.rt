@@ -31,7 +31,7 @@ panel = [{ port = 9001, device = 1 }, { port = 9002, device = 2 }]
 
 // What is told of a plant that was served: how many sessions there were, how many entries, limits and faults of the net, and
 // the first trace that failed.
-type Told = Result<(u64, u64, u64, u64, Option<u32>), ServeFault>;
+pub(super) type Told = Result<(u64, u64, u64, u64, Option<u32>), ServeFault>;
 
 const REFUSED: Told = Err(ServeFault::NetFault);
 
@@ -89,7 +89,11 @@ const CASES: [Case; 22] = [
 ];
 
 // An acceptor with one link, over which these pieces come.
-fn acceptor_of(alloc: Global, pieces: &[&[u8]], failing: Failing) -> Result<MemAcceptor, AllocError>
+pub(super) fn acceptor_of(
+    alloc: Global,
+    pieces: &[&[u8]],
+    failing: Failing,
+) -> Result<MemAcceptor, AllocError>
     ensures { IfOk result IsNewAcceptor }
 {
     let link = link_of(alloc, pieces, failing)?;
@@ -129,7 +133,7 @@ fn traces_of(alloc: Global, count: usize, failing: Failing) -> Result<Vec<MemSin
 }
 
 // What is told of a plant that is served over a net, and how many bytes were traced of the first panel.
-fn served<R: Threads + Wait + Sync, G: Gate>(
+pub(super) fn served<R: Threads + Wait + Sync, G: Gate>(
     rt: &R,
     alloc: Global,
     plant: &Plant,
@@ -164,7 +168,7 @@ fn first_traced(traces: &[MemSink]) -> usize {
 }
 
 // What was written to a panel.
-fn written_to(back: &[ClosedAcceptor], panel: u32) -> &[u8] {
+pub(super) fn written_to(back: &[ClosedAcceptor], panel: u32) -> &[u8] {
     for closed in back {
         if closed.panel == panel {
             return first_written(&closed.acceptor);

@@ -55,7 +55,7 @@ fn comes(port: &mut UdpPort<HostRuntime>, display: &UdpSocket, packet: &[u8]) ->
 #[test]
 fn a_packet_goes_as_one_datagram(rt: HostRuntime) -> Result<(), Fail> {
     let (display, socket) = connected(&rt)?;
-    let mut port = UdpPort::new(rt.clone()?, socket);
+    let mut port = UdpPort::new(rt.clone()?, socket, None);
     assert!(rt; comes(&mut port, &display, b"abc") && comes(&mut port, &display, b"de"));
     assert!(rt; port.faults() == 0);
     Ok(())

@@ -24,6 +24,7 @@ loop-polled-init g c = record {
   sent_few = omega arith;
   lost_few = omega arith;
   room = c.requires.room;
+  opening = refl;
   name = refl;
   seat = c.requires.seat;
 }
@@ -63,6 +64,7 @@ loop-polled-preserved-then-polls-count-eq0 g c =
     let has = c.in-Ok.ensures.polled in
     let on = driving_on c.in-Ok.polled _ _ c.sent.result c.lost.result _ c.loop-polled.invariant.driving is more has c.sent.ensures.sent c.lost.ensures.lost c.pause_unless.ensures.packets c.pause_unless.ensures.count in
     record {
+      opening = c.pause_unless.ensures.opening ∙ c.poll_screen.ensures.opening ∙ c.loop-polled.invariant.opening;
       driving = on;
       few = polls_few has.number on has.given.numbered;
       sent_few = sent_few on;
@@ -82,6 +84,7 @@ loop-polled-preserved g c =
     let has = c.in-Ok.ensures.polled in
     let on = driving_on c.in-Ok.polled _ _ c.sent.result c.lost.result _ c.loop-polled.invariant.driving is more has c.sent.ensures.sent c.lost.ensures.lost (λ packets was. was) refl in
     record {
+      opening = c.poll_screen.ensures.opening ∙ c.loop-polled.invariant.opening;
       driving = on;
       few = polls_few has.number on has.given.numbered;
       sent_few = sent_few on;

@@ -13,6 +13,7 @@ invariant-loop-polled g l = record {
   sent_few : l.sent ≤ l.polls;
   lost_few : l.failed ≤ l.polls;
   room : HasRoomFor l.fn.plant l.room;
+  opening : g.P.DisplayPort.opening l.port ≡ g.P.DisplayPort.opening l.fn.port;
   name : g.K.Sink.name l.trace ≡ g.K.Sink.name l.fn.trace;
   seat : IsSeatOf l.fn.plant l.fn.lock l.seat;
 }

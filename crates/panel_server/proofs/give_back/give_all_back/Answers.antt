@@ -31,7 +31,7 @@ pushed_next {One} {X} told all later one before after x items pushed is =
 pub loop-worker-preserved : goal.loop-worker-preserved
 loop-worker-preserved g c =
     let One = Worker g.row.N-A.Denot g.row.N-P.Denot g.row.K.Denot in
-    let shows = worker_shows g.N.A.Acceptor.sessions g.N.A.Acceptor.links g.N.A.Acceptor.next_faults g.N.A.Acceptor.done_faults g.K.Sink.name g.K.Sink.written g.K.Sink.faults in
+    let shows = worker_shows g.N.A.Acceptor.opening g.N.A.Acceptor.sessions g.N.A.Acceptor.links g.N.A.Acceptor.next_faults g.N.A.Acceptor.done_faults g.N.P.DisplayPort.opening g.K.Sink.name g.K.Sink.written g.K.Sink.faults in
     let net = net_shows g.N.Net.openings g.N.Net.acceptors g.N.Net.ports g.N.Net.open_faults g.N.Net.close_faults in
     let trace = sink_shows g.K.Sink.name g.K.Sink.written g.K.Sink.faults in
     let faults = g.N.P.DisplayPort.faults in

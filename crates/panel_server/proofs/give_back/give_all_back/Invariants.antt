@@ -8,7 +8,7 @@ use Rattle.panel_server.proofs.give_back.give_all_back.Given as goal
 -- With what the workers that are left give back, all comes out.
 abbrev pub invariant-loop-worker : goal.invariant-loop-worker
 invariant-loop-worker g l =
-    let shows = worker_shows g.N.A.Acceptor.sessions g.N.A.Acceptor.links g.N.A.Acceptor.next_faults g.N.A.Acceptor.done_faults g.K.Sink.name g.K.Sink.written g.K.Sink.faults in
+    let shows = worker_shows g.N.A.Acceptor.opening g.N.A.Acceptor.sessions g.N.A.Acceptor.links g.N.A.Acceptor.next_faults g.N.A.Acceptor.done_faults g.N.P.DisplayPort.opening g.K.Sink.name g.K.Sink.written g.K.Sink.faults in
     let net = net_shows g.N.Net.openings g.N.Net.acceptors g.N.Net.ports g.N.Net.open_faults g.N.Net.close_faults in
     let trace = sink_shows g.K.Sink.name g.K.Sink.written g.K.Sink.faults in
     record {

@@ -1,9 +1,10 @@
-use Rattle.std.proofs.Common.{rules, ◌≡◌, ℕ, ◌+◌, ◌-◌, ◌∷◌, [], length, All, List, sym, ap, ◌∙◌, subst, arith}
+use Rattle.std.proofs.Common.{rules, ◌≡◌, ℕ, ◌+◌, ◌-◌, ◌∷◌, ◌++◌, [], length, slice_get, All, List, sym, ap, ◌∙◌, subst, arith}
 use Rattle.std.proofs.lemmas.List.{length-append}
 use Rattle.ctl_net.specs.Net.{IsFreshAcceptor}
-use Rattle.panel_server.specs.PlantServed.{NetData, net_shows}
-use Rattle.panel_server.specs.ServeInside.{ComeBackFresh}
-use Rattle.panel_server.proofs.OpenLemmas.{all_and_last, back_begins, back_next}
+use Rattle.plant_config.specs.Plant.{PlantData}
+use Rattle.panel_server.specs.PlantServed.{NetData, acceptor_openings, net_shows}
+use Rattle.panel_server.specs.ServeInside.{AreOwn, ComeBackFresh}
+use Rattle.panel_server.proofs.OpenLemmas.{all_and_last, back_begins, back_next, own_front, own_last}
 use Rattle.panel_server.proofs.open.close_acceptors.Goals as goal
 
 pub loop-acceptor-init : goal.loop-acceptor-init
@@ -12,9 +13,11 @@ loop-acceptor-init g c =
     let count = length c.args.acceptors.now.items in
     let none : 0 ≡ count - count = omega arith in
     record {
+      out = c.requires.out;
       fewer = omega arith;
       fresh = c.requires.fresh;
-      back = subst (λ (n : ℕ). ComeBackFresh count n net net) none (back_begins count net);
+      own = λ plant own. own;
+      back = λ plant own. subst (λ (n : ℕ). ComeBackFresh plant count n net net) none (back_begins plant count net);
     }
 
 pub loop-acceptor-preserved : goal.loop-acceptor-preserved
@@ -29,10 +32,27 @@ loop-acceptor-preserved g c =
     let both = all_and_last Fresh c.pop.new.self.items c.in-Some.acceptor (subst (λ (all : List g.row.N-A.Denot). All Fresh all) items c.loop-acceptor.invariant.fresh) in
     let fewer = c.loop-acceptor.invariant.fewer in
     let more : count - length c.pop.new.self.items ≡ count - length c.loop-acceptor.acceptors.items + 1 = omega (arith, one_less, fewer) in
+    let opening = g.N.A.Acceptor.opening in
+    let rest : List g.row.N-A.Denot = c.pop.new.self.items in
+    let last : g.row.N-A.Denot = c.in-Some.acceptor in
+    let owned : (plant : PlantData) → AreOwn opening plant c.args.acceptors.now.items → AreOwn opening plant (rest ++ last ∷ []) =
+    λ plant own. subst (λ (all : List g.row.N-A.Denot). AreOwn opening plant all) items (c.loop-acceptor.invariant.own plant own) in
     let told : c.len.result ≡ length c.pop.new.self.items = search rules in
+    let one_out = ap (λ (net : NetData g.row.N-P.Denot). net.acceptors.out) c.close_acceptor.ensures in
     record {
+      out = omega (arith, one_less, one_out, c.loop-acceptor.invariant.out);
       fewer = omega (arith, one_less, fewer);
       fresh = both.0;
-      back = subst (λ (end : NetData g.row.N-P.Denot). ComeBackFresh count (count - length c.pop.new.self.items) net end) (sym c.close_acceptor.ensures)
-          (back_next count net (count - length c.loop-acceptor.acceptors.items) (count - length c.pop.new.self.items) _ (shows c.loop-acceptor.net) c.loop-acceptor.invariant.back more (omega (arith, told, one_less, fewer)) both.1);
+      own = λ plant own. own_front opening plant rest last (owned plant own);
+      back = λ plant own. subst (λ (end : NetData g.row.N-P.Denot). ComeBackFresh plant count (count - length c.pop.new.self.items) net end) (sym c.close_acceptor.ensures)
+          (back_next plant count net (count - length c.loop-acceptor.acceptors.items) (count - length c.pop.new.self.items) _ (shows c.loop-acceptor.net) (c.loop-acceptor.invariant.back plant own) more (omega (arith, told, one_less, fewer)) both.1
+          (own_last opening plant rest last (owned plant own) ∙ ap (λ (n : ℕ). slice_get (acceptor_openings plant.server 0 plant.panels) n) (sym told)));
     }
+
+pub returns-clause-back : goal.returns-clause-back
+returns-clause-back g c = λ plant own.
+    let shows = net_shows g.N.Net.openings g.N.Net.acceptors g.N.Net.ports g.N.Net.open_faults g.N.Net.close_faults in
+    let count = length c.args.acceptors.now.items in
+    let none : length c.loop-acceptor.acceptors.items ≡ 0 = search rules in
+    let all : count - length c.loop-acceptor.acceptors.items ≡ count = omega (arith, none) in
+    subst (λ (n : ℕ). ComeBackFresh plant count n (shows c.args.net.now) (shows c.loop-acceptor.net)) all (c.loop-acceptor.invariant.back plant own)

@@ -3,8 +3,8 @@ use Rattle.std.proofs.lemmas.List.Elements.{All-push}
 use Rattle.plant_file.specs.declared.entries.Server.{Server}
 use Rattle.plant_config.specs.declared.records.Panel.{Panel}
 use Rattle.panel_server.specs.PlantServed.{net_shows}
-use Rattle.panel_server.specs.ServeInside.{IsFreshFor, opened_acceptors}
-use Rattle.panel_server.proofs.OpenLemmas.{opened_begins, opened_step, refused_step}
+use Rattle.panel_server.specs.ServeInside.{AreOwn, IsFreshFor, opened_acceptors}
+use Rattle.panel_server.proofs.OpenLemmas.{opened_begins, opened_step, own_none, own_step, refused_step}
 use Rattle.panel_server.proofs.open.open_acceptors.Goals as goal
 
 pub loop-number-init : goal.loop-number-init
@@ -14,6 +14,7 @@ loop-number-init g c =
       net = opened_begins c.args.plant.now _;
       count = none;
       fresh = λ k d below. absurd (omega (arith, below, none));
+      own = own_none g.N.A.Acceptor.opening c.args.plant.now c.args.acceptors.now.items c.requires.empty;
       places = search rules;
     }
 
@@ -31,6 +32,9 @@ loop-number-preserved g c =
       count = search rules;
       fresh = subst (λ (items : List g.row.N-A.Denot). All Fresh items) (sym c.push_reserved.ensures.items)
           (All-push Fresh _ _ c.loop-number.invariant.fresh (subst FreshBy c.server-server.ensures.server c.in-Some.ensures.fresh));
+      own = subst (λ (items : List g.row.N-A.Denot). AreOwn g.N.A.Acceptor.opening plant items) (sym c.push_reserved.ensures.items)
+          (own_step g.N.A.Acceptor.opening plant c.server-server.result.now panels c.loop-number.number _ _ c.loop-number.acceptors.items c.in-Some.acceptor
+          c.server-server.ensures.server c.panels-panel-items.ensures.panels c.loop-number-test.true (search rules) c.loop-number.invariant.count c.in-Some.ensures.own c.loop-number.invariant.own);
       places = search rules;
     }
 

@@ -1,6 +1,6 @@
 use Rattle.std.proofs.Common.{◌≡◌, ◌≤◌, All, length, vec_capacity}
 use Rattle.panel_server.specs.PlantServed.{net_shows}
-use Rattle.panel_server.specs.ServeInside.{IsFreshFor, opened_acceptors}
+use Rattle.panel_server.specs.ServeInside.{AreOwn, IsFreshFor, opened_acceptors}
 use Rattle.panel_server.proofs.open.open_acceptors.Given as goal
 
 -- The acceptors of the panels so far were opened, and they are new.
@@ -12,5 +12,6 @@ invariant-loop-number g l = record {
   count : length l.acceptors.items ≡ l.number;
   fresh : All (IsFreshFor g.N.A.Acceptor.sessions g.N.A.Acceptor.links g.N.A.Acceptor.next_faults g.N.A.Acceptor.done_faults l.fn.plant.server)
       l.acceptors.items;
+  own : AreOwn g.N.A.Acceptor.opening l.fn.plant l.acceptors.items;
   places : length l.fn.plant.panels ≤ vec_capacity l.acceptors;
 }

@@ -11,7 +11,7 @@ returns-clause-gives_back g c = λ plant panel begins.
     record {
       link_then = link_end (g.A.L.Sink.written c.serve_session-end.new.link) (g.A.L.Sink.faults c.serve_session-end.new.link) (g.A.L.Sink.read_half c.serve_session-end.new.link);
       served = c.serve_session-end.ensures.served plant panel stands;
-      acceptor_is = end_same panel c.done.ensures.sessions c.done.ensures.returned c.done.ensures.next_count c.done.ensures.count;
+      acceptor_is = end_same panel c.done.ensures.opening c.done.ensures.sessions c.done.ensures.returned c.done.ensures.next_count c.done.ensures.count;
     }
 
 pub returns-clause-begins : goal.returns-clause-begins

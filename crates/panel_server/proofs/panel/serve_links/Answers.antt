@@ -10,7 +10,7 @@ use Rattle.panel_server.proofs.panel.serve_links.Goals as goal
 pub loop-link-init : goal.loop-link-init
 loop-link-init g c = record {
   served = λ plant panel begins. serves_none plant panel c.args.turns c.args.seat.now
-      (acceptor_shows panel g.A.Acceptor.sessions g.A.Acceptor.links g.A.Acceptor.next_faults g.A.Acceptor.done_faults c.args.acceptor.now)
+      (acceptor_shows panel g.A.Acceptor.opening g.A.Acceptor.sessions g.A.Acceptor.links g.A.Acceptor.next_faults g.A.Acceptor.done_faults c.args.acceptor.now)
       (trace_shows g.K.Sink.written g.K.Sink.faults c.args.trace.now);
   begins = λ plant panel begins. begins;
   may = c.requires.may;
@@ -20,6 +20,7 @@ loop-link-init g c = record {
   few = inl refl;
   link_faults = omega arith;
   limits = omega arith;
+  opening = refl;
   trace_name = refl;
 }
 
@@ -28,14 +29,14 @@ returns-in-NoMore-clause-served g c = λ plant panel begins.
     let i = c.loop-link.invariant in
     let on = i.served plant panel begins in
     let e = c.in-NoMore.ensures in
-    over_none on.served on.none_last i.good i.asked _ (end_same panel (e.sessions.1 ∙ sym e.sessions.0) e.lent e.count e.done_count) e.sessions.1
+    over_none on.served on.none_last i.good i.asked _ (end_same panel e.opening (e.sessions.1 ∙ sym e.sessions.0) e.lent e.count e.done_count) e.sessions.1
 
 pub returns-in-Failed-clause-served : goal.returns-in-Failed-clause-served
 returns-in-Failed-clause-served g c = λ plant panel begins.
     let i = c.loop-link.invariant in
     let on = i.served plant panel begins in
     let e = c.in-Failed.ensures in
-    over_refused on.served on.none_last i.good i.asked _ (end_same panel e.sessions e.lent e.count e.done_count)
+    over_refused on.served on.none_last i.good i.asked _ (end_same panel e.opening e.sessions e.lent e.count e.done_count)
 
 pub returns-in-TraceFault-clause-served : goal.returns-in-TraceFault-clause-served
 returns-in-TraceFault-clause-served g c = λ plant panel begins.
@@ -43,8 +44,8 @@ returns-in-TraceFault-clause-served g c = λ plant panel begins.
     let e = c.in-One.ensures in
     let gives = c.serve_link-end.ensures.gives_back plant panel (i.begins plant panel begins) in
     let link = link_end (g.A.L.Sink.written c.in-One.link) (g.A.L.Sink.faults c.in-One.link) (g.A.L.Sink.read_half c.in-One.link) in
-    let at = acceptor_shows panel g.A.Acceptor.sessions g.A.Acceptor.links g.A.Acceptor.next_faults g.A.Acceptor.done_faults in
-    served_last (i.served plant panel begins) i.good i.asked c.serve_link-end.result c.serve_link-end.new.session c.serve_link-end.new.seat link (at c.next.new.self) (at c.serve_link-end.new.acceptor) (trace_shows g.K.Sink.written g.K.Sink.faults c.serve_link-end.new.trace) e.new gives refl e.sessions e.lent e.count e.done_count
+    let at = acceptor_shows panel g.A.Acceptor.opening g.A.Acceptor.sessions g.A.Acceptor.links g.A.Acceptor.next_faults g.A.Acceptor.done_faults in
+    served_last (i.served plant panel begins) i.good i.asked c.serve_link-end.result c.serve_link-end.new.session c.serve_link-end.new.seat link (at c.next.new.self) (at c.serve_link-end.new.acceptor) (trace_shows g.K.Sink.written g.K.Sink.faults c.serve_link-end.new.trace) e.new gives refl e.opening e.sessions e.lent e.count e.done_count
     (ap is_last_end c.in-TraceFault.is) false (sym (ap is_full c.in-TraceFault.is)) c.count.new.self c.count.ensures.counted
 
 pub returns-in-Full-clause-served : goal.returns-in-Full-clause-served
@@ -53,8 +54,8 @@ returns-in-Full-clause-served g c = λ plant panel begins.
     let e = c.in-One.ensures in
     let gives = c.serve_link-end.ensures.gives_back plant panel (i.begins plant panel begins) in
     let link = link_end (g.A.L.Sink.written c.in-One.link) (g.A.L.Sink.faults c.in-One.link) (g.A.L.Sink.read_half c.in-One.link) in
-    let at = acceptor_shows panel g.A.Acceptor.sessions g.A.Acceptor.links g.A.Acceptor.next_faults g.A.Acceptor.done_faults in
-    served_last (i.served plant panel begins) i.good i.asked c.serve_link-end.result c.serve_link-end.new.session c.serve_link-end.new.seat link (at c.next.new.self) (at c.serve_link-end.new.acceptor) (trace_shows g.K.Sink.written g.K.Sink.faults c.serve_link-end.new.trace) e.new gives refl e.sessions e.lent e.count e.done_count
+    let at = acceptor_shows panel g.A.Acceptor.opening g.A.Acceptor.sessions g.A.Acceptor.links g.A.Acceptor.next_faults g.A.Acceptor.done_faults in
+    served_last (i.served plant panel begins) i.good i.asked c.serve_link-end.result c.serve_link-end.new.session c.serve_link-end.new.seat link (at c.next.new.self) (at c.serve_link-end.new.acceptor) (trace_shows g.K.Sink.written g.K.Sink.faults c.serve_link-end.new.trace) e.new gives refl e.opening e.sessions e.lent e.count e.done_count
     (ap is_last_end c.in-Full.is) true (sym (ap is_full c.in-Full.is)) c.count.new.self c.count.ensures.counted
 
 pub loop-link-preserved : goal.loop-link-preserved
@@ -69,8 +70,8 @@ loop-link-preserved g c =
       served = λ plant panel begins.
           let gives = c.serve_link-end.ensures.gives_back plant panel (i.begins plant panel begins) in
           let link = link_end (g.A.L.Sink.written c.in-One.link) (g.A.L.Sink.faults c.in-One.link) (g.A.L.Sink.read_half c.in-One.link) in
-          let at = acceptor_shows panel g.A.Acceptor.sessions g.A.Acceptor.links g.A.Acceptor.next_faults g.A.Acceptor.done_faults in
-          served_on (i.served plant panel begins) i.good i.asked end c.serve_link-end.new.session c.serve_link-end.new.seat link (at c.next.new.self) (at c.serve_link-end.new.acceptor) (trace_shows g.K.Sink.written g.K.Sink.faults c.serve_link-end.new.trace) e.new gives refl e.sessions e.lent e.count e.done_count more c.count.new.self is;
+          let at = acceptor_shows panel g.A.Acceptor.opening g.A.Acceptor.sessions g.A.Acceptor.links g.A.Acceptor.next_faults g.A.Acceptor.done_faults in
+          served_on (i.served plant panel begins) i.good i.asked end c.serve_link-end.new.session c.serve_link-end.new.seat link (at c.next.new.self) (at c.serve_link-end.new.acceptor) (trace_shows g.K.Sink.written g.K.Sink.faults c.serve_link-end.new.trace) e.new gives refl e.opening e.sessions e.lent e.count e.done_count more c.count.new.self is;
       begins = λ plant panel begins. c.serve_link-end.ensures.begins plant panel (i.begins plant panel begins);
       may = c.serve_link-end.ensures.may;
       asked = ap (λ (done : PanelDone). done.refused) is ∙ i.asked;
@@ -82,5 +83,6 @@ loop-link-preserved g c =
       ];
       link_faults = c.count.ensures.link_faults;
       limits = c.count.ensures.limits;
+      opening = c.serve_link-end.ensures.opening ∙ e.opening ∙ i.opening;
       trace_name = c.serve_link-end.ensures.trace_name ∙ i.trace_name;
     }

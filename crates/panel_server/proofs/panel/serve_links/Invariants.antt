@@ -11,8 +11,8 @@ abbrev pub invariant-loop-link : goal.invariant-loop-link
 invariant-loop-link g l = record {
   served : (plant : PlantData) (panel : ℕ) → MayBegin plant panel l.fn.session
       → ServesOn plant panel l.turns l.done l.fn.seat l.seat
-      (acceptor_shows panel g.A.Acceptor.sessions g.A.Acceptor.links g.A.Acceptor.next_faults g.A.Acceptor.done_faults l.fn.acceptor)
-      (acceptor_shows panel g.A.Acceptor.sessions g.A.Acceptor.links g.A.Acceptor.next_faults g.A.Acceptor.done_faults l.acceptor)
+      (acceptor_shows panel g.A.Acceptor.opening g.A.Acceptor.sessions g.A.Acceptor.links g.A.Acceptor.next_faults g.A.Acceptor.done_faults l.fn.acceptor)
+      (acceptor_shows panel g.A.Acceptor.opening g.A.Acceptor.sessions g.A.Acceptor.links g.A.Acceptor.next_faults g.A.Acceptor.done_faults l.acceptor)
       (trace_shows g.K.Sink.written g.K.Sink.faults l.fn.trace)
       (trace_shows g.K.Sink.written g.K.Sink.faults l.trace);
   begins : (plant : PlantData) (panel : ℕ) → MayBegin plant panel l.fn.session → MayBegin plant panel l.session;
@@ -23,6 +23,7 @@ invariant-loop-link g l = record {
   few : (l.done.sessions ≡ 0) ⊎ (g.A.Acceptor.sessions l.fn.acceptor ≤ 2 ^ 63);
   link_faults : l.done.link_faults ≤ l.done.sessions;
   limits : l.done.limits ≤ l.done.sessions;
+  opening : g.A.Acceptor.opening l.acceptor ≡ g.A.Acceptor.opening l.fn.acceptor;
   trace_name : g.K.Sink.name l.trace ≡ g.K.Sink.name l.fn.trace;
 }
 

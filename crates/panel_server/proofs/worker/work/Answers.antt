@@ -9,9 +9,9 @@ pub returns-in-Panel : goal.returns-in-Panel
 returns-in-Panel g c =
     let plant = c.args.plant.now in
     let number = c.in-Panel.panel.number in
-    let acceptor = acceptor_shows number g.A.Acceptor.sessions g.A.Acceptor.links g.A.Acceptor.next_faults g.A.Acceptor.done_faults in
+    let acceptor = acceptor_shows number g.A.Acceptor.opening g.A.Acceptor.sessions g.A.Acceptor.links g.A.Acceptor.next_faults g.A.Acceptor.done_faults in
     let trace = sink_shows g.K.Sink.name g.K.Sink.written g.K.Sink.faults in
-    let shows = worker_shows g.A.Acceptor.sessions g.A.Acceptor.links g.A.Acceptor.next_faults g.A.Acceptor.done_faults g.K.Sink.name g.K.Sink.written g.K.Sink.faults in
+    let shows = worker_shows g.A.Acceptor.opening g.A.Acceptor.sessions g.A.Acceptor.links g.A.Acceptor.next_faults g.A.Acceptor.done_faults g.P.DisplayPort.opening g.K.Sink.name g.K.Sink.written g.K.Sink.faults in
     let turns : c.server.result.now.turns ≡ plant.server.turns = ap (λ (server : Server). server.turns) c.server.ensures.server in
     let Serves = λ (turns : ℕ). PanelServed plant number turns c.serve_panel.result c.serve_panel.new.session c.in-Panel.panel.seat c.serve_panel.new.seat
     (acceptor c.in-Panel.panel.acceptor) (acceptor c.serve_panel.new.acceptor) (trace_of (trace c.in-Panel.panel.trace)) (trace_of (trace c.serve_panel.new.trace)) in
@@ -25,6 +25,7 @@ returns-in-Panel g c =
     }))) (sym c.in-Panel.is) (record {
       number = refl;
       named = refl;
+      kept = c.serve_panel.ensures.opening;
       name = c.serve_panel.ensures.trace_name;
       served = λ stands. subst Serves turns (c.serve_panel.ensures.served plant number stands);
     })

@@ -1,5 +1,6 @@
 use Rattle.std.proofs.Common.{◌≡◌, ◌+◌, ◌≤◌, ◌++◌, length, map, vec_capacity}
 use Rattle.std.specs.Vec.Iter.{into_iter_items, into_iter_len}
+use Rattle.ctl_net.specs.Net.{port_end}
 use Rattle.panel_server.specs.ServeInside.{crew, ends_from}
 use Rattle.panel_server.specs.Workers.{sink_shows, worker_shows}
 use Rattle.panel_server.proofs.workers.man.Given as goal
@@ -7,8 +8,9 @@ use Rattle.panel_server.proofs.workers.man.Given as goal
 -- The workers so far, and those that will be made of what is left, are all.
 abbrev pub invariant-loop-acceptor : goal.invariant-loop-acceptor
 invariant-loop-acceptor g l =
-    let shows = worker_shows g.A.Acceptor.sessions g.A.Acceptor.links g.A.Acceptor.next_faults g.A.Acceptor.done_faults g.K.Sink.name g.K.Sink.written g.K.Sink.faults in
-    let ends = ends_from g.A.Acceptor.sessions g.A.Acceptor.links g.A.Acceptor.next_faults g.A.Acceptor.done_faults in
+    let shows = worker_shows g.A.Acceptor.opening g.A.Acceptor.sessions g.A.Acceptor.links g.A.Acceptor.next_faults g.A.Acceptor.done_faults g.P.DisplayPort.opening g.K.Sink.name g.K.Sink.written g.K.Sink.faults in
+    let ends = ends_from g.A.Acceptor.opening g.A.Acceptor.sessions g.A.Acceptor.links g.A.Acceptor.next_faults g.A.Acceptor.done_faults in
+    let port = port_end (g.P.DisplayPort.opening l.fn.port) l.fn.port in
     let trace = sink_shows g.K.Sink.name g.K.Sink.written g.K.Sink.faults in
     record {
       counted : into_iter_len l.acceptors ≡ length (into_iter_items l.acceptors);
@@ -21,8 +23,8 @@ invariant-loop-acceptor g l =
       numbered : l.number + length (into_iter_items l.acceptors) ≡ length l.fn.acceptors.items;
       places : length l.workers.items + length (into_iter_items l.acceptors) + 1 ≤ vec_capacity l.workers;
       manned : map shows l.workers.items ++ crew l.number (into_iter_items l.sessions) (into_iter_items l.seats) (ends l.number (into_iter_items l.acceptors))
-          (map trace (into_iter_items l.traces)) l.fn.port
-          ≡ crew 0 l.fn.sessions.items l.fn.seats.items (ends 0 l.fn.acceptors.items) (map trace l.fn.traces.items) l.fn.port;
+          (map trace (into_iter_items l.traces)) port
+          ≡ crew 0 l.fn.sessions.items l.fn.seats.items (ends 0 l.fn.acceptors.items) (map trace l.fn.traces.items) port;
     }
 
 abbrev pub decreases-loop-acceptor : goal.decreases-loop-acceptor

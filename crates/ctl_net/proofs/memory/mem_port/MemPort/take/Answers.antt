@@ -23,4 +23,4 @@ invariant_of-self-2 c = record {
 
 pub returns-clause-after : goal.returns-clause-after
 returns-clause-after c =
-    after_done c.args.self.now c.args.packet.now _ _ _ (search rules) (search (rules, pieces c)) (search rules) (search rules)
+    after_done c.args.self.now c.args.packet.now _ _ _ _ (search rules) (search rules) (search (rules, pieces c)) (search rules) (search rules)
