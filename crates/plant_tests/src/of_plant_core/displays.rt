@@ -231,14 +231,14 @@ fn displays_are_told_until_all_is_finished(rt: HostRuntime) -> Result<(), Fail> 
     Ok(())
 }
 
-// A plant with 70 displays, of which each watches destination 0.
-fn many(alloc: Global) -> Result<Plant, Fail> {
+// A plant with so many displays of one screen, of which each watches destination 0.
+fn many(alloc: Global, count: u32) -> Result<Plant, Fail> {
     let mut text = String::from_str(
         alloc,
         "title = \"Many\"\n[[level]]\nmatrix = 0\nlevel = 0\nsources = 2\ndestinations = 1\n\
          [[panel]]\ndevice = 1\nport = 9001\n",
     )?;
-    for index in 0..70_u32 {
+    for index in 0..count {
         let display = format!(in alloc;
             "[[display]]\nscreen = 0\nindex = {index}\nmatrix = 0\ndestination = 0\n"
         )?;
@@ -259,8 +259,27 @@ fn are_counted(rt: &impl Abort, state: &mut PlantState, out: &mut OutBox<Answer>
 
 #[test]
 fn a_poll_tells_64_displays_at_most(rt: HostRuntime) -> Result<(), Fail> {
-    let plant = many(rt.alloc())?;
+    let plant = many(rt.alloc(), 70)?;
     let (mut state, mut out) = started(rt.alloc(), &plant)?;
     are_counted(&rt, &mut state, &mut out);
+    Ok(())
+}
+
+// Polls the screen so often.
+fn poll_often(rt: &impl Abort, state: &mut PlantState, out: &mut OutBox<Answer>, count: u32)
+    requires { room_of state.old.plant ≤ out.old.places }
+{
+    for _poll in 0..count {
+        ask(rt, state, out, &shows(false));
+    }
+}
+
+// If each poll looked at all displays of its screen, these would take minutes.
+#[test]
+fn a_poll_looks_at_displays_that_are_due(rt: HostRuntime) -> Result<(), Fail> {
+    let plant = many(rt.alloc(), 4096)?;
+    let (mut state, mut out) = started(rt.alloc(), &plant)?;
+    poll_often(&rt, &mut state, &mut out, 500_000);
+    assert!(rt; out.items().is_empty());
     Ok(())
 }
