@@ -12,6 +12,8 @@ const MOST_LOOKS: u32 = 1_000_000_000;
 pub(crate) struct HoldingGate {
     held: u32,
     awaited: u32,
+    // 1 once the held session has come to its start.
+    came: AtomicU64,
     // 1 once the awaited session is done.
     done: AtomicU64,
     // 1 once the held one has given up.
@@ -23,13 +25,18 @@ impl HoldingGate {
         HoldingGate {
             held,
             awaited,
+            came: AtomicU64::new(0),
             done: AtomicU64::new(0),
             gave_up: AtomicU64::new(0),
         }
     }
 
-    pub(crate) fn gave_up(&self) -> bool {
-        self.gave_up.load(Ordering::SeqCst) == 1
+    // Whether the held session came to its start and the awaited one to its end, which the held one saw: so they ran at the same
+    // time. A gate that nobody passes shows nothing.
+    pub(crate) fn shows_both(&self) -> bool {
+        self.came.load(Ordering::SeqCst) == 1
+            && self.done.load(Ordering::SeqCst) == 1
+            && self.gave_up.load(Ordering::SeqCst) == 0
     }
 
     fn hold(&self) {
@@ -47,6 +54,7 @@ impl Gate for HoldingGate {
         match point {
             GatePoint::Start(panel) => {
                 if panel == self.held {
+                    self.came.store(1, Ordering::SeqCst);
                     self.hold();
                 }
             }

@@ -1,6 +1,7 @@
 //! What no clause says of the workers that share a plant: what comes of them if a call outside fails.
 
 mod panels;
+mod pauses;
 mod plants;
 mod stadium;
 mod wires;

@@ -203,6 +203,8 @@ enum Work {
     Displays,
     /// Polls tell 70 displays.
     Polls,
+    /// A screen of which nothing differs is polled half a million times.
+    QuietPolls,
     /// A day on a pool that keeps ties.
     Day,
     /// Two connects in turn, two million times.
@@ -217,6 +219,7 @@ fn work_on(rt: &impl Abort, state: &mut PlantState, out: &mut OutBox<Answer>, wo
         Work::Large => large::is_filled_and_dumped(rt, state, out),
         Work::Displays => displays::are_told_until_finished(rt, state, out),
         Work::Polls => displays::are_counted(rt, state, out),
+        Work::QuietPolls => displays::are_quiet(rt, state, out, 500_000),
         Work::Day => day::passes(rt, state, out, 4_000),
         Work::Turns => long_runs::take_turns(rt, state, out, 2_000_000),
     }

@@ -217,8 +217,15 @@ fn by_two<R: Threads + Wait + Sync>(
 
 #[test]
 fn two_threads_call_and_whoever_sleeps_is_woken(rt: HostRuntime) -> Result<(), Fail> {
-    // How often each calls, how long a call takes, and how often all together are answered.
-    for (count, pause, all) in [(1000, 0, 2000), (50, 30_000, 100)] {
+    // How often each calls, how long a call takes, and how often all together are answered. If each calls once, whoever sleeps
+    // sleeps for the end of the only other turn.
+    for (count, pause, all) in [
+        (1000, 0, 2000),
+        (50, 30_000, 100),
+        (1, 1_000_000, 2),
+        (1, 1_000_000, 2),
+        (1, 1_000_000, 2),
+    ] {
         let answered = by_two(&rt, rt.alloc(), count, pause, true)?;
         assert!(rt; answered == (all, all, all));
     }

@@ -187,7 +187,6 @@ fn connect_all(
     connects: &[(u8, u16, u16)],
 )
     requires { room_of state.old.plant ≤ out.old.places }
-    ensures { room_of state.new.plant ≤ out.new.places }
 {
     for (level, dest, source) in connects.iter().copied() {
         ask(rt, state, out, &connect(level, dest, source));
@@ -197,7 +196,6 @@ fn connect_all(
 // The rows are told one after the other.
 fn are_told(rt: &impl Abort, state: &mut PlantState, out: &mut OutBox<Answer>)
     requires { room_of state.old.plant ≤ out.old.places }
-    ensures { room_of state.new.plant ≤ out.new.places }
 {
     for (connects, refresh, shown) in ROWS {
         connect_all(rt, state, out, connects);
@@ -239,14 +237,14 @@ fn displays_are_told_until_all_is_finished(rt: HostRuntime) -> Result<(), Fail> 
     is_worked(&rt, rt.alloc(), Some(STUDIO), Work::Displays)
 }
 
-// The file of a plant with 70 displays, of which each watches destination 0.
-fn many(alloc: Global) -> Result<String, AllocError> {
+// The file of a plant with so many displays of one screen, of which each watches destination 0.
+fn many(alloc: Global, count: u32) -> Result<String, AllocError> {
     let mut text = String::from_str(
         alloc,
         "title = \"Many\"\n[[level]]\nmatrix = 0\nlevel = 0\nsources = 2\ndestinations = 1\n\
          [[panel]]\ndevice = 1\nport = 9001\n",
     )?;
-    for index in 0..70_u32 {
+    for index in 0..count {
         let display = format!(in alloc;
             "[[display]]\nscreen = 0\nindex = {index}\nmatrix = 0\ndestination = 0\n"
         )?;
@@ -267,6 +265,35 @@ pub(super) fn are_counted(rt: &impl Abort, state: &mut PlantState, out: &mut Out
 
 #[test]
 fn a_poll_tells_64_displays_at_most(rt: HostRuntime) -> Result<(), Fail> {
-    let text = many(rt.alloc())?;
+    let text = many(rt.alloc(), 70)?;
     is_worked(&rt, rt.alloc(), Some(text.as_str()), Work::Polls)
+}
+
+// Polls a screen so often. After all of its displays were told, none is.
+pub(super) fn are_quiet(
+    rt: &impl Abort,
+    state: &mut PlantState,
+    out: &mut OutBox<Answer>,
+    count: u32,
+)
+    requires { room_of state.old.plant ≤ out.old.places }
+{
+    poll_often(rt, state, out, count);
+    assert!(rt; out.items().is_empty());
+}
+
+// Polls the screen so often.
+fn poll_often(rt: &impl Abort, state: &mut PlantState, out: &mut OutBox<Answer>, count: u32)
+    requires { room_of state.old.plant ≤ out.old.places }
+{
+    for _poll in 0..count {
+        ask(rt, state, out, &shows(false));
+    }
+}
+
+// If each poll looked at all displays of its screen, these would take minutes.
+#[test]
+fn a_poll_looks_at_displays_that_are_due(rt: HostRuntime) -> Result<(), Fail> {
+    let text = many(rt.alloc(), 4096)?;
+    is_worked(&rt, rt.alloc(), Some(text.as_str()), Work::QuietPolls)
 }

@@ -6,7 +6,9 @@ use ctl_net::{DisplayPort, MemPort, Sent, UdpPort};
 use std::io;
 use std::net::UdpSocket;
 use std::process::Abort;
+use std::sync::atomic::{AtomicU64, Ordering};
 use std::test::Fail;
+use std::time::{Clock, Duration};
 
 // Packets, and what is answered to each. The second send fails, and the last packet has no room.
 const PACKETS: &[(&[u8], Sent)] = &[
@@ -42,7 +44,7 @@ fn connected(rt: &HostRuntime) -> io::Result<(UdpSocket, UdpSocket)> {
 }
 
 // Whether a packet comes to a display as it is, and alone.
-fn comes(port: &mut UdpPort<HostRuntime>, display: &UdpSocket, packet: &[u8]) -> bool
+fn comes<R: Clock + Send>(port: &mut UdpPort<R>, display: &UdpSocket, packet: &[u8]) -> bool
     requires { 0 < length packet.now }
 {
     let mut into = [0; 8];
@@ -52,11 +54,36 @@ fn comes(port: &mut UdpPort<HostRuntime>, display: &UdpSocket, packet: &[u8]) ->
     sent && came && into.starts_with(packet)
 }
 
+// A clock by which nobody sleeps, and which counts the milliseconds that somebody was to.
+#[derive(Drop)]
+struct Unslept {
+    millis: AtomicU64,
+}
+
+impl Clock for Unslept {
+    fn monotonic(&self) -> io::Result<Duration> {
+        Ok(Duration::from_millis(0))
+    }
+
+    fn since_1970(&self) -> io::Result<Duration> {
+        Ok(Duration::from_millis(0))
+    }
+
+    fn sleep(&self, duration: Duration) {
+        let millis = u64::try_from(duration.as_millis()).unwrap_or(u64::MAX);
+        self.millis.fetch_add(millis, Ordering::SeqCst);
+    }
+}
+
+// Each packet goes as one datagram, and the pause behind each is of 20 milliseconds.
 #[test]
 fn a_packet_goes_as_one_datagram(rt: HostRuntime) -> Result<(), Fail> {
     let (display, socket) = connected(&rt)?;
-    let mut port = UdpPort::new(rt.clone()?, socket, None);
+    let clock = Unslept {
+        millis: AtomicU64::new(0),
+    };
+    let mut port = UdpPort::new(&clock, socket, None);
     assert!(rt; comes(&mut port, &display, b"abc") && comes(&mut port, &display, b"de"));
-    assert!(rt; port.faults() == 0);
+    assert!(rt; port.faults() == 0 && clock.millis.load(Ordering::SeqCst) == 40);
     Ok(())
 }
