@@ -25,11 +25,6 @@ use Rattle.commands.proofs.HeldLemmas.{if_held}
 use Rattle.commands.proofs.FilesLemmas.{one_well, one_last}
 use Rattle.commands.proofs.StopLemmas.{says-front}
 
--- a choice by a test that is known to be true
-match_true : (P Q : Type 0) (b : Bool) → b ≡ true → P → MatchBool b P Q
-match_true P Q true is p = p
-match_true P Q false is p = absurd (false≢true is)
-
 -- a choice by a test that is known to be false
 match_false : (P Q : Type 0) (b : Bool) → b ≡ false → Q → MatchBool b P Q
 match_false P Q true is q = absurd (false≢true (sym is))

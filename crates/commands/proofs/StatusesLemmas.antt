@@ -1,5 +1,5 @@
 -- What the end of a run tells by its status.
-use Rattle.std.proofs.Common.{◌≡◌, ◌⊎◌, inl, inr, ℕ, Bool, true, false, List, Ok, Err, refl, ◌∙◌, ap, subst, arith}
+use Rattle.std.proofs.Common.{◌≡◌, ◌⊎◌, inl, inr, ℕ, Bool, true, false, List, Some, Ok, Err, refl, ◌∙◌, ap, subst, arith}
 use Rattle.std.specs.Prelude.{MatchBool}
 use Rattle.ctl_io.specs.Sink.{appended}
 use Rattle.ctl_io.specs.Held.{Held, MayBeHere}
@@ -12,9 +12,9 @@ use Rattle.trace_audit.specs.declared.verdict.Verdict.TheVariants.{Confirmed, Ba
 use Rattle.commands.specs.World.{World}
 use Rattle.commands.specs.End.{End, Done, NoMemory, Usage, FileMissing, FileFault, PlantRefused, PlantTooLong, LineRefused, ScriptTooLong, Audited, TraceTooLong, StreamTooLong, StreamFailed, status_of, end_text, verdict_line}
 use Rattle.commands.specs.Lines.{no_memory, usage, plant_refused, plant_too_long}
-use Rattle.command_words.specs.Words.{Command, Check, Audit, Stream, Monitor, plant_word, Ask, HasNoForm}
+use Rattle.command_words.specs.Words.{Command, Check, Replay, Audit, Stream, Monitor, plant_word, Ask, HasNoForm}
 use Rattle.commands.specs.OpensPlant.{is_bench, OpensBench, OpensFile, OpensPlant, Reads}
-use Rattle.commands.specs.Asked.{AskFile, PlantMayBeHere}
+use Rattle.commands.specs.Asked.{AskFile, FirstMayBeHere, PlantMayBeHere}
 use Rattle.commands.specs.Run.{RunHasCause, CommandEnds, IsWritten, RunEnds}
 use Rattle.commands.specs.Outcomes.{WasChecked, WasReplayed, WereAudited, WasTold, RanOutOfMemory, HadPlantFault, WasTooLong}
 use Rattle.commands.proofs.HeldLemmas.{if_held}
@@ -28,16 +28,16 @@ pub nowhere : (word : List ℕ) (held : Held) (end : End) → (OpensBench (Err e
 nowhere word held end no_bench no_file opens = no_file (opened_file word held end no_bench opens).1
 
 -- the plant file that a command asks for, where its word leads to an end of its own
-pub file_asked : (words : List (List ℕ)) (command : Command) → Ask words command → is_bench (plant_word command) ≡ false → AskFile words (plant_word command)
-file_asked words command ask is = record { command = command; ask = ask; name_is = refl; is_file = is }
+pub file_asked : (words : List (List ℕ)) (command : Command) (word : List ℕ) → plant_word command ≡ Some word → Ask words command → is_bench word ≡ false → AskFile words word
+file_asked words command word has ask is = record { command = command; ask = ask; name_is = has; is_file = is }
 
 -- an audit's verdict
 
 pub audited_at : (words : List (List ℕ)) (before now : World) (verdict : Verdict) → Came words before (Audited verdict) → now.written ≡ appended before.written (verdict_line verdict)
     → WereAudited words before now verdict
 audited_at words before now verdict (at_words ends) appends = absurd ends
-audited_at words before now verdict (at_plant command ask opens) appends =
-    absurd (nowhere (plant_word command) (before.held (plant_word command) 0) (Audited verdict) (λ h. h) (λ h. h) opens)
+audited_at words before now verdict (at_plant command word has ask opens) appends =
+    absurd (nowhere word (before.held word 0) (Audited verdict) (λ h. h) (λ h. h) opens)
 audited_at words before now verdict (in_check plant asks ends) appends = absurd ends
 audited_at words before now verdict (in_replay plant name held asks ends) appends = absurd ends
 audited_at words before now verdict (in_audit plant files asks ends) appends = record { plant = plant; files = files; asks = asks; have = ends; appends = appends }
@@ -52,8 +52,8 @@ WasDone words before now = WasChecked words before now ⊎ WasReplayed words bef
 
 done_at : (words : List (List ℕ)) (before now : World) (output : List ℕ) → Came words before (Done output) → now.written ≡ appended before.written output → WasDone words before now
 done_at words before now output (at_words ends) appends = absurd ends
-done_at words before now output (at_plant command ask opens) appends =
-    absurd (nowhere (plant_word command) (before.held (plant_word command) 0) (Done output) (λ h. h) (λ h. h) opens)
+done_at words before now output (at_plant command word has ask opens) appends =
+    absurd (nowhere word (before.held word 0) (Done output) (λ h. h) (λ h. h) opens)
 done_at words before now output (in_check plant asks ends) appends = inl (record { plant = plant; asks = asks; appends = appends ∙ ap (appended before.written) ends })
 done_at words before now output (in_replay plant name held asks ends) appends = inr (inl (record {
   plant = plant;
@@ -119,11 +119,19 @@ led word held plant leads = elim (either (plant ≡ bench) (Reads held (Ok plant
 ]
 
 -- a command that ran out of memory may have found its plant
-memory_there : (command : Command) (before : World) → CommandEnds command before NoMemory → PlantMayBeHere before (plant_word command)
-memory_there command before ends = elim (command_opens command before NoMemory ends) [
-  | inl opens ↦ either (OpensBench (Err NoMemory)) (MayBeHere (before.held (plant_word command) 0)) (is_bench (plant_word command)) opens
-  | inr leads ↦ led (plant_word command) (before.held (plant_word command) 0) leads.0 leads.1
+plant_there : (command : Command) (word : List ℕ) (before : World) → plant_word command ≡ Some word → CommandEnds command before NoMemory → PlantMayBeHere before word
+plant_there command word before has ends = elim (command_opens command word before NoMemory has ends) [
+  | inl opens ↦ either (OpensBench (Err NoMemory)) (MayBeHere (before.held word 0)) (is_bench word) opens
+  | inr leads ↦ led word (before.held word 0) leads.0 leads.1
 ]
+
+-- it may have found the file that it opens first
+memory_there : (command : Command) (before : World) → CommandEnds command before NoMemory → FirstMayBeHere before command
+memory_there (Check word) before ends = plant_there (Check word) word before refl ends
+memory_there (Replay word name) before ends = plant_there (Replay word name) word before refl ends
+memory_there (Audit word traces) before ends = plant_there (Audit word traces) word before refl ends
+memory_there (Stream word name made) before ends = plant_there (Stream word name made) word before refl ends
+memory_there (Monitor name) before ends = ends
 
 memory_at : {status : ℕ} (words : List (List ℕ)) (before now : World) → RunHasCause words before now NoMemory status → now.written ≡ appended before.written no_memory → RanOutOfMemory words before now
 memory_at words before now (inl at) appends = record { command = at.ends.0; ask = at.ends.1; there = inl at.files; appends = appends }
@@ -169,7 +177,7 @@ usage_of (StreamFailed failed' output') is = absurd (omega arith)
 
 usage_at : (words : List (List ℕ)) (before : World) → Came words before Usage → HasNoForm words
 usage_at words before (at_words none) = none
-usage_at words before (at_plant command ask opens) = absurd (nowhere (plant_word command) (before.held (plant_word command) 0) Usage (λ h. h) (λ h. h) opens)
+usage_at words before (at_plant command word has ask opens) = absurd (nowhere word (before.held word 0) Usage (λ h. h) (λ h. h) opens)
 usage_at words before (in_check plant asks ends) = absurd ends
 usage_at words before (in_replay plant name held asks ends) = absurd ends
 usage_at words before (in_audit plant files asks ends) = absurd ends
@@ -189,7 +197,7 @@ usage_line words before now run =
 -- words without a form end at them
 no_form_end : (words : List (List ℕ)) (before : World) (end : End) → HasNoForm words → Came words before end → end ≡ Usage
 no_form_end words before end none (at_words ends) = formless_end words end none ends
-no_form_end words before end none (at_plant command ask opens) = absurd (none command ask)
+no_form_end words before end none (at_plant command word has ask opens) = absurd (none command ask)
 no_form_end words before end none (in_check plant asks ends) = absurd (none (Check asks.word) asks.ask)
 no_form_end words before end none (in_replay plant name held asks ends) =
     let command = script_command words asks.word name asks.ask in
@@ -209,9 +217,9 @@ usage_always words before now status none run = elim (status_or_7 run.end before
 plant_fault_at : (words : List (List ℕ)) (before now : World) (fault : PlantFault) → Came words before (PlantRefused fault) → now.written ≡ appended before.written (plant_refused (fault_text fault))
     → HadPlantFault words before now
 plant_fault_at words before now fault (at_words ends) appends = absurd ends
-plant_fault_at words before now fault (at_plant command ask opens) appends =
-    let o = opened_file (plant_word command) (before.held (plant_word command) 0) (PlantRefused fault) (λ h. h) opens in
-    record { name = plant_word command; asks = file_asked words command ask o.0; fault = fault; reads = o.1; appends = appends }
+plant_fault_at words before now fault (at_plant command word has ask opens) appends =
+    let o = opened_file word (before.held word 0) (PlantRefused fault) (λ h. h) opens in
+    record { name = word; asks = file_asked words command word has ask o.0; fault = fault; reads = o.1; appends = appends }
 plant_fault_at words before now fault (in_check plant asks ends) appends = absurd ends
 plant_fault_at words before now fault (in_replay plant script held asks ends) appends = absurd ends
 plant_fault_at words before now fault (in_audit plant files asks ends) appends = absurd ends
@@ -220,9 +228,9 @@ plant_fault_at words before now fault (in_monitor name held asks ends) appends =
 
 too_long_at : (words : List (List ℕ)) (before now : World) → Came words before PlantTooLong → now.written ≡ appended before.written plant_too_long → WasTooLong words before now
 too_long_at words before now (at_words ends) appends = absurd ends
-too_long_at words before now (at_plant command ask opens) appends =
-    let o = opened_file (plant_word command) (before.held (plant_word command) 0) PlantTooLong (λ h. h) opens in
-    record { name = plant_word command; asks = file_asked words command ask o.0; too_long = o.1; appends = appends }
+too_long_at words before now (at_plant command word has ask opens) appends =
+    let o = opened_file word (before.held word 0) PlantTooLong (λ h. h) opens in
+    record { name = word; asks = file_asked words command word has ask o.0; too_long = o.1; appends = appends }
 too_long_at words before now (in_check plant asks ends) appends = absurd ends
 too_long_at words before now (in_replay plant script held asks ends) appends = absurd ends
 too_long_at words before now (in_audit plant files asks ends) appends = absurd ends

@@ -26,8 +26,8 @@ use Rattle.commands.proofs.ShownLemmas.{FilesAreRight, shown}
 audited_of : (words : List (List ℕ)) (before now : World) (end : End) (plant : PlantData) (files : List TraceFile) → AskTraces words before plant files
     → now.file_faults ≡ count_after (is_file_fault end) before.file_faults → Came words before end → AuditEnds plant files end ⊎ WasKept before now (status_of end)
 audited_of words before now end plant files asks count (at_words ends) = inr (inl (ap status_of (asked_end words end (Audit asks.word asks.traces) asks.ask ends)))
-audited_of words before now end plant files asks count (at_plant command ask opens) =
-    inr (kept_at_word words before now end asks.word plant (Audit asks.word asks.traces) command refl asks.ask ask asks.shows count opens)
+audited_of words before now end plant files asks count (at_plant command own has ask opens) =
+    inr (kept_at_word words before now end asks.word plant (Audit asks.word asks.traces) command own refl has asks.ask ask asks.shows count opens)
 audited_of words before now end plant files asks count (in_check plant' by ends) = no_audit words asks.word by.word asks.traces asks.ask by.ask
 audited_of words before now end plant files asks count (in_replay plant' name held by ends) = no_replay words asks.word by.word asks.traces name asks.ask by.ask
 audited_of words before now end plant files asks count (in_audit plant' files' by ends) =
