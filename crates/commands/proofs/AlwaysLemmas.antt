@@ -89,7 +89,7 @@ refused_file name text before now TraceTooLong refused count opens = absurd open
 refused_file name text before now StreamTooLong refused count opens = absurd opens
 refused_file name text before now (StreamFailed failed' output') refused count opens = absurd opens
 
-no_plant_of : (text : List ℕ) (plant : PlantData) → IsRefusedPlant text → length text ≤ longest_plant → plant_of_text text ≡ Ok plant → ⊥
+pub no_plant_of : (text : List ℕ) (plant : PlantData) → IsRefusedPlant text → length text ≤ longest_plant → plant_of_text text ≡ Ok plant → ⊥
 no_plant_of text plant (inl long) within is = omega arith
 no_plant_of text plant (inr fault) within is = let clash = sym fault.1 ∙ is in cc
 

@@ -107,12 +107,12 @@ done words before now run =
 
 -- status 1
 
-either : (P Q : Type 0) (b : Bool) → MatchBool b P Q → (b ≡ true) ⊎ Q
+pub either : (P Q : Type 0) (b : Bool) → MatchBool b P Q → (b ≡ true) ⊎ Q
 either P Q true chosen = inl refl
 either P Q false chosen = inr chosen
 
 -- a plant's word that leads to a plant is that of the bench plant, or its file may be there
-led : (word : List ℕ) (held : Held) (plant : PlantData) → OpensPlant word held (Ok plant) → (is_bench word ≡ true) ⊎ MayBeHere held
+pub led : (word : List ℕ) (held : Held) (plant : PlantData) → OpensPlant word held (Ok plant) → (is_bench word ≡ true) ⊎ MayBeHere held
 led word held plant leads = elim (either (plant ≡ bench) (Reads held (Ok plant)) (is_bench word) leads) [
   | inl is ↦ inl is
   | inr reads ↦ inr (if_held held (λ bytes h. tt) reads)
