@@ -14,9 +14,9 @@ use Rattle.panel_session.specs.Acting.{IsInPlace}
 use Rattle.panel_session.specs.Entry.{PlantEntry}
 use Rattle.panel_session.specs.Served.{AnsweredButLast, PlantSeat, full_after, mark_after, own_lines}
 use Rattle.panel_session.specs.ServedInside.{Outside, HasBrokenOff, HasGoneOn, KeepsAnswered, outside}
-use Rattle.panel_session.specs.SoFar.{Progress, entries_so_far, with_bytes, with_entry, with_sent}
+use Rattle.panel_session.specs.SoFar.{Progress, entries_so_far, read_so_far, with_bytes, with_entry, with_sent}
 use Rattle.panel_session.specs.TraceLine.{trace_line}
-use Rattle.panel_session.proofs.AnsweredLemmas.{answered_front}
+use Rattle.panel_session.proofs.AnsweredLemmas.{answered_bytes, answered_front}
 use Rattle.panel_session.proofs.GoneOnLemmas.{SeesOwn, appended-both, appended-none, entries-more, lines-behind, mark-both, own-behind, sees_both, sees_none}
 
 -- The mark of a seat where it ended so.
@@ -37,7 +37,7 @@ broken_both plant end a b c p q r one other =
     let behind = lines-behind plant a.seat b.seat one.new other.new one.sees in
     let sent : q.sent ++ other.bytes ≡ p.sent ++ (one.sent ++ other.bytes) = ap (λ (sent : List ℕ). sent ++ other.bytes) one.sent_is ∙ append_assoc p.sent one.sent other.bytes in
     let Front : List ℕ → Type 0 = λ bytes. IsPrefix bytes r.sent in
-    let Answered : List ℕ → Type 0 = λ bytes. AnsweredButLast (entries_so_far r) bytes in
+    let Answered : List ℕ → Type 0 = λ bytes. AnsweredButLast plant (read_so_far r) (entries_so_far r) bytes in
     record {
       new = one.new ++ other.new;
       sees = sees_both plant a.seat b.seat c.seat one.new other.new one.sees other.sees;
@@ -67,7 +67,7 @@ broken_sent plant seat written written_then traced past bytes used keeps part =
       entries = sym (append-nil (entries_so_far past));
       bytes = front;
       front = (drop part.count bytes, append_assoc past.sent front (drop part.count bytes) ∙ ap (λ (bytes : List ℕ). past.sent ++ bytes) (take-append-drop part.count bytes));
-      answered = answered_front (entries_so_far past) past.sent (past.sent ++ front) (front, refl) keeps.sent;
+      answered = answered_front plant (read_so_far (with_bytes used past)) (entries_so_far past) past.sent (past.sent ++ front) (front, refl) (answered_bytes plant past used keeps);
       written = part.appends;
       lines = [];
       traced = sym (appended-none traced);
@@ -88,7 +88,7 @@ broken_asked plant past bytes request answers number used piece seat seat_then w
       entries = entries-more (with_bytes bytes past) request used piece seat.number answers place ∙ ap (λ (entries : List PlantEntry). entries_so_far past ++ entries) (sym sees.own);
       bytes = [];
       front = ([], append-nil (past.sent ++ []) ∙ append-nil past.sent);
-      answered = answered_front (entries_so_far (with_entry (asked_by seat request answers) (with_bytes bytes past))) past.sent (past.sent ++ []) ([], refl) keeps.sent;
+      answered = answered_front plant (read_so_far (with_entry (asked_by seat request answers) (with_bytes bytes past))) (entries_so_far (with_entry (asked_by seat request answers) (with_bytes bytes past))) past.sent (past.sent ++ []) ([], refl) keeps;
       written = sym (appended-none written);
       lines = take part.count line;
       traced = part.appends;
@@ -117,7 +117,7 @@ broken_full plant past used seat seat_then written traced traced_then found same
       entries = sym (append-nil (entries_so_far past));
       bytes = [];
       front = ([], append-nil (past.sent ++ []) ∙ append-nil past.sent);
-      answered = answered_front (entries_so_far past) past.sent (past.sent ++ []) ([], refl) keeps.sent;
+      answered = answered_front plant (read_so_far (with_bytes used past)) (entries_so_far past) past.sent (past.sent ++ []) ([], refl) (answered_bytes plant past used keeps);
       written = sym (appended-none written);
       lines = [];
       traced = same ∙ sym (appended-none traced);

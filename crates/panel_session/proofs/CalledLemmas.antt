@@ -27,7 +27,6 @@ use Rattle.panel_session.specs.Session.{Awaits, AsksAt, TakesAnswers, kept_of, o
 use Rattle.panel_session.specs.SoFar.{Progress}
 use Rattle.panel_session.specs.StandsInside.{Kept}
 use Rattle.panel_session.specs.TraceLine.{MayReply}
-use Rattle.panel_session.proofs.AnsweredLemmas.{says_answers}
 use Rattle.panel_session.proofs.SessionLemmas.{awaits_with}
 
 -- What a seat was answered can be sent,
@@ -85,5 +84,4 @@ lock_gave plant panel session past request box number session_then seat seat_the
       own = own;
       rest = rest;
       stands = (subst Taken asks takes) plant panel seat.number past waits few;
-      says = says_answers plant panel seat.number session past request answers awaits few;
     }

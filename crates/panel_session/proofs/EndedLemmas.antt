@@ -21,13 +21,14 @@ use Rattle.panel_session.specs.SoFar.{Progress, FitsOn, IsSoFar, entries_so_far,
 use Rattle.panel_session.specs.Text.{IsText}
 use Rattle.panel_session.specs.Turns.{FitsReads, Turn, bytes_read, entries_of_turns}
 use Rattle.panel_session.proofs.ActsLemmas.{stands_so_far_lem}
+use Rattle.panel_session.proofs.AnsweredLemmas.{answered_more}
 use Rattle.panel_session.proofs.FitsOnLemmas.{stands_fit}
 use Rattle.panel_session.proofs.BrokenOffLemmas.{broken_both}
 use Rattle.panel_session.proofs.IdleLemmas.{StaysBelow, below_last}
 use Rattle.panel_session.proofs.TextFronts.{text_front}
 use Rattle.panel_session.proofs.TurnsFit.{turns_fit_lem}
 use Rattle.panel_session.proofs.ReadsLemmas.{idles_both, read-more, read-pieces, taken_both, told_both}
-use Rattle.panel_session.proofs.TurnedLemmas.{turned_entries}
+use Rattle.panel_session.proofs.TurnedLemmas.{turned_entries, turned_read}
 
 -- Of an end that didn't cut it short no write failed, and the mark is that of the calls.
 pub record IsUncut (end : SessionEnd) : Type 0 where
@@ -107,8 +108,9 @@ module _ {plant : PlantData} {panel : ℕ} where
       let TextIn : List PlantEntry → Type 0 = λ entries. IsText plant (items (all_read reads)) entries past.sent in
       let TextIs : List ℕ → Type 0 = λ bytes. IsText plant (items (all_read reads)) entries bytes in
       let text = subst TextIs t.gone.sent_is (subst TextIn of_turns (subst TextOf (read-pieces past.turns ∙ ap all_read t.pieces) t.text)) in
-      let AnsweredOf : List PlantEntry → Type 0 = λ entries. AnsweredButLast entries past.sent in
-      let AnsweredIn : List ℕ → Type 0 = λ bytes. AnsweredButLast entries bytes in
+      let AnsweredTo : List ℕ → Type 0 = λ read. AnsweredButLast plant read (entries_so_far past) past.sent in
+      let AnsweredOf : List PlantEntry → Type 0 = λ entries. AnsweredButLast plant (all_read reads) entries past.sent in
+      let AnsweredIn : List ℕ → Type 0 = λ bytes. AnsweredButLast plant (all_read reads) entries bytes in
       let Taken : Option (List ℕ) → Type 0 = λ left. AreTaken (all_read reads) link.read_half.left left in
       let Cause : Option (List ℕ) → Type 0 = λ left. HasCause end turns plant.server.idle_limit reads left in
       record {
@@ -127,7 +129,7 @@ module _ {plant : PlantData} {panel : ℕ} where
         fits = (λ _. fit, ([], subst FitEntries (sym (append-nil entries)) fit));
         written = ap (λ (link : LinkEnd). link.written) ended ∙ t.gone.written;
         says = (t.gone.sent, text, front_self t.gone.sent, λ _. refl);
-        answered = subst AnsweredIn t.gone.sent_is (subst AnsweredOf t.gone.entries t.answered.sent);
+        answered = subst AnsweredIn t.gone.sent_is (subst AnsweredOf t.gone.entries (subst AnsweredTo (turned_read t) t.answered));
         traced = t.gone.traced;
         traces = (front_self lines, λ _. refl);
         cause = subst Cause (sym left) cause;
@@ -174,7 +176,8 @@ module _ {plant : PlantData} {panel : ℕ} where
       ∙ sym (read-more reads piece) in
       let TextOf : List ℕ → Type 0 = λ read. IsText plant (items read) (entries_so_far now) whole.0 in
       let TextIn : List PlantEntry → Type 0 = λ entries. IsText plant (items (all_read all)) entries whole.0 in
-      let AnsweredOf : List PlantEntry → Type 0 = λ entries. AnsweredButLast entries b.bytes in
+      let AnsweredTo : List ℕ → Type 0 = λ read. AnsweredButLast plant read (entries_so_far now) b.bytes in
+      let AnsweredOf : List PlantEntry → Type 0 = λ entries. AnsweredButLast plant (all_read all) entries b.bytes in
       let Taken : List ℕ → Type 0 = λ bytes. AreTaken bytes link.read_half.left link_read.read_half.left in
       let TakenOf : ReadHalf → Type 0 = λ half. AreTaken (all_read all) link.read_half.left half.left in
       record {
@@ -198,7 +201,7 @@ module _ {plant : PlantData} {panel : ℕ} where
           front_trans b.bytes so_far.text whole.0 (front_trans b.bytes now.sent so_far.text b.front so_far.sent) whole.2,
           λ whole. absurd (not_whole whole),
         );
-        answered = subst AnsweredOf b.entries b.answered;
+        answered = subst AnsweredOf b.entries (subst AnsweredTo read (answered_more plant (read_so_far now) s.rest (entries_so_far now) b.bytes b.answered));
         traced = b.traced;
         traces = b.traces;
         cause = is.cause turns plant.server.idle_limit all link_then.read_half.left some;

@@ -15,12 +15,12 @@ use Rattle.panel_session.specs.declared.session.Session.{Session}
 use Rattle.panel_session.specs.Acting.{Acts, IsInPlace, MayGoOn}
 use Rattle.panel_session.specs.Run.{turned}
 use Rattle.panel_session.specs.Served.{PlantSeat, was_cut, write_failed_at}
-use Rattle.panel_session.specs.ServedInside.{Outside, EndsAtRequest, HasServed, IsTraced, IsGiven, IsServing, KeepsAnswered, WasStopped, outside}
+use Rattle.panel_session.specs.ServedInside.{Outside, EndsAtRequest, HasServed, IsTraced, IsServing, KeepsAnswered, WasStopped, outside}
 use Rattle.panel_session.specs.Session.{StandsFor}
 use Rattle.panel_session.specs.SoFar.{Progress, entries_so_far, read_so_far, unstarted, with_bytes, with_entry, with_sent}
 use Rattle.panel_session.specs.Text.{IsText}
 use Rattle.panel_session.specs.Turns.{Turn, bytes_read, entries_in, entries_of_turns}
-use Rattle.panel_session.proofs.AnsweredLemmas.{answered_bytes, answered_entry, answered_same, answered_sent}
+use Rattle.panel_session.proofs.AnsweredLemmas.{answered_bytes, answered_entry, answered_same, answered_sent, awaits_counted}
 use Rattle.panel_session.proofs.BrokenOffLemmas.{broken_asked, broken_both, broken_full, broken_sent}
 use Rattle.panel_session.proofs.GoneOnLemmas.{appended-none, entries-more, gone_asked, gone_both, gone_sent, sees_none, sees_own}
 use Rattle.panel_session.proofs.KeptTurnLemmas.{bytes_of-append, entries_of-append}
@@ -55,15 +55,15 @@ ends_cut IdleOut plant panel past request session seat seat_then traced traced_t
 ends_cut Spent plant panel past request session seat seat_then traced traced_then ends = absurd ends
 ends_cut Full plant panel past request session seat seat_then traced traced_then ends = (refl, refl)
 
--- once a request was answered, all entries but the last are in what was sent
-given_answered : (plant : PlantData) (panel : ℕ) (now : Progress) (rest : List ℕ) {session_then : Session} {seat seat_then : PlantSeat} (used : ℕ) (request : Request) (answers : List Answer) (number : ℕ)
-    → KeepsAnswered plant now → IsInPlace (with_bytes (take used rest) now) request used rest
-    → IsText plant (items (read_so_far (with_bytes (take used rest) now))) (entries_so_far (with_bytes (take used rest) now)) now.sent
-    → IsGiven plant panel (with_bytes (take used rest) now) request answers number session_then seat seat_then
-    → KeepsAnswered plant (with_entry (asked_by seat request answers) (with_bytes (take used rest) now))
-given_answered plant panel now rest {seat = seat} used request answers number keeps place text given =
+-- once a request was answered, all was sent that there was to say when it was asked
+given_answered : (plant : PlantData) (panel : ℕ) (now : Progress) (rest : List ℕ) (used seat : ℕ) (request : Request) (answers : List Answer) (asking : Session)
+    → Acts plant panel (with_bytes (take used rest) now) rest used (Ask request) asking
+    → KeepsAnswered plant (with_entry (record { seat = seat; request = request; answers = answers }) (with_bytes (take used rest) now))
+given_answered plant panel now rest used seat request answers asking acts =
     let used_now = with_bytes (take used rest) now in
-    answered_entry plant (asked_by seat request answers) used_now (entries-more used_now request used rest seat.number answers place) text given.says (answered_bytes plant now (take used rest) keeps)
+    answered_entry plant (record { seat = seat; request = request; answers = answers }) used_now
+    (entries-more used_now request used rest seat answers acts.3) (asked_piece request seat answers used_now)
+    (awaits_counted plant panel asking used_now request acts.0) acts.4
 
 module _ {plant : PlantData} {panel : ℕ} {past : Progress} {piece : List ℕ} where
   -- A turn begins.
@@ -154,7 +154,7 @@ module _ {plant : PlantData} {panel : ℕ} {past : Progress} {piece : List ℕ} 
             (gone_asked plant w.now (take used rest) request asked.answers asked.number used rest seat seat_then written traced traced_then acts.3
             (sees_own plant panel used_now request asked.answers asked.number after seat seat_then asked.given) asked.line);
         stands = asked.given.stands;
-        answered = given_answered plant panel w.now rest used request asked.answers asked.number w.answered acts.3 acts.4 asked.given;
+        answered = given_answered plant panel w.now rest used seat.number request asked.answers asking acts;
         turns = w.turns;
         piece_is = ap (λ (front : List ℕ). front ++ left) (asked_piece request seat.number asked.answers used_now)
             ∙ ap (λ (left : List ℕ). (w.now.now.piece ++ take used rest) ++ left) is
@@ -181,7 +181,7 @@ module _ {plant : PlantData} {panel : ℕ} {past : Progress} {piece : List ℕ} 
         broken = broken_both plant TraceFault begun (outside seat written traced) (outside seat_then written traced_then) past w.now now w.gone
             (broken_asked plant w.now (take used rest) request ends.answers ends.number used rest seat seat_then written traced traced_then acts.3
             (sees_own plant panel used_now request ends.answers ends.number after seat seat_then ends.given) ends.part
-            (given_answered plant panel w.now rest used request ends.answers ends.number w.answered acts.3 acts.4 ends.given));
+            (given_answered plant panel w.now rest used seat.number request ends.answers asking acts));
         left = inl ends.given.stands;
         turns = w.turns;
         piece_is = ap (λ (front : List ℕ). front ++ drop used rest) (asked_piece request seat.number ends.answers used_now) ∙ more_used piece w.now.now.piece rest used w.piece_is;

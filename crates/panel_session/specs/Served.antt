@@ -8,6 +8,7 @@ use Rattle.ctl_io.specs.ReadHalf.{ReadHalf, Reading}
 use Rattle.ctl_io.specs.Sink.{appended}
 use Rattle.ctl_io.specs.Source.{IsAtEnd}
 use Rattle.ctl_net.specs.Acceptor.{LinkEnd, link_end}
+use Rattle.dle_framing.specs.declared.item.Item.{Item}
 use Rattle.dle_framing.specs.Items.{items}
 use Rattle.history_lock.specs.History.{entries_of, IsLegal}
 use Rattle.history_lock.specs.Locks.{LockData}
@@ -18,14 +19,14 @@ use Rattle.plant_core.specs.State.{State, start, Fits as Takes}
 use Rattle.plant_core.specs.Step.{step}
 use Rattle.plant_core.specs.declared.answer.Answer.{Answer}
 use Rattle.plant_core.specs.declared.request.Request.{Request}
+use Rattle.plant_core.specs.declared.request.Request.TheVariants.{Told, Poll, Leave, DisplayPoll}
 use Rattle.panel_session.specs.declared.serve.SessionEnd.{SessionEnd}
 use Rattle.panel_session.specs.declared.serve.SessionEnd.TheVariants.{Ended, ReadFault, WriteFault, TraceFault, IdleOut, Spent, Full}
 use Rattle.panel_session.specs.declared.session.Session.{Session}
 use Rattle.panel_session.specs.Entry.{PlantEntry}
-use Rattle.panel_session.specs.OneSend.{bytes_in}
 use Rattle.panel_session.specs.Session.{StandsFor, Awaits}
 use Rattle.panel_session.specs.SoFar.{Progress, nothing_yet, unstarted}
-use Rattle.panel_session.specs.Text.{IsText, frames_of}
+use Rattle.panel_session.specs.Text.{IsText}
 use Rattle.panel_session.specs.TraceLine.{trace_line}
 use Rattle.panel_session.specs.Turns.{FitsReads}
 
@@ -71,18 +72,29 @@ own_lines plant seat position (entry ∷ later) =
     (if entry.seat == seat then trace_line plant position entry.request entry.answers else [])
     ++ own_lines plant seat (position + 1) later
 
--- These bytes stand among others.
-abbrev pub StandsIn : List ℕ → List ℕ → Type 0
-StandsIn bytes all = (front : List ℕ) × (rest : List ℕ) × (all ≡ front ++ (bytes ++ rest))
+-- how many items a session had read when it asked this: for a message those before it and its own, for a poll all of them
+abbrev pub items_before : Request → ℕ
+items_before (Told panel item message) = item + 1
+items_before (Poll panel item turn) = item
+items_before (Leave panel) = 0
+items_before (DisplayPoll screen refresh) = 0
 
--- The frames of all answers of an entry stand among the bytes.
-abbrev pub IsAnsweredIn : List ℕ → PlantEntry → Type 0
-IsAnsweredIn bytes entry = StandsIn (bytes_in (frames_of entry.answers)) bytes
+-- All that a session had to say when it asked this was sent: its text of the items that it had read of these bytes, and of the
+-- entries before, is a front of the bytes sent.
+pub record IsSentBefore (plant : PlantData) (read : List ℕ) (before : List PlantEntry)
+    (request : Request) (bytes : List ℕ) : Type 0 where
+  pub earlier : List (Item (List ℕ))
+  pub later : List (Item (List ℕ))
+  pub items_are : items read ≡ earlier ++ later
+  pub counted : length earlier ≡ items_before request
+  pub text : List ℕ
+  pub is_text : IsText plant earlier before text
+  pub sent : IsPrefix text bytes
 
--- So it is with each of these entries but the last.
-abbrev pub AnsweredButLast : List PlantEntry → List ℕ → Type 0
-AnsweredButLast entries bytes = (front : List PlantEntry) (last : PlantEntry)
-    → entries ≡ front ++ last ∷ [] → All (IsAnsweredIn bytes) front
+-- So it is with the last of these entries: the session's text without it is a front of the bytes.
+abbrev pub AnsweredButLast : PlantData → List ℕ → List PlantEntry → List ℕ → Type 0
+AnsweredButLast plant read entries bytes = (before : List PlantEntry) (last : PlantEntry)
+    → entries ≡ before ++ last ∷ [] → IsSentBefore plant read before last.request bytes
 
 -- The last reads, so many, were all idle.
 pub record EndsIdle (count : ℕ) (reads : List (List ℕ)) : Type 0 where
@@ -231,7 +243,7 @@ pub record Served (plant : PlantData) (panel turns : ℕ) (end : SessionEnd) (se
   pub fits : FitAsEnded end panel reads (entries_of seat.number new)
   pub written : link_then.written ≡ appended link.written bytes
   pub says : SaysAsEnded end plant reads (entries_of seat.number new) bytes
-  pub answered : AnsweredButLast (entries_of seat.number new) bytes
+  pub answered : AnsweredButLast plant (all_read reads) (entries_of seat.number new) bytes
   -- The trace has the line of each.
   pub traced : trace_then.written ≡ appended trace.written lines
   pub traces : TracesUnless (trace_failed_at end)

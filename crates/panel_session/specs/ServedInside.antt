@@ -19,15 +19,14 @@ use Rattle.plant_core.specs.declared.answer.Answer.{Answer}
 use Rattle.plant_core.specs.declared.request.Request.{Request}
 use Rattle.panel_session.specs.declared.session.Session.{Session}
 use Rattle.panel_session.specs.Acting.{MayGoOn}
-use Rattle.panel_session.specs.OneSend.{bytes_in}
 use Rattle.panel_session.specs.Run.{CompletesText, turned}
 use Rattle.panel_session.specs.Turns.{Turn, bytes_read, entries_of_turns}
 use Rattle.panel_session.specs.declared.serve.SessionEnd.{SessionEnd}
 use Rattle.panel_session.specs.declared.serve.SessionEnd.TheVariants.{Ended, ReadFault, TraceFault, Full}
 use Rattle.panel_session.specs.Entry.{PlantEntry}
-use Rattle.panel_session.specs.Served.{PlantSeat, TraceData, AnsweredButLast, AreTaken, IsAnsweredIn, StandsOrAwaits, TracesUnless, all_read, full_after, idles_after, mark_after, own_lines, read_of, read_room, trace_failed_at}
+use Rattle.panel_session.specs.Served.{PlantSeat, TraceData, AnsweredButLast, AreTaken, StandsOrAwaits, TracesUnless, all_read, full_after, idles_after, mark_after, own_lines, read_of, read_room, trace_failed_at}
 use Rattle.panel_session.specs.Session.{StandsFor, Awaits, outbox_of}
-use Rattle.panel_session.specs.Text.{IsText, frames_of}
+use Rattle.panel_session.specs.Text.{IsText}
 use Rattle.panel_session.specs.TraceLine.{trace_line}
 use Rattle.panel_session.specs.SoFar.{Progress, nothing_yet, entries_so_far, read_so_far, unstarted, with_entry}
 
@@ -44,12 +43,6 @@ pub record MayCall (session : Session) (lock : LockData State) (seat : PlantSeat
   pub seat_of : seat.lock ≡ lock.id
   pub first : seat.first ≡ start plant
 
--- What a session has sent in a past, and then the frames of the answers to a request, is its text with the entry of these.
-abbrev pub SaysWith : PlantData → PlantEntry → Progress → Type 0
-SaysWith plant entry past =
-    IsText plant (items (read_so_far (with_entry entry past)))
-    (entries_so_far (with_entry entry past)) (past.sent ++ bytes_in (frames_of entry.answers))
-
 -- The lock answered a request of a session behind a past: its entry is the last of a legal history that goes on from the one
 -- that the seat had seen, and the seat's only new one. The session took the answers.
 pub record IsGiven (plant : PlantData) (panel : ℕ) (past : Progress) (request : Request)
@@ -62,7 +55,6 @@ pub record IsGiven (plant : PlantData) (panel : ℕ) (past : Progress) (request 
   pub rest : OnlyCalled seat seat_then
   pub stands : StandsFor plant panel session_then
       (with_entry (asked_by seat request answers) past)
-  pub says : SaysWith plant (asked_by seat request answers) past
 
 -- The lock answered a request, and the line of the entry was traced.
 pub record IsTraced (plant : PlantData) (panel : ℕ) (past : Progress) (request : Request)
@@ -125,7 +117,7 @@ pub record HasGoneOn (plant : PlantData) (before after : Outside) (past now : Pr
       ≡ appended before.traced (own_lines plant before.seat.number (length before.seat.seen) new)
 
 -- A session went on from one past to another and was cut short there. The bytes that it has sent more were written, or a front
--- of them, in which the answers of all entries but the last are; and so were the lines traced.
+-- of them, with all that it had to say when it asked last; and so were the lines traced.
 pub record HasBrokenOff (plant : PlantData) (end : SessionEnd) (before after : Outside)
     (past now : Progress) : Type 0 where
   pub new : List PlantEntry
@@ -134,19 +126,18 @@ pub record HasBrokenOff (plant : PlantData) (end : SessionEnd) (before after : O
   pub entries : entries_so_far now ≡ entries_so_far past ++ entries_of before.seat.number new
   pub bytes : List ℕ
   pub front : IsPrefix (past.sent ++ bytes) now.sent
-  pub answered : AnsweredButLast (entries_so_far now) (past.sent ++ bytes)
+  pub answered :
+      AnsweredButLast plant (read_so_far now) (entries_so_far now) (past.sent ++ bytes)
   pub written : after.written ≡ appended before.written bytes
   pub lines : List ℕ
   pub traced : after.traced ≡ appended before.traced lines
   pub traces : TracesUnless (trace_failed_at end)
       (own_lines plant before.seat.number (length before.seat.seen) new) lines
 
--- In a past each entry but the last was answered in what was sent, and all are in the session's whole text.
-pub record KeepsAnswered (plant : PlantData) (past : Progress) : Type 0 where
-  pub sent : AnsweredButLast (entries_so_far past) past.sent
-  pub text : (text : List ℕ)
-      → IsText plant (items (read_so_far past)) (entries_so_far past) text
-      → All (IsAnsweredIn text) (entries_so_far past)
+-- In a past all was sent that the session had to say when it asked last.
+abbrev pub KeepsAnswered : PlantData → Progress → Type 0
+KeepsAnswered plant past =
+    AnsweredButLast plant (read_so_far past) (entries_so_far past) past.sent
 
 -- A piece may be a turn of a session behind a past, whose seat is one of its plant's lock.
 pub record MayServeTurn (session : Session) (lock : LockData State) (seat : PlantSeat)

@@ -16,7 +16,7 @@ use Rattle.record_replay.specs.Replay.{ReplayState, begun, AllWork}
 use Rattle.record_replay.specs.Laws.{Action, line_of, history_of}
 use Rattle.record_replay.specs.TiedReplay.{IsTiedReplay, HasReplayed, HasReplayedFront}
 use Rattle.ctl_net.specs.Port.{SendsOn}
-use Rattle.record_replay.specs.Streamed.{packets_in, lines_in, HasStreamed, HasStreamedFront, HasStoppedAtPort}
+use Rattle.record_replay.specs.Streamed.{packets_in, lines_in, BeginWithPacket, HasStreamed, HasStreamedFront, HasStoppedAtPort, PortStops}
 use Rattle.record_replay.specs.PortInside.{SendsAll, SendsUntil, LeavesNone, LeavesPacket}
 use Rattle.record_replay.specs.ReplayerInside.{StandsAt, MayDo, DoesScript}
 use Rattle.record_replay.proofs.IsReplayLemmas.{of_plant}
@@ -89,9 +89,9 @@ came_whole plant script text packets failed before now Sends came on given sends
     }
 
 -- A write failed: a front of the lines, and the packets of these.
-pub came_front : (plant : PlantData) (script text : List ℕ) (packets : List (List ℕ)) (Leaves : ReplayState → List Work → Type 0) (before now : Option (List ℕ)) (Sends : List (List ℕ) → Type 0) → Came plant script Leaves text packets
-    → AppendsPart text before now → Sends packets → HasStreamedFront plant script before now Sends
-came_front plant script text packets Leaves before now Sends came part sends = record {
+pub came_front : (plant : PlantData) (script text : List ℕ) (packets : List (List ℕ)) (Leaves : ReplayState → List Work → Type 0) (before now : Option (List ℕ)) (Sends : List (List ℕ) → Type 0) (count_before count_now : ℕ) (came : Came plant script Leaves text packets)
+    → AppendsPart text before now → Sends packets → PortStops plant came.parts.later count_before count_now → HasStreamedFront plant script before now Sends count_before count_now
+came_front plant script text packets Leaves before now Sends count_before count_now came part sends stops = record {
   output = text ++ came.rest;
   replay = came.replay;
   front = came.parts.front;
@@ -99,14 +99,21 @@ came_front plant script text packets Leaves before now Sends came part sends = r
   place = came.parts.place;
   appends = subst (λ (text : List ℕ). AppendsPart text before now) came.parts.shown part;
   sends = subst Sends came.parts.sent sends;
+  stops = stops;
 }
+
+-- Where works are left of which the first has a packet, the actions of these begin with it.
+came_waits : (plant : PlantData) (script text : List ℕ) (packets : List (List ℕ)) (came : Came plant script (LeavesPacket plant) text packets) → BeginWithPacket plant came.parts.later
+came_waits plant script text packets came =
+    let waits = came.leaves in
+    let next = came.parts.begins.some waits.0 waits.1 waits.2 in
+    (next.0, next.1, next.2, λ none. waits.3 (next.3 ∙ none))
 
 -- A send failed: the lines before, and their packets.
 pub came_to_port : (plant : PlantData) (script text : List ℕ) (packets : List (List ℕ)) (before now : Option (List ℕ)) (Sends : List (List ℕ) → Type 0) → Came plant script (LeavesPacket plant) text packets
     → now ≡ appended before text → Sends packets → HasStoppedAtPort plant script before now Sends
 came_to_port plant script text packets before now Sends came given sends =
-    let waits = came.leaves in
-    let next = came.parts.begins.some waits.0 waits.1 waits.2 in
+    let next = came_waits plant script text packets came in
     record {
       output = text ++ came.rest;
       replay = came.replay;
@@ -114,7 +121,7 @@ came_to_port plant script text packets before now Sends came given sends =
       failed = next.0;
       later = next.1;
       place = came.parts.place ∙ ap (λ (later : List Action). came.parts.front ++ later) next.2;
-      has_packet = λ none. waits.3 (next.3 ∙ none);
+      has_packet = next.3;
       appends = given ∙ ap (appended before) came.parts.shown;
       sends = subst Sends came.parts.sent sends;
     }
@@ -144,24 +151,25 @@ module _ {K P : Type 0} (written : K → Option (List ℕ)) (faults : K → ℕ)
   pub cut_short : (told : Bool) → OnTrue told (DoesScript replayer.plant.now script replayer (LeavesNone last.failed) (λ text packets. Puts written faults text first last × SendsAll WasSent port_faults packets port port_now))
       → OnFalse told (DoesScript replayer.plant.now script replayer (LeavesPacket replayer.plant.now) (λ text packets. Puts written faults text first last × SendsUntil WasSent port_faults packets port port_now))
       → IsCutShort written faults last now
-      → HasStreamedFront plant script (written sink) (written now) (SendsOn WasSent port port_now) × (faults now ≡ one_more (faults sink))
+      → HasStreamedFront plant script (written sink) (written now) (SendsOn WasSent port port_now) (port_faults port) (port_faults port_now) × (faults now ≡ one_more (faults sink))
       × ((port_faults port_now ≡ port_faults port) ⊎ (port_faults port_now ≡ one_more (port_faults port)))
   cut_short true does stops cut =
       let done = came plant script replayer (λ plant. LeavesNone last.failed) (λ text packets. Puts written faults text first last × SendsAll WasSent port_faults packets port port_now) stands small spelled does in
       let part = cut (written sink) (faults sink) done.0 (done.2.0.puts (written sink) (faults sink) [] nothing) in
-      (came_front plant script done.0 done.1 _ (written sink) (written now) (SendsOn WasSent port port_now) done.3 part.appends done.2.1.sends, part.count, inl done.2.1.count)
+      (came_front plant script done.0 done.1 _ (written sink) (written now) (SendsOn WasSent port port_now) (port_faults port) (port_faults port_now) done.3 part.appends done.2.1.sends (inl done.2.1.count), part.count, inl done.2.1.count)
   cut_short false does stops cut =
       let done = came plant script replayer (λ plant. LeavesPacket plant) (λ text packets. Puts written faults text first last × SendsUntil WasSent port_faults packets port port_now) stands small spelled stops in
       let part = cut (written sink) (faults sink) done.0 (done.2.0.puts (written sink) (faults sink) [] nothing) in
-      (came_front plant script done.0 done.1 _ (written sink) (written now) (SendsOn WasSent port port_now) done.3 part.appends done.2.1.sends, part.count, inr done.2.1.count)
+      (came_front plant script done.0 done.1 _ (written sink) (written now) (SendsOn WasSent port port_now) (port_faults port) (port_faults port_now) done.3 part.appends done.2.1.sends
+      (inr (done.2.1.count, came_waits plant script done.0 done.1 done.3)), part.count, inr done.2.1.count)
 
 -- What was streamed was replayed, whole
 pub streamed_whole : (plant : PlantData) (script : List ℕ) (before now : Option (List ℕ)) (Sends : List (List ℕ) → Type 0) → HasStreamed plant script before now Sends → HasReplayed plant script before now
 streamed_whole plant script before now Sends streamed = record { output = streamed.output; replay = streamed.replay; appends = streamed.appends }
 
 -- or a front of it.
-pub streamed_front : (plant : PlantData) (script : List ℕ) (before now : Option (List ℕ)) (Sends : List (List ℕ) → Type 0) → HasStreamedFront plant script before now Sends → HasReplayedFront plant script before now
-streamed_front plant script before now Sends streamed = record {
+pub streamed_front : (plant : PlantData) (script : List ℕ) (before now : Option (List ℕ)) (Sends : List (List ℕ) → Type 0) (count_before count_now : ℕ) → HasStreamedFront plant script before now Sends count_before count_now → HasReplayedFront plant script before now
+streamed_front plant script before now Sends count_before count_now streamed = record {
   output = streamed.output;
   replay = streamed.replay;
   appends = subst (λ (text : List ℕ). AppendsPart text before now)

@@ -61,10 +61,21 @@ pub record HasStreamed (plant : PlantData) (script : List ℕ) (before now : Opt
   pub appends : now ≡ appended before output
   pub sends : Sends (packets_in plant replay.actions)
 
+-- The first of these actions has a packet.
+abbrev pub BeginWithPacket : PlantData → List Action → Type 0
+BeginWithPacket plant actions = (first : Action) × (others : List Action)
+    × (actions ≡ first ∷ others) × (packets_by plant first ≢ [])
+
+-- A port's count of faults stayed, or it rose by one, and the actions that are left begin with the packet that failed.
+abbrev pub PortStops : PlantData → List Action → ℕ → ℕ → Type 0
+PortStops plant left count_before count_now =
+    (count_now ≡ count_before)
+    ⊎ ((count_now ≡ one_more count_before) × BeginWithPacket plant left)
+
 -- A port was sent the packets of the first actions of the script's history, and a sink was given a shorter front of their
--- lines: no line came before its packet.
+-- lines: no line came before its packet. Where the port failed too, by its counts of faults, it did at the next action.
 pub record HasStreamedFront (plant : PlantData) (script : List ℕ) (before now : Option (List ℕ))
-    (Sends : List (List ℕ) → Type 0) : Type 0 where
+    (Sends : List (List ℕ) → Type 0) (count_before count_now : ℕ) : Type 0 where
   pub output : List ℕ
   pub replay : IsTiedReplay plant script output
   pub front : List Action
@@ -72,6 +83,7 @@ pub record HasStreamedFront (plant : PlantData) (script : List ℕ) (before now 
   pub place : replay.actions ≡ front ++ later
   pub appends : AppendsPart (lines_in plant front) before now
   pub sends : Sends (packets_in plant front)
+  pub stops : PortStops plant later count_before count_now
 
 -- A port took no more at an action of the script's history that has a packet: it was sent the packets of the actions before,
 -- and a sink was given their lines.

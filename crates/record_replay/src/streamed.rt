@@ -62,7 +62,8 @@ pub fn replay_script_to<K: Sink, P: DisplayPort>(
         → IsFirstBad plant.now script.now number }
     ensures output_fault { IsErrOf result StreamedFault.OutputFault
         → HasStreamedFront plant.now script.now
-        (K.written out.old) (K.written out.new) (SendsOn P.was_sent port.old port.new) }
+        (K.written out.old) (K.written out.new) (SendsOn P.was_sent port.old port.new)
+        (P.faults port.old) (P.faults port.new) }
     ensures port_fault { IsErrOf result StreamedFault.PortFault
         → HasStoppedAtPort plant.now script.now
         (K.written out.old) (K.written out.new) (SendsOn P.was_sent port.old port.new) }
@@ -100,7 +101,8 @@ fn replay_lines<K: Sink, P: DisplayPort>(
     ensures no_bad_line { (number : ℕ) → result ≢ Err (StreamedFault.BadLine number) }
     ensures output_fault { IsErrOf result StreamedFault.OutputFault
         → HasStreamedFront plant.now script.now
-        (K.written out.old) (K.written out.new) (SendsOn P.was_sent port.old port.new) }
+        (K.written out.old) (K.written out.new) (SendsOn P.was_sent port.old port.new)
+        (P.faults port.old) (P.faults port.new) }
     ensures port_fault { IsErrOf result StreamedFault.PortFault
         → HasStoppedAtPort plant.now script.now
         (K.written out.old) (K.written out.new) (SendsOn P.was_sent port.old port.new) }
@@ -135,7 +137,8 @@ fn work_lines<K: Sink, P: DisplayPort>(
     ensures no_bad_line { (number : ℕ) → result ≢ Err (StreamedFault.BadLine number) }
     ensures output_fault { IsErrOf result StreamedFault.OutputFault
         → HasStreamedFront replayer.old.plant.now script.now
-        (K.written out.old) (K.written out.new) (SendsOn P.was_sent port.old port.new) }
+        (K.written out.old) (K.written out.new) (SendsOn P.was_sent port.old port.new)
+        (P.faults port.old) (P.faults port.new) }
     ensures port_fault { IsErrOf result StreamedFault.PortFault
         → HasStoppedAtPort replayer.old.plant.now script.now
         (K.written out.old) (K.written out.new) (SendsOn P.was_sent port.old port.new) }

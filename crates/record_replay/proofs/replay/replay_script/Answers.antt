@@ -19,7 +19,7 @@ returns-in-Err-NoMemory-clause-count g c = rw c.in-Err-NoMemory.field-0-is at c.
 pub returns-in-Err-OutputFault-clause-output_fault : goal.returns-in-Err-OutputFault-clause-output_fault
 returns-in-Err-OutputFault-clause-output_fault g c = λ is.
     let told = rw c.in-Err-OutputFault.field-0-is at c.in-Err-OutputFault.ensures.output_fault in
-    streamed_front c.args.plant.now c.args.script.now _ _ _ (told refl)
+    streamed_front c.args.plant.now c.args.script.now _ _ _ _ _ (told refl)
 
 pub returns-in-Err-OutputFault-clause-count : goal.returns-in-Err-OutputFault-clause-count
 returns-in-Err-OutputFault-clause-count g c = rw c.in-Err-OutputFault.field-0-is at c.in-Err-OutputFault.ensures.count
