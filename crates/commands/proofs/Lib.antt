@@ -35,4 +35,5 @@ pub mod ServiceKeptLemmas
 pub mod ProgramLemmas
 pub mod ServiceLawLemmas
 pub mod ServiceCauseLemmas
+pub mod PanelWholeLemmas
 pub mod WholeLemmas

@@ -25,6 +25,11 @@ use Rattle.commands.proofs.HeldLemmas.{if_held}
 use Rattle.commands.proofs.FilesLemmas.{one_well, one_last}
 use Rattle.commands.proofs.StopLemmas.{says-front}
 
+-- a choice by a test that is known to be true
+match_true : (P Q : Type 0) (b : Bool) → b ≡ true → P → MatchBool b P Q
+match_true P Q true is p = p
+match_true P Q false is p = absurd (false≢true is)
+
 -- a choice by a test that is known to be false
 match_false : (P Q : Type 0) (b : Bool) → b ≡ false → Q → MatchBool b P Q
 match_false P Q true is q = absurd (false≢true (sym is))
@@ -34,11 +39,6 @@ match_false P Q false is q = q
 pub only_false : (P Q : Type 0) (b : Bool) → (P → ⊥) → MatchBool b P Q → (b ≡ false) × Q
 only_false P Q true never chosen = absurd (never chosen)
 only_false P Q false never chosen = (refl, chosen)
-
--- a choice by a test that is known to be true
-pub from_true : (P Q : Type 0) (b : Bool) → b ≡ true → MatchBool b P Q → P
-from_true P Q true is chosen = chosen
-from_true P Q false is chosen = absurd (false≢true is)
 
 -- a choice by a test that is known to be false
 pub from_false : (P Q : Type 0) (b : Bool) → b ≡ false → MatchBool b P Q → Q

@@ -5,6 +5,7 @@ use Rattle.std.proofs.lemmas.Bool.{false≢true, lt-ltb}
 use Rattle.ctl_io.specs.Faults.{one_more}
 use Rattle.ctl_io.specs.Sink.{appended}
 use Rattle.ctl_io.specs.Held.{Held, NoFile, Holds, IsLonger, MayBeHere, MayBeMissing}
+use Rattle.plant_file.specs.FaultText.{fault_text}
 use Rattle.plant_config.specs.Plant.{PlantData}
 use Rattle.panel_session.specs.Served.{TraceData}
 use Rattle.panel_server.specs.PlantServed.{NetData, ServedSo}
@@ -14,7 +15,7 @@ use Rattle.panel_server.specs.declared.plant.ServeFault.TheVariants as answers
 use Rattle.commands.specs.World.{World, Snapshot, snapshot}
 use Rattle.command_words.specs.Words.{Service}
 use Rattle.commands.specs.End.{End, NoMemory, FileMissing, FileFault, PlantRefused, PlantTooLong, status_of, end_text}
-use Rattle.commands.specs.Lines.{file_missing, file_fault}
+use Rattle.commands.specs.Lines.{file_missing, file_fault, plant_refused, plant_too_long}
 use Rattle.commands.specs.OpensPlant.{longest_plant, OpensPlant, OpensBench, OpensFile, Reads, is_bench, opened_for}
 use Rattle.commands.specs.Traces.{names_for}
 use Rattle.commands.specs.Run.{LeavesOpened, IsWritten, IsCutShort}
@@ -61,7 +62,7 @@ at_plant WasSent faults service before now net net_then status NoMemory untouche
     inl (written.status_is, record { there = either (OpensBench (Err NoMemory)) (MayBeHere (before.held service.plant 0)) (is_bench service.plant) opens; appends = written.appends })
 at_plant WasSent faults service before now net net_then status (FileMissing name) untouched opens left written =
     let o = opened_file service.plant (before.held service.plant 0) (FileMissing name) (λ h. h) opens in
-    let stops = record {
+    let stops : StopsAtPlant service (file_missing service.plant) before.file_faults before now net net_then = record {
       is_file = o.0;
       untouched = untouched;
       count_is = left.read.faults ∙ well-faults left.earlier (snapshot before) left.between left.well;
@@ -70,7 +71,7 @@ at_plant WasSent faults service before now net net_then status (FileMissing name
     inr (inl (written.status_is, inl (o.1.1, stops)))
 at_plant WasSent faults service before now net net_then status (FileFault name) untouched opens left written =
     let o = opened_file service.plant (before.held service.plant 0) (FileFault name) (λ h. h) opens in
-    let stops = record {
+    let stops : StopsAtPlant service (file_fault service.plant) (one_more before.file_faults) before now net net_then = record {
       is_file = o.0;
       untouched = untouched;
       count_is = left.read.faults ∙ ap one_more (well-faults left.earlier (snapshot before) left.between left.well);
@@ -79,11 +80,11 @@ at_plant WasSent faults service before now net net_then status (FileFault name) 
     inr (inl (written.status_is, inr (inl stops)))
 at_plant WasSent faults service before now net net_then status (PlantRefused fault) untouched opens left written =
     let o = opened_file service.plant (before.held service.plant 0) (PlantRefused fault) (λ h. h) opens in
-    let stops = record { is_file = o.0; untouched = untouched; count_is = well-faults (opened_for service.plant) (snapshot before) (snapshot now) left; appends = written.appends } in
+    let stops : StopsAtPlant service (plant_refused (fault_text fault)) before.file_faults before now net net_then = record { is_file = o.0; untouched = untouched; count_is = well-faults (opened_for service.plant) (snapshot before) (snapshot now) left; appends = written.appends } in
     inr (inr (inl (written.status_is, inl (fault, o.1, stops))))
 at_plant WasSent faults service before now net net_then status PlantTooLong untouched opens left written =
     let o = opened_file service.plant (before.held service.plant 0) PlantTooLong (λ h. h) opens in
-    let stops = record { is_file = o.0; untouched = untouched; count_is = well-faults (opened_for service.plant) (snapshot before) (snapshot now) left; appends = written.appends } in
+    let stops : StopsAtPlant service plant_too_long before.file_faults before now net net_then = record { is_file = o.0; untouched = untouched; count_is = well-faults (opened_for service.plant) (snapshot before) (snapshot now) left; appends = written.appends } in
     inr (inr (inl (written.status_is, inr (o.1, stops))))
 at_plant WasSent faults service before now net net_then status other untouched opens left written =
     absurd (nowhere service.plant (before.held service.plant 0) other (λ h. h) (λ h. h) opens)
@@ -124,16 +125,19 @@ module _ {P : Type 0} (WasSent : P → List (List ℕ) → Type 0) (faults : P �
       → ServiceHasCause WasSent faults service before now net net_then status
   at_trace service before now net net_then status end plant opened leads untouched same trace written =
       let wrote = subst (λ (e : End). IsWritten (status_of e) (end_text e) before now status) (ap its_end trace.end_is) written in
-      inr (inl (wrote.status_is, inr (inr (record {
-        plant = plant;
-        leads = leads;
-        place = trace.place;
-        name = trace.fails.stops.name;
-        at = trace.fails.stops.at;
-        untouched = untouched;
-        count_is = fails_at-faults _ trace.place opened (snapshot now) trace.fails ∙ ap one_more same;
-        appends = wrote.appends;
-      }))))
+      inr (inl (
+        wrote.status_is,
+        inr (inr (record {
+          plant = plant;
+          leads = leads;
+          place = trace.place;
+          name = trace.fails.stops.name;
+          at = trace.fails.stops.at;
+          untouched = untouched;
+          count_is = fails_at-faults _ trace.place opened (snapshot now) trace.fails ∙ ap one_more same;
+          appends = wrote.appends;
+        })),
+      ))
 
   served_tells : (service : Service) (before now : World) (net net_then : NetData P) (status : ℕ) (plant : PlantData) (traces traces_then : List TraceData) (answer : Result PlantDone ServeFault) (sessions entries : ℕ)
       (telling : Telling) → LeadsTo service.plant before plant → ServedSo WasSent faults plant net net_then traces traces_then answer
