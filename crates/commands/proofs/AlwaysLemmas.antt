@@ -199,7 +199,7 @@ checked_of words before now end word plant ask shows count (at_plant command own
 checked_of words before now end word plant ask shows count (in_check plant' by ends) = checked plant' before now end ends
 checked_of words before now end word plant ask shows count (in_replay plant' name held by ends) = no_check words by.word word name by.ask ask
 checked_of words before now end word plant ask shows count (in_audit plant' files by ends) = no_audit words by.word word by.traces by.ask ask
-checked_of words before now end word plant ask shows count (in_stream plant' name held by made read then status ask' ends) = no_check words by.word word name by.ask ask
+checked_of words before now end word plant ask shows count (in_stream plant' name held by made read then wrote wrote_then status ask' ends) = no_check words by.word word name by.ask ask
 checked_of words before now end word plant ask shows count (in_monitor name held by ends) = check_no_monitor words word name ask by.ask
 
 pub check_always : (words : List (List ℕ)) (before now : World) (status : ℕ) (word : List ℕ) (plant : PlantData) → Ask words (Check word) → ShowsPlant word before plant → RunEnds words before now status

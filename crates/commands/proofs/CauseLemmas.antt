@@ -1,5 +1,5 @@
 -- Where a run came to its end.
-use Rattle.std.proofs.Common.{◌≡◌, ◌≢◌, ◌⊎◌, inl, inr, ℕ, List, Some, Result, Ok, Err, refl, sym, subst}
+use Rattle.std.proofs.Common.{◌≡◌, ◌≢◌, ◌⊎◌, inl, inr, ℕ, List, Option, Some, Result, Ok, Err, refl, sym, subst}
 use Rattle.std.proofs.lemmas.Option.{none-some, same_Some}
 use Rattle.ctl_io.specs.Faults.{one_more}
 use Rattle.ctl_io.specs.Held.{Held}
@@ -25,8 +25,8 @@ pub data Came (words : List (List ℕ)) (before : World) (end : End) : Type 0 wh
   in_check : (plant : PlantData) → AskCheck words before plant → CheckEnds plant end → Came words before end
   in_replay : (plant : PlantData) (name : List ℕ) (held : Held) → AskReplay words before plant name held → ReplayEnds plant name held end → Came words before end
   in_audit : (plant : PlantData) (files : List TraceFile) → AskAudit words before plant files → AuditEnds plant files end → Came words before end
-  in_stream : (plant : PlantData) (name : List ℕ) (held : Held) (asks : AskReplay words before plant name held) (made : List ℕ) (read now : Snapshot) (status : ℕ) → Ask words (Stream asks.word name made)
-      → StreamEnds plant made held read now status end → Came words before end
+  in_stream : (plant : PlantData) (name : List ℕ) (held : Held) (asks : AskReplay words before plant name held) (made : List ℕ) (read now : Snapshot) (wrote wrote_then : Option (List ℕ)) (status : ℕ) → Ask words (Stream asks.word name made)
+      → StreamEnds plant made held read now wrote wrote_then status end → Came words before end
   in_monitor : (name : List ℕ) (held : Held) → AskMonitor words before name held → MonitorEnds name held end → Came words before end
 
 -- an end at a plant's word is the word's
@@ -67,7 +67,7 @@ came_by words before end (Monitor name) ask ends = in_monitor name (before.held 
 
 came_stream : (words : List (List ℕ)) (before now : World) (end : End) (status : ℕ) → EndsByStream words before now end status → Came words before end
 came_stream words before now end status by =
-    in_stream by.plant by.name (before.held by.name (next_opening by.word by.name)) (record { word = by.word; ask = inr (by.made, by.ask); leads = by.opens; held_is = refl }) by.made by.read (snapshot now) status
+    in_stream by.plant by.name (before.held by.name (next_opening by.word by.name)) (record { word = by.word; ask = inr (by.made, by.ask); leads = by.opens; held_is = refl }) by.made by.read (snapshot now) before.written now.written status
     by.ask by.ends
 
 pub came : {status : ℕ} (words : List (List ℕ)) (before now : World) (end : End) → RunHasCause words before now end status → Came words before end

@@ -230,7 +230,7 @@ unread_cause words word name made before now between plant end ask opens ends le
 }
 
 stream_cause : (words : List (List ℕ)) (word name made : List ℕ) (before now : World) (between : Snapshot) (plant : PlantData) (end : End) (status : ℕ) → Ask words (Stream word name made)
-    → Opens word (snapshot before) between (Ok plant) → between.held name 0 ≡ before.held name (next_opening word name) → Streams plant name made between (snapshot now) status end → RunHasCause words before now end status
+    → Opens word (snapshot before) between (Ok plant) → between.held name 0 ≡ before.held name (next_opening word name) → Streams plant name made between (snapshot now) before.written now.written status end → RunHasCause words before now end status
 stream_cause words word name made before now between plant end status ask opens next (inl unread) =
     inr (inl (unread_cause words word name made before now between plant end ask opens (subst (λ (h : Held). UnreadEnds name h end) next unread.0) unread.1))
 stream_cause words word name made before now between plant end status ask opens next (inr (read, well, ends)) = inr (inr (record {
@@ -242,7 +242,7 @@ stream_cause words word name made before now between plant end status ask opens 
   opens = opens.0;
   read = read;
   well = well-append (opened_for word) (name ∷ []) (snapshot before) between read opens.1 well;
-  ends = subst (λ (h : Held). StreamEnds plant made h read (snapshot now) status end) next ends;
+  ends = subst (λ (h : Held). StreamEnds plant made h read (snapshot now) before.written now.written status end) next ends;
 }))
 
 pub stream_went : {T : Type 0} (words : List (List ℕ)) (word name made : List ℕ) (before now : World) (between : Snapshot) (plant : PlantData) (result : Result T Stop) → Ask words (Stream word name made)

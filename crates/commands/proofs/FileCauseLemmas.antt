@@ -72,7 +72,7 @@ missing_at words before now name (in_audit plant files asks ends) stops count ap
   no_fault = count;
   appends = appends ∙ ap (λ (n : List ℕ). appended before.written (file_missing n)) ends.2;
 }
-missing_at words before now name (in_stream plant' script held' by made read then status ask' ends') stops count appends = absurd ends'
+missing_at words before now name (in_stream plant' script held' by made read then wrote wrote_then status ask' ends') stops count appends = absurd ends'
 missing_at words before now name (in_monitor stream held asks ends) stops count appends = record {
   name = stream;
   held = held;
@@ -113,7 +113,7 @@ fault_at words before now name (in_audit plant files asks ends) stops count appe
   fault = count;
   appends = appends ∙ ap (λ (n : List ℕ). appended before.written (file_fault n)) ends.2;
 }
-fault_at words before now name (in_stream plant' script held' by made read then status ask' ends') stops count appends = absurd ends'
+fault_at words before now name (in_stream plant' script held' by made read then wrote wrote_then status ask' ends') stops count appends = absurd ends'
 fault_at words before now name (in_monitor stream held asks ends) stops count appends = record {
   name = stream;
   held = held;

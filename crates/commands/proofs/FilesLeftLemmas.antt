@@ -59,7 +59,7 @@ even_by words before now end by =
 
 -- what a stream leaves of other files than its own, once its plant and its script were read
 stream_leaves : (words : List (List ℕ)) (before now : World) (end : End) (status : ℕ) (by : EndsByStream words before now end status) → LeavesOthers by.made by.read (snapshot now)
-stream_leaves words before now end status by = ends_leave by.plant by.made (before.held by.name (next_opening by.word by.name)) by.read (snapshot now) status end by.ends
+stream_leaves words before now end status by = ends_leave before.written now.written by.plant by.made (before.held by.name (next_opening by.word by.name)) by.read (snapshot now) status end by.ends
 
 sources_of : {status : ℕ} (words : List (List ℕ)) (before now : World) (end : End) → RunHasCause words before now end status → now.custody.sources.out ≡ before.custody.sources.out
 sources_of words before now end (inl at) = (even_same (snapshot before) (snapshot now) at.files).sources
@@ -179,7 +179,7 @@ unopened_of words before now end name four (inr (inl by)) other =
     command_stays by.command name (snapshot before) (snapshot now) end by.files
     (λ one. other (only_plant words name by.command by.ask (subst (λ (ns : List (List ℕ)). Contains ns name) none one)))
 unopened_of {status} words before now end name four (inr (inr by)) other =
-    absurd (stream_not_4 by.plant by.made (before.held by.name (next_opening by.word by.name)) by.read (snapshot now) status end by.ends four)
+    absurd (stream_not_4 before.written now.written by.plant by.made (before.held by.name (next_opening by.word by.name)) by.read (snapshot now) status end by.ends four)
 
 pub no_script_opened : (words : List (List ℕ)) (before now : World) (name : List ℕ) → RunEnds words before now 4 → (AskFile words name → ⊥) → Stays (before.held name) (now.held name)
 no_script_opened words before now name run other =

@@ -28,7 +28,7 @@ line_at words before now number (in_replay plant name held asks ends) appends = 
   appends = appends;
 }
 line_at words before now number (in_audit plant files asks ends) appends = absurd ends
-line_at words before now number (in_stream plant name held asks made read then status ask ends) appends = record {
+line_at words before now number (in_stream plant name held asks made read then wrote wrote_then status ask ends) appends = record {
   plant = plant;
   name = name;
   held = held;
@@ -48,7 +48,7 @@ length_at words before now (in_check plant asks ends) appends = absurd ends
 length_at words before now (in_replay plant name held asks ends) appends =
     record { plant = plant; name = name; held = held; asks = asks; too_long = ends; appends = appends }
 length_at words before now (in_audit plant files asks ends) appends = absurd ends
-length_at words before now (in_stream plant' name' held' by made read then status ask' ends') appends = absurd ends'
+length_at words before now (in_stream plant' name' held' by made read then wrote wrote_then status ask' ends') appends = absurd ends'
 length_at words before now (in_monitor name held asks ends) appends = absurd ends
 
 traces_at : (words : List (List ℕ)) (before now : World) → Came words before TraceTooLong → now.written ≡ appended before.written trace_too_long → RefusedTraces words before now
@@ -58,7 +58,7 @@ traces_at words before now (at_plant command word has ask opens) appends =
 traces_at words before now (in_check plant asks ends) appends = absurd ends
 traces_at words before now (in_replay plant name held asks ends) appends = absurd ends
 traces_at words before now (in_audit plant files asks ends) appends = record { plant = plant; files = files; asks = asks; too_long = ends; appends = appends }
-traces_at words before now (in_stream plant' name' held' by made read then status ask' ends') appends = absurd ends'
+traces_at words before now (in_stream plant' name' held' by made read then wrote wrote_then status ask' ends') appends = absurd ends'
 traces_at words before now (in_monitor name held asks ends) appends = absurd ends
 
 stream_at : (words : List (List ℕ)) (before now : World) → Came words before StreamTooLong → now.written ≡ appended before.written stream_too_long → RefusedStream words before now
@@ -68,7 +68,7 @@ stream_at words before now (at_plant command word has ask opens) appends =
 stream_at words before now (in_check plant asks ends) appends = absurd ends
 stream_at words before now (in_replay plant name held asks ends) appends = absurd ends
 stream_at words before now (in_audit plant files asks ends) appends = absurd ends
-stream_at words before now (in_stream plant' name' held' by made read then status ask' ends') appends = absurd ends'
+stream_at words before now (in_stream plant' name' held' by made read then wrote wrote_then status ask' ends') appends = absurd ends'
 stream_at words before now (in_monitor name held asks ends) appends = record { name = name; held = held; asks = asks; too_long = ends; appends = appends }
 
 -- what a status of 5 tells

@@ -41,7 +41,7 @@ audited_at words before now verdict (at_plant command word has ask opens) append
 audited_at words before now verdict (in_check plant asks ends) appends = absurd ends
 audited_at words before now verdict (in_replay plant name held asks ends) appends = absurd ends
 audited_at words before now verdict (in_audit plant files asks ends) appends = record { plant = plant; files = files; asks = asks; have = ends; appends = appends }
-audited_at words before now verdict (in_stream plant' name' held' by made read then status ask' ends') appends = absurd ends'
+audited_at words before now verdict (in_stream plant' name' held' by made read then wrote wrote_then status ask' ends') appends = absurd ends'
 audited_at words before now verdict (in_monitor name held asks ends) appends = absurd ends
 
 -- status 0
@@ -66,7 +66,7 @@ done_at words before now output (in_replay plant name held asks ends) appends = 
   appends = appends;
 }))
 done_at words before now output (in_audit plant files asks ends) appends = absurd ends
-done_at words before now output (in_stream plant name held asks made read then status ask ends) appends = inr (inl (record {
+done_at words before now output (in_stream plant name held asks made read then wrote wrote_then status ask ends) appends = inr (inl (record {
   plant = plant;
   name = name;
   held = held;
@@ -181,7 +181,7 @@ usage_at words before (at_plant command word has ask opens) = absurd (nowhere wo
 usage_at words before (in_check plant asks ends) = absurd ends
 usage_at words before (in_replay plant name held asks ends) = absurd ends
 usage_at words before (in_audit plant files asks ends) = absurd ends
-usage_at words before (in_stream plant' name' held' by made read then status ask' ends') = absurd ends'
+usage_at words before (in_stream plant' name' held' by made read then wrote wrote_then status ask' ends') = absurd ends'
 usage_at words before (in_monitor name held asks ends) = absurd ends
 
 pub usage_no_form : (words : List (List ℕ)) (before now : World) → RunEnds words before now 2 → HasNoForm words
@@ -202,7 +202,7 @@ no_form_end words before end none (in_check plant asks ends) = absurd (none (Che
 no_form_end words before end none (in_replay plant name held asks ends) =
     let command = script_command words asks.word name asks.ask in
     absurd (none command.0 command.1)
-no_form_end words before end none (in_stream plant name held asks made read then status ask ends) = absurd (none (Stream asks.word name made) ask)
+no_form_end words before end none (in_stream plant name held asks made read then wrote wrote_then status ask ends) = absurd (none (Stream asks.word name made) ask)
 no_form_end words before end none (in_audit plant files asks ends) = absurd (none (Audit asks.word asks.traces) asks.ask)
 no_form_end words before end none (in_monitor name held asks ends) = absurd (none (Monitor name) asks.ask)
 
@@ -223,7 +223,7 @@ plant_fault_at words before now fault (at_plant command word has ask opens) appe
 plant_fault_at words before now fault (in_check plant asks ends) appends = absurd ends
 plant_fault_at words before now fault (in_replay plant script held asks ends) appends = absurd ends
 plant_fault_at words before now fault (in_audit plant files asks ends) appends = absurd ends
-plant_fault_at words before now fault (in_stream plant' name' held' by made read then status ask' ends') appends = absurd ends'
+plant_fault_at words before now fault (in_stream plant' name' held' by made read then wrote wrote_then status ask' ends') appends = absurd ends'
 plant_fault_at words before now fault (in_monitor name held asks ends) appends = absurd ends
 
 too_long_at : (words : List (List ℕ)) (before now : World) → Came words before PlantTooLong → now.written ≡ appended before.written plant_too_long → WasTooLong words before now
@@ -234,7 +234,7 @@ too_long_at words before now (at_plant command word has ask opens) appends =
 too_long_at words before now (in_check plant asks ends) appends = absurd ends
 too_long_at words before now (in_replay plant script held asks ends) appends = absurd ends
 too_long_at words before now (in_audit plant files asks ends) appends = absurd ends
-too_long_at words before now (in_stream plant' name' held' by made read then status ask' ends') appends = absurd ends'
+too_long_at words before now (in_stream plant' name' held' by made read then wrote wrote_then status ask' ends') appends = absurd ends'
 too_long_at words before now (in_monitor name held asks ends) appends = absurd ends
 
 plant_of : (words : List (List ℕ)) (before now : World) (end : End) → Came words before end → IsWritten (status_of end) (end_text end) before now 4

@@ -23,7 +23,7 @@ monitored_of words before now end name held ask is (at_plant command own has ask
 monitored_of words before now end name held ask is (in_check plant by ends) = check_no_monitor words by.word name by.ask ask
 monitored_of words before now end name held ask is (in_replay plant script held' by ends) = replay_no_monitor words by.word script name by.ask ask
 monitored_of words before now end name held ask is (in_audit plant files by ends) = audit_no_monitor words by.word name by.traces by.ask ask
-monitored_of words before now end name held ask is (in_stream plant script held' by made read then status ask' ends) = replay_no_monitor words by.word script name by.ask ask
+monitored_of words before now end name held ask is (in_stream plant script held' by made read then wrote wrote_then status ask' ends) = replay_no_monitor words by.word script name by.ask ask
 monitored_of words before now end name held ask is (in_monitor name' held' by ends) =
     let same : name' ≡ name = same_stream words name' name by.ask ask in
     let there : held' ≡ held = by.held_is ∙ ap (λ (n : List ℕ). before.held n 0) same ∙ is in

@@ -36,7 +36,7 @@ audited_of words before now end plant files asks count (in_audit plant' files' b
     let found : files' ≡ files =
     by.files_are ∙ ap (λ (w : List ℕ). trace_files before.held (opened_for w) by.traces) same.0 ∙ ap (λ (ts : List (List ℕ)). trace_files before.held (opened_for asks.word) ts) same.1 ∙ asks.files_are in
     inl (subst (λ (p : PlantData). AuditEnds p files end) plants (subst (λ (fs : List TraceFile). AuditEnds plant' fs end) found ends))
-audited_of words before now end plant files asks count (in_stream plant' name held by made read then status ask' ends) = no_replay words asks.word by.word asks.traces name asks.ask by.ask
+audited_of words before now end plant files asks count (in_stream plant' name held by made read then wrote wrote_then status ask' ends) = no_replay words asks.word by.word asks.traces name asks.ask by.ask
 audited_of words before now end plant files asks count (in_monitor name held by ends) = audit_no_monitor words asks.word name asks.traces asks.ask by.ask
 
 -- what holds of texts that traces hold

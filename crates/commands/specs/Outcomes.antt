@@ -93,7 +93,8 @@ pub record HadStreamFault (words : List (List ℕ)) (before now : World) : Type 
   pub ask : Ask words (Stream asks.word name made)
   pub output : List ℕ
   pub read : Snapshot
-  pub ends : StreamEnds plant made held read (snapshot now) 3 (StreamFailed made output)
+  pub ends : StreamEnds plant made held read (snapshot now) before.written now.written 3
+      (StreamFailed made output)
   pub fault : now.file_faults ≡ one_more before.file_faults
   pub appends : now.written ≡ appended before.written (output ++ file_fault made)
 
@@ -107,7 +108,8 @@ pub record WasStreamed (words : List (List ℕ)) (before now : World) (made : Li
   pub asks : AskReplay words before plant name held
   pub output : List ℕ
   pub read : Snapshot
-  pub gives : GivesFile made (StreamDone plant held output 0) read (snapshot now)
+  pub gives : GivesFile made (StreamDone plant held output 0 before.written now.written) read
+      (snapshot now)
   pub appends : now.written ≡ appended before.written output
 
 -- The plant file has this fault, its first, and the line says it.

@@ -109,7 +109,7 @@ pub record EndsByStream (words : List (List ℕ)) (before now : World) (end : En
   pub read : Snapshot
   pub well : ReadsWell (opened_for word ++ name ∷ []) (snapshot before) read
   pub ends : StreamEnds plant made (before.held name (next_opening word name)) read
-      (snapshot now) status end
+      (snapshot now) before.written now.written status end
 
 -- Why a run with these words ends so, with this status: its words, a command that made no file, or a stream.
 abbrev pub RunHasCause : List (List ℕ) → World → World → End → ℕ → Type 0
