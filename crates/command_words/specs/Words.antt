@@ -28,15 +28,15 @@ words_of (Audit plant traces) = codes "audit" ∷ plant ∷ traces
 words_of (Stream plant script made) = codes "stream" ∷ plant ∷ script ∷ made ∷ []
 words_of (Monitor stream) = codes "monitor" ∷ stream ∷ []
 
--- the plant's word: `monitor`, which has none, stands on the bench plant, for which no file is opened
-abbrev pub plant_word : Command → List ℕ
-plant_word (Check plant) = plant
-plant_word (Replay plant script) = plant
-plant_word (Audit plant traces) = plant
-plant_word (Stream plant script made) = plant
-plant_word (Monitor stream) = codes "bench"
+-- the plant's word, which `monitor` hasn't
+abbrev pub plant_word : Command → Option (List ℕ)
+plant_word (Check plant) = Some plant
+plant_word (Replay plant script) = Some plant
+plant_word (Audit plant traces) = Some plant
+plant_word (Stream plant script made) = Some plant
+plant_word (Monitor stream) = None
 
--- the files that it reads behind its plant's, in order
+-- the files that it reads, behind its plant's where it has one, in order
 abbrev pub other_files : Command → List (List ℕ)
 other_files (Check plant) = []
 other_files (Replay plant script) = script ∷ []

@@ -1,6 +1,7 @@
 -- Which status each cause leads to.
-use Rattle.std.proofs.Common.{◌≡◌, ◌⊎◌, inl, inr, ℕ, ◌≤◌, Bool, true, false, List, length, Ok, Err, refl, sym, ◌∙◌, ap, subst, arith}
+use Rattle.std.proofs.Common.{◌≡◌, ◌⊎◌, inl, inr, ℕ, ◌≤◌, Bool, true, false, List, length, Some, Ok, Err, refl, sym, ◌∙◌, ap, subst, arith}
 use Rattle.std.specs.Prelude.{MatchBool}
+use Rattle.std.proofs.lemmas.Option.{same_Some}
 use Rattle.ctl_io.specs.Faults.{count_after}
 use Rattle.ctl_io.specs.Held.{Held, Unshown, NoFile, Holds}
 use Rattle.plant_config.specs.Plant.{PlantData}
@@ -57,7 +58,7 @@ missing_or : {status : ℕ} (words : List (List ℕ)) (before now : World) (name
     → (status_of end ≡ 3) ⊎ ((status_of end ≡ 1) × FilesUntouched before now)
 missing_or words before now name end asks is (inl at) = inr (ap status_of (asked_end words end asks.command asks.ask at.ends), at.files)
 missing_or words before now name end asks is (inr (inr by)) =
-    inl (missing_plant name end (inr (by.plant, file_of words before name NoFile (Stream by.word by.name by.made) (Ok by.plant) asks is by.ask by.opens)))
+    inl (missing_plant name end (inr (by.plant, file_of words before name NoFile (Stream by.word by.name by.made) by.word (Ok by.plant) asks is refl by.ask by.opens)))
 missing_or words before now name end asks is (inr (inl by)) = inl (missing_plant name end (opened_of words before name NoFile end by.command asks is by.ask by.ends))
 
 pub no_plant : (words : List (List ℕ)) (before now : World) (status : ℕ) (name : List ℕ) → AskFile words name → before.held name 0 ≡ NoFile → RunEnds words before now status
@@ -88,7 +89,7 @@ refused_file name text before now TraceTooLong refused count opens = absurd open
 refused_file name text before now StreamTooLong refused count opens = absurd opens
 refused_file name text before now (StreamFailed failed' output') refused count opens = absurd opens
 
-no_plant_of : (text : List ℕ) (plant : PlantData) → IsRefusedPlant text → length text ≤ longest_plant → plant_of_text text ≡ Ok plant → ⊥
+pub no_plant_of : (text : List ℕ) (plant : PlantData) → IsRefusedPlant text → length text ≤ longest_plant → plant_of_text text ≡ Ok plant → ⊥
 no_plant_of text plant (inl long) within is = omega arith
 no_plant_of text plant (inr fault) within is = let clash = sym fault.1 ∙ is in cc
 
@@ -101,7 +102,7 @@ refused_at : {status : ℕ} (words : List (List ℕ)) (before now : World) (name
     → now.file_faults ≡ count_after (is_file_fault end) before.file_faults → RunHasCause words before now end status → IsOrKept 4 before now end
 refused_at words before now name text end asks is refused count (inl at) = inr (inl (ap status_of (asked_end words end asks.command asks.ask at.ends)))
 refused_at words before now name text end asks is refused count (inr (inr by)) =
-    refused_or name text before now end refused count (inr (by.plant, file_of words before name (Holds text) (Stream by.word by.name by.made) (Ok by.plant) asks is by.ask by.opens))
+    refused_or name text before now end refused count (inr (by.plant, file_of words before name (Holds text) (Stream by.word by.name by.made) by.word (Ok by.plant) asks is refl by.ask by.opens))
 refused_at words before now name text end asks is refused count (inr (inl by)) =
     refused_or name text before now end refused count (opened_of words before name (Holds text) end by.command asks is by.ask by.ends)
 
@@ -152,10 +153,10 @@ kept_by true name held plant before now end shows count opens = kept_bench befor
 kept_by false name held plant before now end shows count opens = kept_file name held plant before now end shows count opens
 
 -- a run whose plant is shown isn't stopped at its word, unless it is kept
-pub kept_at_word : (words : List (List ℕ)) (before now : World) (end : End) (word : List ℕ) (plant : PlantData) (command command' : Command) → word ≡ plant_word command → Ask words command → Ask words command'
-    → ShowsPlant word before plant → now.file_faults ≡ count_after (is_file_fault end) before.file_faults → OpensPlant (plant_word command') (before.held (plant_word command') 0) (Err end) → WasKept before now (status_of end)
-kept_at_word words before now end word plant command command' is ask ask' shows count opens =
-    let same : plant_word command' ≡ word = ap plant_word (same_command words command' command ask' ask) ∙ sym is in
+pub kept_at_word : (words : List (List ℕ)) (before now : World) (end : End) (word : List ℕ) (plant : PlantData) (command command' : Command) (word' : List ℕ) → plant_word command ≡ Some word → plant_word command' ≡ Some word'
+    → Ask words command → Ask words command' → ShowsPlant word before plant → now.file_faults ≡ count_after (is_file_fault end) before.file_faults → OpensPlant word' (before.held word' 0) (Err end) → WasKept before now (status_of end)
+kept_at_word words before now end word plant command command' word' is is' ask ask' shows count opens =
+    let same : word' ≡ word = same_Some word' word (sym is' ∙ ap plant_word (same_command words command' command ask' ask) ∙ is) in
     kept_by (is_bench word) word (before.held word 0) plant before now end shows count (subst (λ (n : List ℕ). OpensPlant n (before.held n 0) (Err end)) same opens)
 
 same_shown : (held : Held) (name : List ℕ) (plant plant' : PlantData) → ShowsFile held plant → OpensFile name held (Ok plant') → plant' ≡ plant
@@ -193,12 +194,12 @@ checked plant before now (StreamFailed failed' output') ends = absurd ends
 checked_of : (words : List (List ℕ)) (before now : World) (end : End) (word : List ℕ) (plant : PlantData) → Ask words (Check word) → ShowsPlant word before plant
     → now.file_faults ≡ count_after (is_file_fault end) before.file_faults → Came words before end → IsOrKept 0 before now end
 checked_of words before now end word plant ask shows count (at_words ends) = inr (inl (ap status_of (asked_end words end (Check word) ask ends)))
-checked_of words before now end word plant ask shows count (at_plant command ask' opens) =
-    inr (kept_at_word words before now end word plant (Check word) command refl ask ask' shows count opens)
+checked_of words before now end word plant ask shows count (at_plant command own has ask' opens) =
+    inr (kept_at_word words before now end word plant (Check word) command own refl has ask ask' shows count opens)
 checked_of words before now end word plant ask shows count (in_check plant' by ends) = checked plant' before now end ends
 checked_of words before now end word plant ask shows count (in_replay plant' name held by ends) = no_check words by.word word name by.ask ask
 checked_of words before now end word plant ask shows count (in_audit plant' files by ends) = no_audit words by.word word by.traces by.ask ask
-checked_of words before now end word plant ask shows count (in_stream plant' name held by made read then status ask' ends) = no_check words by.word word name by.ask ask
+checked_of words before now end word plant ask shows count (in_stream plant' name held by made read then wrote wrote_then status ask' ends) = no_check words by.word word name by.ask ask
 checked_of words before now end word plant ask shows count (in_monitor name held by ends) = check_no_monitor words word name ask by.ask
 
 pub check_always : (words : List (List ℕ)) (before now : World) (status : ℕ) (word : List ℕ) (plant : PlantData) → Ask words (Check word) → ShowsPlant word before plant → RunEnds words before now status

@@ -1,5 +1,6 @@
 -- What the words of a run ask for is one command, and its plant file one file.
-use Rattle.std.proofs.Common.{◌≡◌, ◌⊎◌, inl, inr, ℕ, List, [], Result, Ok, Err, refl, sym, ◌∙◌, ap, subst}
+use Rattle.std.proofs.Common.{◌≡◌, ◌⊎◌, inl, inr, ℕ, List, [], Some, Result, Ok, Err, refl, sym, ◌∙◌, ap, subst}
+use Rattle.std.proofs.lemmas.Option.{same_Some}
 use Rattle.ctl_io.specs.Held.{Held}
 use Rattle.plant_config.specs.Plant.{PlantData}
 use Rattle.commands.specs.World.{World}
@@ -21,7 +22,7 @@ traces_of (Stream plant script made) = []
 traces_of (Monitor stream) = []
 
 -- words that ask for a script ask for a command on the same plant
-pub script_command : (words : List (List ℕ)) (word name : List ℕ) → AskScript words word name → (command : Command) × Ask words command × (word ≡ plant_word command)
+pub script_command : (words : List (List ℕ)) (word name : List ℕ) → AskScript words word name → (command : Command) × Ask words command × (plant_word command ≡ Some word)
 script_command words word name (inl ask) = (Replay word name, ask, refl)
 script_command words word name (inr (made, ask)) = (Stream word name made, ask, refl)
 
@@ -45,7 +46,7 @@ no_check words word word' name (inr (made, a)) b = absurd (let same = same_comma
 pub same_audited : (words : List (List ℕ)) (word word' : List ℕ) (traces traces' : List (List ℕ)) → Ask words (Audit word traces) → Ask words (Audit word' traces') → (word ≡ word') × (traces ≡ traces')
 same_audited words word word' traces traces' a b =
     let same = same_command words (Audit word traces) (Audit word' traces') a b in
-    (ap plant_word same, ap traces_of same)
+    (same_Some word word' (ap plant_word same), ap traces_of same)
 
 pub no_audit : {P : Type 0} (words : List (List ℕ)) (word word' : List ℕ) (traces : List (List ℕ)) → Ask words (Audit word traces) → Ask words (Check word') → P
 no_audit words word word' traces a b = absurd (let same = same_command words (Audit word traces) (Check word') a b in cc)
@@ -69,10 +70,10 @@ pub same_stream : (words : List (List ℕ)) (name name' : List ℕ) → Ask word
 same_stream words name name' a b = let same = same_command words (Monitor name) (Monitor name') a b in cc
 
 -- a plant file that the words ask for is the one that any command of theirs opens
-pub file_of : (words : List (List ℕ)) (before : World) (name : List ℕ) (held : Held) (command : Command) (opened : Result PlantData End) → AskFile words name → before.held name 0 ≡ held → Ask words command
-    → OpensPlant (plant_word command) (before.held (plant_word command) 0) opened → OpensFile name held opened
-file_of words before name held command opened asks is ask opens =
-    let word : plant_word command ≡ name = ap plant_word (same_command words command asks.command ask asks.ask) ∙ sym asks.name_is in
+pub file_of : (words : List (List ℕ)) (before : World) (name : List ℕ) (held : Held) (command : Command) (own : List ℕ) (opened : Result PlantData End) → AskFile words name → before.held name 0 ≡ held
+    → plant_word command ≡ Some own → Ask words command → OpensPlant own (before.held own 0) opened → OpensFile name held opened
+file_of words before name held command own opened asks is has ask opens =
+    let word : own ≡ name = same_Some own name (sym has ∙ ap plant_word (same_command words command asks.command ask asks.ask) ∙ asks.name_is) in
     subst (λ (h : Held). OpensFile name h opened) is
     (from_false (OpensBench opened) (OpensFile name (before.held name 0) opened) (is_bench name) asks.is_file
     (subst (λ (n : List ℕ). OpensPlant n (before.held n 0) opened) word opens))
@@ -80,7 +81,9 @@ file_of words before name held command opened asks is ask opens =
 -- Where a command ended that opened a plant file: at the file, or behind the plant that it led to.
 pub opened_of : (words : List (List ℕ)) (before : World) (name : List ℕ) (held : Held) (end : End) (command : Command) → AskFile words name → before.held name 0 ≡ held → Ask words command
     → CommandEnds command before end → OpensFile name held (Err end) ⊎ ((plant : PlantData) × OpensFile name held (Ok plant))
-opened_of words before name held end command asks is ask ends = elim (command_opens command before end ends) [
-  | inl opens ↦ inl (file_of words before name held command (Err end) asks is ask opens)
-  | inr led ↦ inr (led.0, file_of words before name held command (Ok led.0) asks is ask led.1)
-]
+opened_of words before name held end command asks is ask ends =
+    let has : plant_word command ≡ Some name = ap plant_word (same_command words command asks.command ask asks.ask) ∙ asks.name_is in
+    elim (command_opens command name before end has ends) [
+      | inl opens ↦ inl (file_of words before name held command name (Err end) asks is has ask opens)
+      | inr led ↦ inr (led.0, file_of words before name held command name (Ok led.0) asks is has ask led.1)
+    ]

@@ -1,7 +1,5 @@
 -- How a command comes to its report.
-use Rattle.std.proofs.lemmas.Slice.Eq.{bytes_eq-Decides}
-use Rattle.std.specs.Prelude.{codes, if◌then◌else◌}
-use Rattle.std.proofs.Common.{◌≡◌, ℕ, ◌+◌, inl, inr, Bool, false, List, [], ◌∷◌, ◌++◌, Option, Result, Ok, Err, refl, sym, ◌∙◌, ap, subst, add-zero, arith}
+use Rattle.std.proofs.Common.{◌≡◌, ℕ, ◌+◌, inl, inr, Bool, false, List, [], ◌∷◌, ◌++◌, Option, Some, Result, Ok, Err, refl, sym, ◌∙◌, ap, subst, add-zero, arith}
 use Rattle.std.proofs.lemmas.List.{append-nil}
 use Rattle.ctl_io.specs.Faults.{count_after}
 use Rattle.ctl_io.specs.Held.{Held}
@@ -10,7 +8,7 @@ use Rattle.commands.specs.declared.stop.Stop.{Stop}
 use Rattle.commands.specs.World.{World, Snapshot, snapshot}
 use Rattle.commands.specs.End.{End, Done, NoMemory, Usage, FileMissing, FileFault, PlantRefused, PlantTooLong, LineRefused, ScriptTooLong, Audited, TraceTooLong, StreamTooLong, StreamFailed, status_of, is_file_fault}
 use Rattle.command_words.specs.Words.{Command, Check, Replay, Audit, Stream, Monitor, plant_word, other_files, Ask}
-use Rattle.commands.specs.OpensPlant.{next_opening, opened_for}
+use Rattle.commands.specs.OpensPlant.{next_opening, opened_for, plant_files}
 use Rattle.commands.specs.Check.{CheckEnds}
 use Rattle.commands.specs.Replay.{ReplayEnds, UnreadEnds}
 use Rattle.commands.specs.Stream.{StreamEnds}
@@ -30,23 +28,24 @@ stopped_comes : (stop : Stop) (end : End) (before now : Option (List ℕ)) → I
 stopped_comes stop end before now is same = subst (λ (w : Option (List ℕ)). StopComesTo stop end before w) (sym same) (silent stop end before is)
 
 -- none of a command's other files was opened
-left_plant : (command : Command) (before now : Snapshot) (end : End) → LeavesOpened end (opened_for (plant_word command)) before now → LeavesFiles command before now end
+left_plant : (command : Command) (before now : Snapshot) (end : End) → LeavesOpened end (plant_files (plant_word command)) before now → LeavesFiles command before now end
 left_plant command before now end left = record {
   opened = [];
   unopened = other_files command;
   front = refl;
-  left = subst (λ (names : List (List ℕ)). LeavesOpened end names before now) (sym (append-nil (opened_for (plant_word command)))) left;
+  left = subst (λ (names : List (List ℕ)). LeavesOpened end names before now) (sym (append-nil (plant_files (plant_word command)))) left;
   refused = λ four. refl;
-  within = none_within before.held (opened_for (plant_word command));
+  within = none_within before.held (plant_files (plant_word command));
 }
 
 -- the run stopped at the plant's word
-pub at_plant : {T : Type 0} (command : Command) (before now : World) (stop : Stop) → (opens : OpensAs (Opens (plant_word command) (snapshot before) (snapshot now)) (Err stop)) → CommandEnds command before opens.0
-    → now.written ≡ before.written → now.file_faults ≡ count_after (is_by_files stop) before.file_faults → now.output_faults ≡ before.output_faults → CommandStops {T = T} command before now (Err stop)
-at_plant command before now stop opens ends same count kept = record {
+pub at_plant : {T : Type 0} (command : Command) (word : List ℕ) (before now : World) (stop : Stop) → plant_word command ≡ Some word → (opens : OpensAs (Opens word (snapshot before) (snapshot now)) (Err stop))
+    → CommandEnds command before opens.0 → now.written ≡ before.written → now.file_faults ≡ count_after (is_by_files stop) before.file_faults → now.output_faults ≡ before.output_faults → CommandStops {T = T} command before now (Err stop)
+at_plant command word before now stop has opens ends same count kept = record {
   end = opens.0;
   ends = ends;
-  files = left_plant command (snapshot before) (snapshot now) opens.0 opens.1.1;
+  files = left_plant command (snapshot before) (snapshot now) opens.0
+      (subst (λ (w : Option (List ℕ)). LeavesOpened opens.0 (plant_files w) (snapshot before) (snapshot now)) (sym has) opens.1.1);
   comes = stopped_comes stop opens.0 before.written now.written opens.2 same;
   fault = opens.2.fault;
   file_faults = count;
@@ -182,10 +181,6 @@ told_not_4 name held TraceTooLong ends four = ends
 told_not_4 name held StreamTooLong ends four = omega arith
 told_not_4 name held (StreamFailed failed' output') ends four = ends
 
--- no file is opened for the bench plant
-bench_unopened : opened_for (codes "bench") ≡ []
-bench_unopened = ap (λ b. if b then [] else codes "bench" ∷ []) ((bytes_eq-Decides (codes "bench") (codes "bench")).1 refl)
-
 -- the stream was told, or stopped the run
 pub monitor_went : {T : Type 0} (name : List ℕ) (before now : World) (result : Result T Stop) → StopsFor result (Tells name (snapshot before) (snapshot now)) before.written now.written
     → now.file_faults ≡ count_after (stopped_by_files result) before.file_faults → now.output_faults ≡ count_after (stopped_by_output result) before.output_faults
@@ -197,9 +192,9 @@ monitor_went name before now result stops count output = record {
     opened = name ∷ [];
     unopened = [];
     front = refl;
-    left = subst (λ (plant : List (List ℕ)). LeavesOpened stops.end (plant ++ name ∷ []) (snapshot before) (snapshot now)) (sym bench_unopened) stops.cause.1;
+    left = stops.cause.1;
     refused = λ four. absurd (told_not_4 name (before.held name 0) stops.end stops.cause.0 four);
-    within = one_within before.held (opened_for (codes "bench")) name;
+    within = one_within before.held [] name;
   };
   comes = stops.comes;
   fault = stops.fault;
@@ -235,7 +230,7 @@ unread_cause words word name made before now between plant end ask opens ends le
 }
 
 stream_cause : (words : List (List ℕ)) (word name made : List ℕ) (before now : World) (between : Snapshot) (plant : PlantData) (end : End) (status : ℕ) → Ask words (Stream word name made)
-    → Opens word (snapshot before) between (Ok plant) → between.held name 0 ≡ before.held name (next_opening word name) → Streams plant name made between (snapshot now) status end → RunHasCause words before now end status
+    → Opens word (snapshot before) between (Ok plant) → between.held name 0 ≡ before.held name (next_opening word name) → Streams plant name made between (snapshot now) before.written now.written status end → RunHasCause words before now end status
 stream_cause words word name made before now between plant end status ask opens next (inl unread) =
     inr (inl (unread_cause words word name made before now between plant end ask opens (subst (λ (h : Held). UnreadEnds name h end) next unread.0) unread.1))
 stream_cause words word name made before now between plant end status ask opens next (inr (read, well, ends)) = inr (inr (record {
@@ -247,7 +242,7 @@ stream_cause words word name made before now between plant end status ask opens 
   opens = opens.0;
   read = read;
   well = well-append (opened_for word) (name ∷ []) (snapshot before) between read opens.1 well;
-  ends = subst (λ (h : Held). StreamEnds plant made h read (snapshot now) status end) next ends;
+  ends = subst (λ (h : Held). StreamEnds plant made h read (snapshot now) before.written now.written status end) next ends;
 }))
 
 pub stream_went : {T : Type 0} (words : List (List ℕ)) (word name made : List ℕ) (before now : World) (between : Snapshot) (plant : PlantData) (result : Result T Stop) → Ask words (Stream word name made)

@@ -9,7 +9,7 @@ use Rattle.commands.specs.World.{World, snapshot}
 use Rattle.commands.specs.End.{End, Done, NoMemory, Usage, FileMissing, FileFault, PlantRefused, PlantTooLong, LineRefused, ScriptTooLong, Audited, TraceTooLong, StreamTooLong, StreamFailed, is_file_fault, status_of, end_text}
 use Rattle.commands.specs.Lines.{file_missing, file_fault}
 use Rattle.command_words.specs.Words.{Command, Check, Replay, Audit, Stream, Monitor, plant_word, other_files, Ask}
-use Rattle.commands.specs.OpensPlant.{OpensPlant, ThenEnds, next_opening, opened_for}
+use Rattle.commands.specs.OpensPlant.{OpensPlant, ThenEnds, next_opening, plant_files}
 use Rattle.commands.specs.Run.{CommandEnds, RunHasCause, EndsReading, IsWritten, RunEnds}
 use Rattle.commands.specs.Outcomes.{StopsAtFile, WasMissing, HadFileFault, HadStreamFault}
 use Rattle.commands.proofs.OpensLemmas.{opened_file}
@@ -19,13 +19,13 @@ use Rattle.commands.proofs.VerdictLemmas.{other_status}
 
 -- the file that a run stopped at
 stops_by : (reading : FileReading) (words : List (List ℕ)) (before now : World) (name : List ℕ) (command : Command) → Ask words command → (opened unopened : List (List ℕ)) → other_files command ≡ opened ++ unopened
-    → EndsReading reading name (opened_for (plant_word command) ++ opened) (snapshot before) (snapshot now) → StopsAtFile reading words before now name
+    → EndsReading reading name (plant_files (plant_word command) ++ opened) (snapshot before) (snapshot now) → StopsAtFile reading words before now name
 stops_by reading words before now name command ask opened unopened front ended = record {
   command = command;
   ask = ask;
-  opened = opened_for (plant_word command) ++ opened;
+  opened = plant_files (plant_word command) ++ opened;
   unopened = unopened;
-  front = ap (λ (ns : List (List ℕ)). opened_for (plant_word command) ++ ns) front ∙ sym (append_assoc (opened_for (plant_word command)) opened unopened);
+  front = ap (λ (ns : List (List ℕ)). plant_files (plant_word command) ++ ns) front ∙ sym (append_assoc (plant_files (plant_word command)) opened unopened);
   ended = ended;
 }
 
@@ -42,12 +42,12 @@ stops_failed words before now name (inr (inl by)) = stops_by Failed words before
 missing_at : (words : List (List ℕ)) (before now : World) (name : List ℕ) → Came words before (FileMissing name) → StopsAtFile Missing words before now name → now.file_faults ≡ before.file_faults
     → now.written ≡ appended before.written (file_missing name) → WasMissing words before now
 missing_at words before now name (at_words ends) stops count appends = absurd ends
-missing_at words before now name (at_plant command ask opens) stops count appends =
-    let o = opened_file (plant_word command) (before.held (plant_word command) 0) (FileMissing name) (λ h. h) opens in
+missing_at words before now name (at_plant command word has ask opens) stops count appends =
+    let o = opened_file word (before.held word 0) (FileMissing name) (λ h. h) opens in
     record {
-      name = plant_word command;
-      held = before.held (plant_word command) 0;
-      wants = inl (file_asked words command ask o.0, refl);
+      name = word;
+      held = before.held word 0;
+      wants = inl (file_asked words command word has ask o.0, refl);
       stops = subst (StopsAtFile Missing words before now) (o.1.0) stops;
       missing = o.1.1;
       no_fault = count;
@@ -72,7 +72,7 @@ missing_at words before now name (in_audit plant files asks ends) stops count ap
   no_fault = count;
   appends = appends ∙ ap (λ (n : List ℕ). appended before.written (file_missing n)) ends.2;
 }
-missing_at words before now name (in_stream plant' script held' by made read then status ask' ends') stops count appends = absurd ends'
+missing_at words before now name (in_stream plant' script held' by made read then wrote wrote_then status ask' ends') stops count appends = absurd ends'
 missing_at words before now name (in_monitor stream held asks ends) stops count appends = record {
   name = stream;
   held = held;
@@ -86,12 +86,12 @@ missing_at words before now name (in_monitor stream held asks ends) stops count 
 fault_at : (words : List (List ℕ)) (before now : World) (name : List ℕ) → Came words before (FileFault name) → StopsAtFile Failed words before now name → now.file_faults ≡ one_more before.file_faults
     → now.written ≡ appended before.written (file_fault name) → HadFileFault words before now
 fault_at words before now name (at_words ends) stops count appends = absurd ends
-fault_at words before now name (at_plant command ask opens) stops count appends =
-    let o = opened_file (plant_word command) (before.held (plant_word command) 0) (FileFault name) (λ h. h) opens in
+fault_at words before now name (at_plant command word has ask opens) stops count appends =
+    let o = opened_file word (before.held word 0) (FileFault name) (λ h. h) opens in
     record {
-      name = plant_word command;
-      held = before.held (plant_word command) 0;
-      wants = inl (file_asked words command ask o.0, refl);
+      name = word;
+      held = before.held word 0;
+      wants = inl (file_asked words command word has ask o.0, refl);
       stops = subst (StopsAtFile Failed words before now) (o.1) stops;
       fault = count;
       appends = appends ∙ ap (λ (n : List ℕ). appended before.written (file_fault n)) o.1;
@@ -113,7 +113,7 @@ fault_at words before now name (in_audit plant files asks ends) stops count appe
   fault = count;
   appends = appends ∙ ap (λ (n : List ℕ). appended before.written (file_fault n)) ends.2;
 }
-fault_at words before now name (in_stream plant' script held' by made read then status ask' ends') stops count appends = absurd ends'
+fault_at words before now name (in_stream plant' script held' by made read then wrote wrote_then status ask' ends') stops count appends = absurd ends'
 fault_at words before now name (in_monitor stream held asks ends) stops count appends = record {
   name = stream;
   held = held;

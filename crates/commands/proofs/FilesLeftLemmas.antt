@@ -1,5 +1,5 @@
 -- What a run leaves of the files.
-use Rattle.std.proofs.Common.{◌≡◌, ◌≢◌, ◌⊎◌, inl, inr, ℕ, ◌+◌, ◌-◌, Bool, true, false, List, [], ◌∷◌, ◌++◌, refl, sym, ◌∙◌, ap, subst, append_assoc, append-nil, arith}
+use Rattle.std.proofs.Common.{◌≡◌, ◌≢◌, ◌⊎◌, inl, inr, ℕ, ◌+◌, ◌-◌, Bool, true, false, List, [], ◌∷◌, ◌++◌, Option, Some, None, refl, sym, ◌∙◌, ap, subst, append_assoc, append-nil, arith}
 use Rattle.std.specs.Prelude.{Contains, if◌then◌else◌}
 use Rattle.std.proofs.lemmas.List.Elements.{Contains-append_left, Contains-append_right, Contains-push, Contains-push_cases}
 use Rattle.ctl_io.specs.Custody.{Custody, FilesCustody, SourceEnd, SinkEnd}
@@ -9,7 +9,7 @@ use Rattle.ctl_io.specs.WholeFile.{FileReading, Well, Missing, Failed, CameBack,
 use Rattle.commands.specs.World.{World, Snapshot, snapshot}
 use Rattle.commands.specs.End.{End, Done, NoMemory, Usage, FileMissing, FileFault, PlantRefused, PlantTooLong, LineRefused, ScriptTooLong, Audited, TraceTooLong, StreamTooLong, StreamFailed, status_of, is_file_fault}
 use Rattle.command_words.specs.Words.{Command, Stream, plant_word, other_files, made_files, Ask}
-use Rattle.commands.specs.OpensPlant.{is_bench, opened_for, files_of, next_opening}
+use Rattle.commands.specs.OpensPlant.{is_bench, opened_for, plant_files, files_of, next_opening}
 use Rattle.commands.specs.Asked.{AskFile, NamesFile}
 use Rattle.commands.specs.Run.{ReadsFile, ReadsWell, LeavesFiles, EndsByCommand, EndsByStream, RunHasCause, RunEnds}
 use Rattle.commands.specs.Statuses.{AskNoStream}
@@ -54,12 +54,12 @@ even_left opened before now (inr (reading, name, ends)) =
 
 even_by : (words : List (List ℕ)) (before now : World) (end : End) → EndsByCommand words before now end → IsEven before.custody now.custody
 even_by words before now end by =
-    let opened = opened_for (plant_word by.command) ++ by.files.opened in
+    let opened = plant_files (plant_word by.command) ++ by.files.opened in
     even_left opened (snapshot before) (snapshot now) (left_so end opened (snapshot before) (snapshot now) by.files.left)
 
 -- what a stream leaves of other files than its own, once its plant and its script were read
 stream_leaves : (words : List (List ℕ)) (before now : World) (end : End) (status : ℕ) (by : EndsByStream words before now end status) → LeavesOthers by.made by.read (snapshot now)
-stream_leaves words before now end status by = ends_leave by.plant by.made (before.held by.name (next_opening by.word by.name)) by.read (snapshot now) status end by.ends
+stream_leaves words before now end status by = ends_leave before.written now.written by.plant by.made (before.held by.name (next_opening by.word by.name)) by.read (snapshot now) status end by.ends
 
 sources_of : {status : ℕ} (words : List (List ℕ)) (before now : World) (end : End) → RunHasCause words before now end status → now.custody.sources.out ≡ before.custody.sources.out
 sources_of words before now end (inl at) = (even_same (snapshot before) (snapshot now) at.files).sources
@@ -118,17 +118,17 @@ left_stays opened name before now other (inr (reading, last, ends)) =
     (well_stays ends.earlier name before ends.between (λ one. among (Contains-append_left ends.earlier (last ∷ []) name one)) ends.well)
     (ends.read.others name (λ same. among (Contains-append_right ends.earlier (last ∷ []) name (contains_first last [] name same))))
 
-command_stays : (command : Command) (name : List ℕ) (before now : Snapshot) (end : End) (files : LeavesFiles command before now end) → (Contains (opened_for (plant_word command) ++ files.opened) name → ⊥)
+command_stays : (command : Command) (name : List ℕ) (before now : Snapshot) (end : End) (files : LeavesFiles command before now end) → (Contains (plant_files (plant_word command) ++ files.opened) name → ⊥)
     → Stays (before.held name) (now.held name)
 command_stays command name before now end files other =
-    let opened = opened_for (plant_word command) ++ files.opened in
+    let opened = plant_files (plant_word command) ++ files.opened in
     left_stays opened name before now other (left_so end opened before now files.left)
 
 -- what was opened was asked for
-was_asked : (command : Command) (name : List ℕ) (before now : Snapshot) (end : End) (files : LeavesFiles command before now end) → Contains (opened_for (plant_word command) ++ files.opened) name
+was_asked : (command : Command) (name : List ℕ) (before now : Snapshot) (end : End) (files : LeavesFiles command before now end) → Contains (plant_files (plant_word command) ++ files.opened) name
     → Contains (files_of command) name
 was_asked command name before now end files one =
-    let plant = opened_for (plant_word command) in
+    let plant = plant_files (plant_word command) in
     let all : (plant ++ files.opened) ++ files.unopened ≡ plant ++ other_files command =
     append_assoc plant files.opened files.unopened ∙ ap (λ (ns : List (List ℕ)). plant ++ ns) (sym files.front) in
     subst (λ (ns : List (List ℕ)). Contains ns name) all (Contains-append_left (plant ++ files.opened) files.unopened name one)
@@ -160,20 +160,26 @@ only_word : (bench_word : Bool) (word name : List ℕ) → Contains (if bench_wo
 only_word true word name one = absurd (omega (arith, one.1))
 only_word false word name one = (refl, sym (elim (Contains-push_cases [] word name one) [ inl none ↦ absurd (omega (arith, none.1)) | inr same ↦ same ]))
 
-only_plant : (words : List (List ℕ)) (name : List ℕ) (command : Command) → Ask words command → Contains (opened_for (plant_word command)) name → AskFile words name
+only_file : (word : Option (List ℕ)) (name : List ℕ) → Contains (plant_files word) name → (is_bench name ≡ false) × (word ≡ Some name)
+only_file None name one = absurd (omega (arith, one.1))
+only_file (Some word) name one =
+    let found = only_word (is_bench word) word name one in
+    (ap is_bench found.1 ∙ found.0, ap Some (sym found.1))
+
+only_plant : (words : List (List ℕ)) (name : List ℕ) (command : Command) → Ask words command → Contains (plant_files (plant_word command)) name → AskFile words name
 only_plant words name command ask one =
-    let found = only_word (is_bench (plant_word command)) (plant_word command) name one in
-    record { command = command; ask = ask; name_is = found.1; is_file = ap is_bench found.1 ∙ found.0 }
+    let found = only_file (plant_word command) name one in
+    record { command = command; ask = ask; name_is = found.1; is_file = found.0 }
 
 unopened_of : {status : ℕ} (words : List (List ℕ)) (before now : World) (end : End) (name : List ℕ) → status_of end ≡ 4 → RunHasCause words before now end status → (AskFile words name → ⊥) → Stays (before.held name) (now.held name)
 unopened_of words before now end name four (inl at) other = stays_same name (snapshot before) (snapshot now) at.files
 unopened_of words before now end name four (inr (inl by)) other =
-    let plant = opened_for (plant_word by.command) in
+    let plant = plant_files (plant_word by.command) in
     let none : plant ++ by.files.opened ≡ plant = ap (λ (ns : List (List ℕ)). plant ++ ns) (by.files.refused four) ∙ append-nil plant in
     command_stays by.command name (snapshot before) (snapshot now) end by.files
     (λ one. other (only_plant words name by.command by.ask (subst (λ (ns : List (List ℕ)). Contains ns name) none one)))
 unopened_of {status} words before now end name four (inr (inr by)) other =
-    absurd (stream_not_4 by.plant by.made (before.held by.name (next_opening by.word by.name)) by.read (snapshot now) status end by.ends four)
+    absurd (stream_not_4 before.written now.written by.plant by.made (before.held by.name (next_opening by.word by.name)) by.read (snapshot now) status end by.ends four)
 
 pub no_script_opened : (words : List (List ℕ)) (before now : World) (name : List ℕ) → RunEnds words before now 4 → (AskFile words name → ⊥) → Stays (before.held name) (now.held name)
 no_script_opened words before now name run other =

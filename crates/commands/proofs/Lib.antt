@@ -34,3 +34,6 @@ pub mod ServiceEndLemmas
 pub mod ServiceKeptLemmas
 pub mod ProgramLemmas
 pub mod ServiceLawLemmas
+pub mod ServiceCauseLemmas
+pub mod PanelWholeLemmas
+pub mod WholeLemmas

@@ -40,11 +40,6 @@ pub only_false : (P Q : Type 0) (b : Bool) → (P → ⊥) → MatchBool b P Q �
 only_false P Q true never chosen = absurd (never chosen)
 only_false P Q false never chosen = (refl, chosen)
 
--- a choice by a test that is known to be true
-pub from_true : (P Q : Type 0) (b : Bool) → b ≡ true → MatchBool b P Q → P
-from_true P Q true is chosen = chosen
-from_true P Q false is chosen = absurd (false≢true is)
-
 -- a choice by a test that is known to be false
 pub from_false : (P Q : Type 0) (b : Bool) → b ≡ false → MatchBool b P Q → Q
 from_false P Q true is chosen = absurd (false≢true (sym is))

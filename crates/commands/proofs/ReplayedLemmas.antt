@@ -35,13 +35,13 @@ pub replayed_of : (words : List (List ℕ)) (before now : World) (end : End) (pl
 replayed_of words before now end plant name held asks count (at_words ends) =
     let command = script_command words asks.word name asks.ask in
     inr (inl (ap status_of (asked_end words end command.0 command.1 ends)))
-replayed_of words before now end plant name held asks count (at_plant command' ask opens) =
+replayed_of words before now end plant name held asks count (at_plant command' own has ask opens) =
     let command = script_command words asks.word name asks.ask in
-    inr (kept_at_word words before now end asks.word plant command.0 command' command.2 command.1 ask asks.shows count opens)
+    inr (kept_at_word words before now end asks.word plant command.0 command' own command.2 has command.1 ask asks.shows count opens)
 replayed_of words before now end plant name held asks count (in_check plant' by ends) = no_check words asks.word by.word name asks.ask by.ask
 replayed_of words before now end plant name held asks count (in_replay plant' name' held' by ends) = inl (asked_replay words before end plant plant' name name' held held' asks by ends)
-replayed_of words before now end plant name held asks count (in_stream plant' name' held' by made read then status ask ends) =
-    elim (as_replay plant' name' made held' read then status before now end count ends) [
+replayed_of words before now end plant name held asks count (in_stream plant' name' held' by made read then wrote wrote_then status ask ends) =
+    elim (as_replay wrote wrote_then plant' name' made held' read then status before now end count ends) [
       | inl so ↦ inl (asked_replay words before end plant plant' name name' held held' asks by so)
       | inr kept ↦ inr kept
     ]

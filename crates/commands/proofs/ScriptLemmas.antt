@@ -6,7 +6,6 @@ use Rattle.trace_audit.specs.declared.verdict.Verdict.TheVariants.{Confirmed, Ba
 use Rattle.commands.specs.World.{World}
 use Rattle.commands.specs.End.{End, Done, NoMemory, Usage, FileMissing, FileFault, PlantRefused, PlantTooLong, LineRefused, ScriptTooLong, Audited, TraceTooLong, StreamTooLong, StreamFailed, status_of, end_text}
 use Rattle.commands.specs.Lines.{line_refused, script_too_long, trace_too_long, stream_too_long}
-use Rattle.command_words.specs.Words.{plant_word}
 use Rattle.commands.specs.Run.{IsWritten, RunEnds}
 use Rattle.commands.specs.Outcomes.{RefusedLine, RefusedLength, WereAudited, RefusedTraces, RefusedStream}
 use Rattle.commands.proofs.HeldLemmas.{if_held}
@@ -15,8 +14,8 @@ use Rattle.commands.proofs.StatusesLemmas.{nowhere, audited_at}
 
 line_at : (words : List (List ℕ)) (before now : World) (number : ℕ) → Came words before (LineRefused number) → now.written ≡ appended before.written (line_refused number) → RefusedLine words before now
 line_at words before now number (at_words ends) appends = absurd ends
-line_at words before now number (at_plant command ask opens) appends =
-    absurd (nowhere (plant_word command) (before.held (plant_word command) 0) (LineRefused number) (λ h. h) (λ h. h) opens)
+line_at words before now number (at_plant command word has ask opens) appends =
+    absurd (nowhere word (before.held word 0) (LineRefused number) (λ h. h) (λ h. h) opens)
 line_at words before now number (in_check plant asks ends) appends = absurd ends
 line_at words before now number (in_replay plant name held asks ends) appends = record {
   plant = plant;
@@ -29,7 +28,7 @@ line_at words before now number (in_replay plant name held asks ends) appends = 
   appends = appends;
 }
 line_at words before now number (in_audit plant files asks ends) appends = absurd ends
-line_at words before now number (in_stream plant name held asks made read then status ask ends) appends = record {
+line_at words before now number (in_stream plant name held asks made read then wrote wrote_then status ask ends) appends = record {
   plant = plant;
   name = name;
   held = held;
@@ -43,33 +42,33 @@ line_at words before now number (in_monitor name held asks ends) appends = absur
 
 length_at : (words : List (List ℕ)) (before now : World) → Came words before ScriptTooLong → now.written ≡ appended before.written script_too_long → RefusedLength words before now
 length_at words before now (at_words ends) appends = absurd ends
-length_at words before now (at_plant command ask opens) appends =
-    absurd (nowhere (plant_word command) (before.held (plant_word command) 0) ScriptTooLong (λ h. h) (λ h. h) opens)
+length_at words before now (at_plant command word has ask opens) appends =
+    absurd (nowhere word (before.held word 0) ScriptTooLong (λ h. h) (λ h. h) opens)
 length_at words before now (in_check plant asks ends) appends = absurd ends
 length_at words before now (in_replay plant name held asks ends) appends =
     record { plant = plant; name = name; held = held; asks = asks; too_long = ends; appends = appends }
 length_at words before now (in_audit plant files asks ends) appends = absurd ends
-length_at words before now (in_stream plant' name' held' by made read then status ask' ends') appends = absurd ends'
+length_at words before now (in_stream plant' name' held' by made read then wrote wrote_then status ask' ends') appends = absurd ends'
 length_at words before now (in_monitor name held asks ends) appends = absurd ends
 
 traces_at : (words : List (List ℕ)) (before now : World) → Came words before TraceTooLong → now.written ≡ appended before.written trace_too_long → RefusedTraces words before now
 traces_at words before now (at_words ends) appends = absurd ends
-traces_at words before now (at_plant command ask opens) appends =
-    absurd (nowhere (plant_word command) (before.held (plant_word command) 0) TraceTooLong (λ h. h) (λ h. h) opens)
+traces_at words before now (at_plant command word has ask opens) appends =
+    absurd (nowhere word (before.held word 0) TraceTooLong (λ h. h) (λ h. h) opens)
 traces_at words before now (in_check plant asks ends) appends = absurd ends
 traces_at words before now (in_replay plant name held asks ends) appends = absurd ends
 traces_at words before now (in_audit plant files asks ends) appends = record { plant = plant; files = files; asks = asks; too_long = ends; appends = appends }
-traces_at words before now (in_stream plant' name' held' by made read then status ask' ends') appends = absurd ends'
+traces_at words before now (in_stream plant' name' held' by made read then wrote wrote_then status ask' ends') appends = absurd ends'
 traces_at words before now (in_monitor name held asks ends) appends = absurd ends
 
 stream_at : (words : List (List ℕ)) (before now : World) → Came words before StreamTooLong → now.written ≡ appended before.written stream_too_long → RefusedStream words before now
 stream_at words before now (at_words ends) appends = absurd ends
-stream_at words before now (at_plant command ask opens) appends =
-    absurd (nowhere (plant_word command) (before.held (plant_word command) 0) StreamTooLong (λ h. h) (λ h. h) opens)
+stream_at words before now (at_plant command word has ask opens) appends =
+    absurd (nowhere word (before.held word 0) StreamTooLong (λ h. h) (λ h. h) opens)
 stream_at words before now (in_check plant asks ends) appends = absurd ends
 stream_at words before now (in_replay plant name held asks ends) appends = absurd ends
 stream_at words before now (in_audit plant files asks ends) appends = absurd ends
-stream_at words before now (in_stream plant' name' held' by made read then status ask' ends') appends = absurd ends'
+stream_at words before now (in_stream plant' name' held' by made read then wrote wrote_then status ask' ends') appends = absurd ends'
 stream_at words before now (in_monitor name held asks ends) appends = record { name = name; held = held; asks = asks; too_long = ends; appends = appends }
 
 -- what a status of 5 tells

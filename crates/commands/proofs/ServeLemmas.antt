@@ -14,7 +14,8 @@ use Rattle.ctl_io.specs.Faults.{count_after}
 use Rattle.ctl_io.specs.Sink.{appended, AppendsPart}
 use Rattle.ctl_io.proofs.SinkLemmas.{appended-nil}
 use Rattle.plant_config.specs.Plant.{PlantData}
-use Rattle.panel_session.specs.Served.{trace_shows}
+use Rattle.plant_config.specs.IsPlant.{IsPlant}
+use Rattle.panel_session.specs.Served.{TraceData, trace_shows}
 use Rattle.panel_server.specs.PlantServed.{NetData, ServedSo}
 use Rattle.panel_server.specs.Workers.{sink_shows, trace_of}
 use Rattle.panel_server.specs.declared.plant.PlantDone.{PlantDone}
@@ -84,15 +85,17 @@ its (Some name) = name
 module _ {P : Type 0} (WasSent : P → List (List ℕ) → Type 0) (faults : P → ℕ) where
   -- the plant was served with its traces in files
   pub served-traced : {K : Type 0} (name written : K → Option (List ℕ)) (sink_faults : K → ℕ) (plant : PlantData) (prefix : List ℕ) (names : List (List ℕ)) (sinks back : List K)
-      (opened made now : Snapshot) (net net_then : NetData P) (answer : Result PlantDone ServeFault) → names ≡ trace_names prefix (length plant.panels) → MakesFiles names opened made
+      (opened made now : Snapshot) (net net_then : NetData P) (answer : Result PlantDone ServeFault) → IsPlant plant → names ≡ trace_names prefix (length plant.panels) → MakesFiles names opened made
       → AreAsMade names (map (sink_shows name written sink_faults) sinks)
       → ServedSo WasSent faults plant net net_then (map (trace_shows written sink_faults) sinks) (map (trace_shows written sink_faults) back) answer → map name back ≡ map name sinks
       → TakesAllBack (map (sink_shows name written sink_faults) back) made now → EndsServed WasSent faults plant (Some prefix) opened now net net_then (answered_end names answer)
-  served-traced name written sink_faults plant prefix names sinks back opened made now net net_then answer are makes as_made served kept takes =
+  served-traced name written sink_faults plant prefix names sinks back opened made now net net_then answer plant_is are makes as_made served kept takes =
       let shows = sink_shows name written sink_faults in
       let named_back : map (λ (one : SinkEnd). one.name) (map shows sinks) ≡ map (λ (one : SinkEnd). one.name) (map shows back) =
       map-map (λ (one : SinkEnd). one.name) shows sinks ∙ sym kept ∙ sym (map-map (λ (one : SinkEnd). one.name) shows back) in
       record {
+        plant_is = plant_is;
+        silent = tt;
         answer = answer;
         traces = map (trace_shows written sink_faults) sinks;
         new = subst (All IsNewTrace) (map-map trace_of shows sinks) (all_new names (map shows sinks) as_made);
@@ -109,10 +112,12 @@ module _ {P : Type 0} (WasSent : P → List (List ℕ) → Type 0) (faults : P �
 
   -- the plant was served with traces that nobody wants
   pub served-untraced : {K : Type 0} (written : K → Option (List ℕ)) (sink_faults : K → ℕ) (plant : PlantData) (names : List (List ℕ)) (sinks back : List K)
-      (files : Snapshot) (net net_then : NetData P) (answer : Result PlantDone ServeFault) → ((sink : K) → IsNewTrace (trace_shows written sink_faults sink)) → names ≡ []
+      (files : Snapshot) (net net_then : NetData P) (answer : Result PlantDone ServeFault) → IsPlant plant → ((sink : K) → IsNewTrace (trace_shows written sink_faults sink)) → names ≡ []
       → ServedSo WasSent faults plant net net_then (map (trace_shows written sink_faults) sinks) (map (trace_shows written sink_faults) back) answer
       → EndsServed WasSent faults plant None files files net net_then (answered_end names answer)
-  served-untraced written sink_faults plant names sinks back files net net_then answer fresh none served = record {
+  served-untraced written sink_faults plant names sinks back files net net_then answer plant_is fresh none served = record {
+    plant_is = plant_is;
+    silent = All-map (λ (trace : TraceData). trace.faults ≡ 0) (trace_shows written sink_faults) back (λ i d less. (fresh (get_or back i d)).no_faults);
     answer = answer;
     traces = map (trace_shows written sink_faults) sinks;
     new = All-map IsNewTrace (trace_shows written sink_faults) sinks (λ i d less. fresh (get_or sinks i d));

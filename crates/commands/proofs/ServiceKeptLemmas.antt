@@ -63,7 +63,7 @@ shown_by true name held plant end shows opens = shown_bench name end opens
 shown_by false name held plant end shows opens = shown_file name held plant end shows opens
 
 -- files that were read well have no fault, and the one that failed is one
-well-faults : (names : List (List ℕ)) (before now : Snapshot) → ReadsWell names before now → now.faults ≡ before.faults
+pub well-faults : (names : List (List ℕ)) (before now : Snapshot) → ReadsWell names before now → now.faults ≡ before.faults
 well-faults [] before now reads = ap (λ (s : Snapshot). s.faults) reads
 well-faults (name ∷ later) before now reads = well-faults later reads.0 now reads.2 ∙ reads.1.faults
 

@@ -12,7 +12,7 @@ use Rattle.commands.proofs.ServiceKeptLemmas.{served_or_kept}
 
 module _ {P : Type 0} (WasSent : P → List (List ℕ) → Type 0) (faults : P → ℕ) where
   -- a run whose words ask for a service ends with it
-  service_of : (words : List (List ℕ)) (before now : World) (net net_then : NetData P) (status : ℕ) (service : Service) → AskService words service → ProgramEnds WasSent faults words before now net net_then status
+  pub service_of : (words : List (List ℕ)) (before now : World) (net net_then : NetData P) (status : ℕ) (service : Service) → AskService words service → ProgramEnds WasSent faults words before now net net_then status
       → ServiceRunEnds WasSent faults service before now net net_then status
   service_of words before now net net_then status service ask (inl ends) = absurd (not_both words ends.0 service ends.1 ask)
   service_of words before now net net_then status service ask (inr (inl ends)) =

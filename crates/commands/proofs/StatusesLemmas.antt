@@ -1,5 +1,5 @@
 -- What the end of a run tells by its status.
-use Rattle.std.proofs.Common.{◌≡◌, ◌⊎◌, inl, inr, ℕ, Bool, true, false, List, Ok, Err, refl, ◌∙◌, ap, subst, arith}
+use Rattle.std.proofs.Common.{◌≡◌, ◌⊎◌, inl, inr, ℕ, Bool, true, false, List, Some, Ok, Err, refl, ◌∙◌, ap, subst, arith}
 use Rattle.std.specs.Prelude.{MatchBool}
 use Rattle.ctl_io.specs.Sink.{appended}
 use Rattle.ctl_io.specs.Held.{Held, MayBeHere}
@@ -12,9 +12,9 @@ use Rattle.trace_audit.specs.declared.verdict.Verdict.TheVariants.{Confirmed, Ba
 use Rattle.commands.specs.World.{World}
 use Rattle.commands.specs.End.{End, Done, NoMemory, Usage, FileMissing, FileFault, PlantRefused, PlantTooLong, LineRefused, ScriptTooLong, Audited, TraceTooLong, StreamTooLong, StreamFailed, status_of, end_text, verdict_line}
 use Rattle.commands.specs.Lines.{no_memory, usage, plant_refused, plant_too_long}
-use Rattle.command_words.specs.Words.{Command, Check, Audit, Stream, Monitor, plant_word, Ask, HasNoForm}
+use Rattle.command_words.specs.Words.{Command, Check, Replay, Audit, Stream, Monitor, plant_word, Ask, HasNoForm}
 use Rattle.commands.specs.OpensPlant.{is_bench, OpensBench, OpensFile, OpensPlant, Reads}
-use Rattle.commands.specs.Asked.{AskFile, PlantMayBeHere}
+use Rattle.commands.specs.Asked.{AskFile, FirstMayBeHere, PlantMayBeHere}
 use Rattle.commands.specs.Run.{RunHasCause, CommandEnds, IsWritten, RunEnds}
 use Rattle.commands.specs.Outcomes.{WasChecked, WasReplayed, WereAudited, WasTold, RanOutOfMemory, HadPlantFault, WasTooLong}
 use Rattle.commands.proofs.HeldLemmas.{if_held}
@@ -28,20 +28,20 @@ pub nowhere : (word : List ℕ) (held : Held) (end : End) → (OpensBench (Err e
 nowhere word held end no_bench no_file opens = no_file (opened_file word held end no_bench opens).1
 
 -- the plant file that a command asks for, where its word leads to an end of its own
-pub file_asked : (words : List (List ℕ)) (command : Command) → Ask words command → is_bench (plant_word command) ≡ false → AskFile words (plant_word command)
-file_asked words command ask is = record { command = command; ask = ask; name_is = refl; is_file = is }
+pub file_asked : (words : List (List ℕ)) (command : Command) (word : List ℕ) → plant_word command ≡ Some word → Ask words command → is_bench word ≡ false → AskFile words word
+file_asked words command word has ask is = record { command = command; ask = ask; name_is = has; is_file = is }
 
 -- an audit's verdict
 
 pub audited_at : (words : List (List ℕ)) (before now : World) (verdict : Verdict) → Came words before (Audited verdict) → now.written ≡ appended before.written (verdict_line verdict)
     → WereAudited words before now verdict
 audited_at words before now verdict (at_words ends) appends = absurd ends
-audited_at words before now verdict (at_plant command ask opens) appends =
-    absurd (nowhere (plant_word command) (before.held (plant_word command) 0) (Audited verdict) (λ h. h) (λ h. h) opens)
+audited_at words before now verdict (at_plant command word has ask opens) appends =
+    absurd (nowhere word (before.held word 0) (Audited verdict) (λ h. h) (λ h. h) opens)
 audited_at words before now verdict (in_check plant asks ends) appends = absurd ends
 audited_at words before now verdict (in_replay plant name held asks ends) appends = absurd ends
 audited_at words before now verdict (in_audit plant files asks ends) appends = record { plant = plant; files = files; asks = asks; have = ends; appends = appends }
-audited_at words before now verdict (in_stream plant' name' held' by made read then status ask' ends') appends = absurd ends'
+audited_at words before now verdict (in_stream plant' name' held' by made read then wrote wrote_then status ask' ends') appends = absurd ends'
 audited_at words before now verdict (in_monitor name held asks ends) appends = absurd ends
 
 -- status 0
@@ -52,8 +52,8 @@ WasDone words before now = WasChecked words before now ⊎ WasReplayed words bef
 
 done_at : (words : List (List ℕ)) (before now : World) (output : List ℕ) → Came words before (Done output) → now.written ≡ appended before.written output → WasDone words before now
 done_at words before now output (at_words ends) appends = absurd ends
-done_at words before now output (at_plant command ask opens) appends =
-    absurd (nowhere (plant_word command) (before.held (plant_word command) 0) (Done output) (λ h. h) (λ h. h) opens)
+done_at words before now output (at_plant command word has ask opens) appends =
+    absurd (nowhere word (before.held word 0) (Done output) (λ h. h) (λ h. h) opens)
 done_at words before now output (in_check plant asks ends) appends = inl (record { plant = plant; asks = asks; appends = appends ∙ ap (appended before.written) ends })
 done_at words before now output (in_replay plant name held asks ends) appends = inr (inl (record {
   plant = plant;
@@ -66,7 +66,7 @@ done_at words before now output (in_replay plant name held asks ends) appends = 
   appends = appends;
 }))
 done_at words before now output (in_audit plant files asks ends) appends = absurd ends
-done_at words before now output (in_stream plant name held asks made read then status ask ends) appends = inr (inl (record {
+done_at words before now output (in_stream plant name held asks made read then wrote wrote_then status ask ends) appends = inr (inl (record {
   plant = plant;
   name = name;
   held = held;
@@ -107,23 +107,31 @@ done words before now run =
 
 -- status 1
 
-either : (P Q : Type 0) (b : Bool) → MatchBool b P Q → (b ≡ true) ⊎ Q
+pub either : (P Q : Type 0) (b : Bool) → MatchBool b P Q → (b ≡ true) ⊎ Q
 either P Q true chosen = inl refl
 either P Q false chosen = inr chosen
 
 -- a plant's word that leads to a plant is that of the bench plant, or its file may be there
-led : (word : List ℕ) (held : Held) (plant : PlantData) → OpensPlant word held (Ok plant) → (is_bench word ≡ true) ⊎ MayBeHere held
+pub led : (word : List ℕ) (held : Held) (plant : PlantData) → OpensPlant word held (Ok plant) → (is_bench word ≡ true) ⊎ MayBeHere held
 led word held plant leads = elim (either (plant ≡ bench) (Reads held (Ok plant)) (is_bench word) leads) [
   | inl is ↦ inl is
   | inr reads ↦ inr (if_held held (λ bytes h. tt) reads)
 ]
 
 -- a command that ran out of memory may have found its plant
-memory_there : (command : Command) (before : World) → CommandEnds command before NoMemory → PlantMayBeHere before (plant_word command)
-memory_there command before ends = elim (command_opens command before NoMemory ends) [
-  | inl opens ↦ either (OpensBench (Err NoMemory)) (MayBeHere (before.held (plant_word command) 0)) (is_bench (plant_word command)) opens
-  | inr leads ↦ led (plant_word command) (before.held (plant_word command) 0) leads.0 leads.1
+plant_there : (command : Command) (word : List ℕ) (before : World) → plant_word command ≡ Some word → CommandEnds command before NoMemory → PlantMayBeHere before word
+plant_there command word before has ends = elim (command_opens command word before NoMemory has ends) [
+  | inl opens ↦ either (OpensBench (Err NoMemory)) (MayBeHere (before.held word 0)) (is_bench word) opens
+  | inr leads ↦ led word (before.held word 0) leads.0 leads.1
 ]
+
+-- it may have found the file that it opens first
+memory_there : (command : Command) (before : World) → CommandEnds command before NoMemory → FirstMayBeHere before command
+memory_there (Check word) before ends = plant_there (Check word) word before refl ends
+memory_there (Replay word name) before ends = plant_there (Replay word name) word before refl ends
+memory_there (Audit word traces) before ends = plant_there (Audit word traces) word before refl ends
+memory_there (Stream word name made) before ends = plant_there (Stream word name made) word before refl ends
+memory_there (Monitor name) before ends = ends
 
 memory_at : {status : ℕ} (words : List (List ℕ)) (before now : World) → RunHasCause words before now NoMemory status → now.written ≡ appended before.written no_memory → RanOutOfMemory words before now
 memory_at words before now (inl at) appends = record { command = at.ends.0; ask = at.ends.1; there = inl at.files; appends = appends }
@@ -169,11 +177,11 @@ usage_of (StreamFailed failed' output') is = absurd (omega arith)
 
 usage_at : (words : List (List ℕ)) (before : World) → Came words before Usage → HasNoForm words
 usage_at words before (at_words none) = none
-usage_at words before (at_plant command ask opens) = absurd (nowhere (plant_word command) (before.held (plant_word command) 0) Usage (λ h. h) (λ h. h) opens)
+usage_at words before (at_plant command word has ask opens) = absurd (nowhere word (before.held word 0) Usage (λ h. h) (λ h. h) opens)
 usage_at words before (in_check plant asks ends) = absurd ends
 usage_at words before (in_replay plant name held asks ends) = absurd ends
 usage_at words before (in_audit plant files asks ends) = absurd ends
-usage_at words before (in_stream plant' name' held' by made read then status ask' ends') = absurd ends'
+usage_at words before (in_stream plant' name' held' by made read then wrote wrote_then status ask' ends') = absurd ends'
 usage_at words before (in_monitor name held asks ends) = absurd ends
 
 pub usage_no_form : (words : List (List ℕ)) (before now : World) → RunEnds words before now 2 → HasNoForm words
@@ -189,12 +197,12 @@ usage_line words before now run =
 -- words without a form end at them
 no_form_end : (words : List (List ℕ)) (before : World) (end : End) → HasNoForm words → Came words before end → end ≡ Usage
 no_form_end words before end none (at_words ends) = formless_end words end none ends
-no_form_end words before end none (at_plant command ask opens) = absurd (none command ask)
+no_form_end words before end none (at_plant command word has ask opens) = absurd (none command ask)
 no_form_end words before end none (in_check plant asks ends) = absurd (none (Check asks.word) asks.ask)
 no_form_end words before end none (in_replay plant name held asks ends) =
     let command = script_command words asks.word name asks.ask in
     absurd (none command.0 command.1)
-no_form_end words before end none (in_stream plant name held asks made read then status ask ends) = absurd (none (Stream asks.word name made) ask)
+no_form_end words before end none (in_stream plant name held asks made read then wrote wrote_then status ask ends) = absurd (none (Stream asks.word name made) ask)
 no_form_end words before end none (in_audit plant files asks ends) = absurd (none (Audit asks.word asks.traces) asks.ask)
 no_form_end words before end none (in_monitor name held asks ends) = absurd (none (Monitor name) asks.ask)
 
@@ -209,24 +217,24 @@ usage_always words before now status none run = elim (status_or_7 run.end before
 plant_fault_at : (words : List (List ℕ)) (before now : World) (fault : PlantFault) → Came words before (PlantRefused fault) → now.written ≡ appended before.written (plant_refused (fault_text fault))
     → HadPlantFault words before now
 plant_fault_at words before now fault (at_words ends) appends = absurd ends
-plant_fault_at words before now fault (at_plant command ask opens) appends =
-    let o = opened_file (plant_word command) (before.held (plant_word command) 0) (PlantRefused fault) (λ h. h) opens in
-    record { name = plant_word command; asks = file_asked words command ask o.0; fault = fault; reads = o.1; appends = appends }
+plant_fault_at words before now fault (at_plant command word has ask opens) appends =
+    let o = opened_file word (before.held word 0) (PlantRefused fault) (λ h. h) opens in
+    record { name = word; asks = file_asked words command word has ask o.0; fault = fault; reads = o.1; appends = appends }
 plant_fault_at words before now fault (in_check plant asks ends) appends = absurd ends
 plant_fault_at words before now fault (in_replay plant script held asks ends) appends = absurd ends
 plant_fault_at words before now fault (in_audit plant files asks ends) appends = absurd ends
-plant_fault_at words before now fault (in_stream plant' name' held' by made read then status ask' ends') appends = absurd ends'
+plant_fault_at words before now fault (in_stream plant' name' held' by made read then wrote wrote_then status ask' ends') appends = absurd ends'
 plant_fault_at words before now fault (in_monitor name held asks ends) appends = absurd ends
 
 too_long_at : (words : List (List ℕ)) (before now : World) → Came words before PlantTooLong → now.written ≡ appended before.written plant_too_long → WasTooLong words before now
 too_long_at words before now (at_words ends) appends = absurd ends
-too_long_at words before now (at_plant command ask opens) appends =
-    let o = opened_file (plant_word command) (before.held (plant_word command) 0) PlantTooLong (λ h. h) opens in
-    record { name = plant_word command; asks = file_asked words command ask o.0; too_long = o.1; appends = appends }
+too_long_at words before now (at_plant command word has ask opens) appends =
+    let o = opened_file word (before.held word 0) PlantTooLong (λ h. h) opens in
+    record { name = word; asks = file_asked words command word has ask o.0; too_long = o.1; appends = appends }
 too_long_at words before now (in_check plant asks ends) appends = absurd ends
 too_long_at words before now (in_replay plant script held asks ends) appends = absurd ends
 too_long_at words before now (in_audit plant files asks ends) appends = absurd ends
-too_long_at words before now (in_stream plant' name' held' by made read then status ask' ends') appends = absurd ends'
+too_long_at words before now (in_stream plant' name' held' by made read then wrote wrote_then status ask' ends') appends = absurd ends'
 too_long_at words before now (in_monitor name held asks ends) appends = absurd ends
 
 plant_of : (words : List (List ℕ)) (before now : World) (end : End) → Came words before end → IsWritten (status_of end) (end_text end) before now 4

@@ -1,5 +1,5 @@
 -- A run that stopped, and its report.
-use Rattle.std.proofs.Common.{◌≡◌, ℕ, ◌⊎◌, inl, inr, Bool, true, false, List, [], ◌∷◌, ◌+◌, ◌++◌, length, take, Option, Result, Ok, Err, sym, ◌∙◌, ap, subst, append_assoc, arith}
+use Rattle.std.proofs.Common.{◌≡◌, ◌≢◌, ℕ, ◌⊎◌, inl, inr, Bool, true, false, List, [], ◌∷◌, ◌+◌, ◌++◌, length, take, Option, Result, Ok, Err, sym, ◌∙◌, ap, subst, append_assoc, arith}
 use Rattle.std.specs.Prelude.{codes}
 use Rattle.std.specs.Fmt.{decimal}
 use Rattle.std.specs.Bool.{OnTrue, OnFalse}
@@ -13,11 +13,11 @@ use Rattle.commands.specs.declared.stop.Stop.{Stop}
 use Rattle.commands.specs.declared.stop.Stop.TheVariants as stops
 use Rattle.commands.specs.World.{World, snapshot}
 use Rattle.commands.specs.Lines.{line, plant_refused}
-use Rattle.commands.specs.End.{End, end_text, status_of}
+use Rattle.commands.specs.End.{End, Done, end_text, status_of}
 use Rattle.commands.specs.OpensPlant.{next_opening}
 use Rattle.commands.specs.Run.{RunHasCause, IsWritten, IsCutShort, RunEnds}
 use Rattle.commands.specs.StopInside.{line_of, stop_status, is_by_output, stopped_by_output, IsFrontOf, StopSays, Says, Reports, RunStops, number_of_end}
-use Rattle.commands.proofs.StreamLemmas.{ends_later}
+use Rattle.commands.proofs.StreamLemmas.{Moves, ends_later}
 
 -- a shorter front of what comes behind a front is a shorter front
 pub front-part : (front line : List ℕ) (before mid now : Option (List ℕ)) → mid ≡ appended before front → AppendsPart line mid now → AppendsPart (front ++ line) before now
@@ -80,11 +80,12 @@ says-front stops.OutputFault status text before now other is = absurd (false≢t
 abbrev moved : World → Option (List ℕ) → ℕ → World
 moved mid written faults = record mid { written = written; output_faults = faults }
 
-moved-cause : (words : List (List ℕ)) (before mid : World) (end : End) (written : Option (List ℕ)) (faults status later : ℕ) → (later ≡ 0 → status ≡ 0) → RunHasCause words before mid end status
+moved-cause : (words : List (List ℕ)) (before mid : World) (end : End) (written : Option (List ℕ)) (faults status later : ℕ) → (later ≡ 0 → status ≡ 0)
+    → ((output : List ℕ) → end ≡ Done output → Moves output status later before.written mid.written written) → RunHasCause words before mid end status
     → RunHasCause words before (moved mid written faults) end later
-moved-cause words before mid end written faults status later only (inl at) = inl (record { ends = at.ends; files = at.files })
-moved-cause words before mid end written faults status later only (inr (inl by)) = inr (inl (record { command = by.command; ask = by.ask; ends = by.ends; files = by.files }))
-moved-cause words before mid end written faults status later only (inr (inr by)) = inr (inr (record {
+moved-cause words before mid end written faults status later only moves (inl at) = inl (record { ends = at.ends; files = at.files })
+moved-cause words before mid end written faults status later only moves (inr (inl by)) = inr (inl (record { command = by.command; ask = by.ask; ends = by.ends; files = by.files }))
+moved-cause words before mid end written faults status later only moves (inr (inr by)) = inr (inr (record {
   word = by.word;
   name = by.name;
   made = by.made;
@@ -93,7 +94,7 @@ moved-cause words before mid end written faults status later only (inr (inr by))
   opens = by.opens;
   read = by.read;
   well = by.well;
-  ends = ends_later by.plant by.made (before.held by.name (next_opening by.word by.name)) by.read (snapshot mid) status later end only by.ends;
+  ends = ends_later by.plant by.made (before.held by.name (next_opening by.word by.name)) by.read (snapshot mid) before.written mid.written written status later end only moves by.ends;
 }))
 
 -- a status of 0 behind the report was so before it
@@ -149,13 +150,45 @@ pub is_output : (wanted : ℕ) (text : List ℕ) (before now : World) (status : 
 is_output wanted text before now status (inl written) = inl (record { status_is = written.0; appends = written.1; output_faults = written.2 })
 is_output wanted text before now status (inr cut) = inr (record { status_is = cut.0; appends = cut.1; output_faults = cut.2 })
 
+-- what was cut short of a stream's lines before the report is so behind it
+left_cut : (stop : Stop) (output lines : List ℕ) (before mid now : Option (List ℕ)) (status faults_mid faults_now : ℕ) → IsFrontOf stop 0 output before mid
+    → ((status ≡ stop_status stop) × (now ≡ appended mid (line_of stop)) × (faults_now ≡ faults_mid)) ⊎ ((status ≡ 7) × AppendsPart (line_of stop) mid now × (faults_now ≡ one_more faults_mid))
+    → (stop_status stop ≡ 0 → output ≡ lines) → status ≢ 0 → AppendsPart lines before now
+left_cut stop output lines before mid now status fm fn is (inl reported) whole other = absurd (other (reported.0 ∙ sym is.status_is))
+left_cut stop output lines before mid now status fm fn is (inr failed) whole other =
+    subst (λ (t : List ℕ). AppendsPart t before now) (sym is.text_is ∙ whole (sym is.status_is)) (front-part is.front (line_of stop) before mid now is.appends failed.1)
+
+cut_moves : {T : Type 0} (result : Result T Stop) (output : List ℕ) (before mid now : Option (List ℕ)) (status faults_mid faults_now : ℕ) → Says result 0 output before mid
+    → Reports result status mid now faults_mid faults_now → Moves output (number_of_end result) status before mid now
+cut_moves (Ok done) output before mid now status fm fn says (inl reported) lines cut whole other = absurd (other reported.0)
+cut_moves (Ok done) output before mid now status fm fn says (inr failed) lines cut whole other = no-part mid now failed.1
+cut_moves (Err stops.NoMemory) output before mid now status fm fn says reports lines cut whole other = left_cut stops.NoMemory output lines before mid now status fm fn says reports whole other
+cut_moves (Err stops.Usage) output before mid now status fm fn says reports lines cut whole other = left_cut stops.Usage output lines before mid now status fm fn says reports whole other
+cut_moves (Err (stops.FileMissing name)) output before mid now status fm fn says reports lines cut whole other = left_cut (stops.FileMissing name) output lines before mid now status fm fn says reports whole other
+cut_moves (Err (stops.FileFault name)) output before mid now status fm fn says reports lines cut whole other = left_cut (stops.FileFault name) output lines before mid now status fm fn says reports whole other
+cut_moves (Err (stops.PlantRefused why)) output before mid now status fm fn says reports lines cut whole other = left_cut (stops.PlantRefused why) output lines before mid now status fm fn says reports whole other
+cut_moves (Err stops.PlantTooLong) output before mid now status fm fn says reports lines cut whole other = left_cut stops.PlantTooLong output lines before mid now status fm fn says reports whole other
+cut_moves (Err (stops.LineRefused number)) output before mid now status fm fn says reports lines cut whole other = left_cut (stops.LineRefused number) output lines before mid now status fm fn says reports whole other
+cut_moves (Err stops.ScriptTooLong) output before mid now status fm fn says reports lines cut whole other = left_cut stops.ScriptTooLong output lines before mid now status fm fn says reports whole other
+cut_moves (Err (stops.Found verdict)) output before mid now status fm fn says reports lines cut whole other = left_cut (stops.Found verdict) output lines before mid now status fm fn says reports whole other
+cut_moves (Err stops.TraceTooLong) output before mid now status fm fn says reports lines cut whole other = left_cut stops.TraceTooLong output lines before mid now status fm fn says reports whole other
+cut_moves (Err (stops.TraceFault name)) output before mid now status fm fn says reports lines cut whole other = left_cut (stops.TraceFault name) output lines before mid now status fm fn says reports whole other
+cut_moves (Err stops.NetFault) output before mid now status fm fn says reports lines cut whole other = left_cut stops.NetFault output lines before mid now status fm fn says reports whole other
+cut_moves (Err stops.LimitsMet) output before mid now status fm fn says reports lines cut whole other = left_cut stops.LimitsMet output lines before mid now status fm fn says reports whole other
+cut_moves (Err stops.StreamTooLong) output before mid now status fm fn says reports lines cut whole other = left_cut stops.StreamTooLong output lines before mid now status fm fn says reports whole other
+cut_moves (Err stops.OutputFault) output before mid now status fm fn says (inl reported) lines cut whole other =
+    subst (AppendsPart lines before) (sym (reported.1 ∙ appended-nil mid)) (cut (λ h. omega (arith, h)))
+cut_moves (Err stops.OutputFault) output before mid now status fm fn says (inr failed) lines cut whole other = no-part mid now failed.1
+
 -- a run that stopped ends so behind its report
 pub run_ends : {T : Type 0} (result : Result T Stop) (words : List (List ℕ)) (before mid : World) (status : ℕ) (written : Option (List ℕ)) (faults : ℕ) → RunStops words before mid result
     → Reports result status mid.written written mid.output_faults faults → RunEnds words before (record mid { written = written; output_faults = faults }) status
 run_ends result words before mid status written faults stops reports = record {
   end = stops.end;
   cause =
-      moved-cause words before mid stops.end written faults (number_of_end result) status (zero_only result status mid.written written mid.output_faults faults reports) stops.cause;
+      moved-cause words before mid stops.end written faults (number_of_end result) status (zero_only result status mid.written written mid.output_faults faults reports)
+      (λ output is.
+      cut_moves result output before.written mid.written written status mid.output_faults faults (subst (λ (e : End). Says result (status_of e) (end_text e) before.written mid.written) is stops.comes) reports) stops.cause;
   output =
       is_output (status_of stops.end) (end_text stops.end) before (moved mid written faults) status (
       output_of result (status_of stops.end) (end_text stops.end) before.written mid.written written before.output_faults mid.output_faults faults status stops.comes stops.output_faults reports

@@ -1,10 +1,8 @@
 -- How a replay with a stream comes to its report.
 use Rattle.std.proofs.Common.{◌≡◌, inl, inr, ℕ, ◌≤◌, ◌<◌, Bool, true, List, [], ◌∷◌, ◌++◌, length, take, map, Option, Some, None, Result, Ok, Err, refl, sym, ◌∙◌, ap, subst, arith}
 use Rattle.std.specs.Prelude.{IfSome}
-use Rattle.std.specs.List.{flat_map}
 use Rattle.std.specs.Borrow.{Bor}
 use Rattle.std.proofs.lemmas.Bool.{lt-ltb}
-use Rattle.std.proofs.lemmas.Grind.{flat_map-append}
 use Rattle.std.proofs.lemmas.List.{append-nil, length-append, take-append-le}
 use Rattle.ctl_io.specs.Custody.{SinkEnd}
 use Rattle.ctl_io.specs.Faults.{one_more, count_after, is_faulty}
@@ -19,8 +17,8 @@ use Rattle.tsl_stream.specs.Items.{Packet, stream_items}
 use Rattle.tsl_stream.specs.Laws.{stream_texts}
 use Rattle.record_replay.specs.declared.streamed.StreamedFault.{StreamedFault}
 use Rattle.record_replay.specs.declared.streamed.StreamedFault.TheVariants as streams
-use Rattle.record_replay.specs.Laws.{Action, line_of}
-use Rattle.record_replay.specs.Streamed.{packets_in, lines_in, HasStreamedFront, HasStoppedAtPort}
+use Rattle.record_replay.specs.Laws.{Action}
+use Rattle.record_replay.specs.Streamed.{packets_in, lines_in, BeginWithPacket, HasStreamedFront, HasStoppedAtPort}
 use Rattle.commands.specs.declared.stop.Stop.{Stop}
 use Rattle.commands.specs.declared.stop.Stop.TheVariants as stops
 use Rattle.commands.specs.World.{Snapshot}
@@ -32,6 +30,7 @@ use Rattle.commands.specs.Traces.{MakesFile, FailsToMake, IsAsMade, TakesBack}
 use Rattle.commands.specs.Stream.{GivesFile, StreamEnds}
 use Rattle.commands.specs.StopInside.{stop_of_file, stop_of_stream}
 use Rattle.commands.specs.StreamInside.{ShowsPackets, IsUnused, StreamsTo, MakesStream, StreamStops}
+use Rattle.commands.proofs.StreamLemmas.{lines_front}
 use Rattle.commands.proofs.FilesLemmas.{one_well, one_last}
 
 -- memory ran out before the stream's file was asked for
@@ -70,8 +69,8 @@ unread_script files.TooLong name plant made first last written read is missing t
 }
 
 -- what holds where the files hold the script that was read holds of what they hold
-unshown : (plant : PlantData) (made script : List ℕ) (read now : Snapshot) (status : ℕ) (end : End) → StreamEnds plant made (Holds script) read now status end → StreamEnds plant made Unshown read now status end
-unshown plant made script read now status (Done output) ends = record {
+unshown : (wrote wrote_then : Option (List ℕ)) (plant : PlantData) (made script : List ℕ) (read now : Snapshot) (status : ℕ) (end : End) → StreamEnds plant made (Holds script) read now wrote wrote_then status end → StreamEnds plant made Unshown read now wrote wrote_then status end
+unshown wrote wrote_then plant made script read now status (Done output) ends = record {
   made = ends.made;
   makes = ends.makes;
   shown = ends.shown;
@@ -79,10 +78,10 @@ unshown plant made script read now status (Done output) ends = record {
   shows = record { no_faults = ends.shows.no_faults; streamed = tt };
   takes = ends.takes;
 }
-unshown plant made script read now status NoMemory ends = (tt, ends.1)
-unshown plant made script read now status (LineRefused number) ends = (tt, ends.1)
-unshown plant made script read now status (StreamFailed failed output) (is, inl unmade) = (is, inl unmade)
-unshown plant made script read now status (StreamFailed failed output) (is, inr gives) = (
+unshown wrote wrote_then plant made script read now status NoMemory ends = (tt, ends.1)
+unshown wrote wrote_then plant made script read now status (LineRefused number) ends = (tt, ends.1)
+unshown wrote wrote_then plant made script read now status (StreamFailed failed output) (is, inl unmade) = (is, inl unmade)
+unshown wrote wrote_then plant made script read now status (StreamFailed failed output) (is, inr gives) = (
   is,
   inr (record {
     made = gives.made;
@@ -93,20 +92,20 @@ unshown plant made script read now status (StreamFailed failed output) (is, inr 
     takes = gives.takes;
   }),
 )
-unshown plant made script read now status other ends = absurd ends
+unshown wrote wrote_then plant made script read now status other ends = absurd ends
 
-as_held : (plant : PlantData) (made script : List ℕ) (held : Held) (read now : Snapshot) (status : ℕ) (end : End) → IfHeld held (λ bytes. script ≡ bytes) → StreamEnds plant made (Holds script) read now status end
-    → StreamEnds plant made held read now status end
-as_held plant made script Unshown read now status end whole ends = unshown plant made script read now status end ends
-as_held plant made script NoFile read now status end whole ends = absurd whole
-as_held plant made script (Holds bytes) read now status end whole ends = subst (λ (b : List ℕ). StreamEnds plant made (Holds b) read now status end) whole ends
+as_held : (wrote wrote_then : Option (List ℕ)) (plant : PlantData) (made script : List ℕ) (held : Held) (read now : Snapshot) (status : ℕ) (end : End) → IfHeld held (λ bytes. script ≡ bytes) → StreamEnds plant made (Holds script) read now wrote wrote_then status end
+    → StreamEnds plant made held read now wrote wrote_then status end
+as_held wrote wrote_then plant made script Unshown read now status end whole ends = unshown wrote wrote_then plant made script read now status end ends
+as_held wrote wrote_then plant made script NoFile read now status end whole ends = absurd whole
+as_held wrote wrote_then plant made script (Holds bytes) read now status end whole ends = subst (λ (b : List ℕ). StreamEnds plant made (Holds b) read now wrote wrote_then status end) whole ends
 
 -- the script was read, and its replay with a stream ended
 pub stream_made : {T : Type 0} (result : Result T Stop) (plant : PlantData) (name made script : List ℕ) (first read last : Snapshot) (before now : Option (List ℕ)) → IfHeld (first.held name 0) (λ bytes. script ≡ bytes)
     → ReadsFile Well name first read → MakesStream result plant (Holds script) made read last before now → StreamStops result plant name made first last before now
 stream_made result plant name made script first read last before now whole well stops = record {
   end = stops.end;
-  cause = inr (read, one_well name first read well, as_held plant made script (first.held name 0) read last _ stops.end whole stops.ends);
+  cause = inr (read, one_well name first read well, as_held before now plant made script (first.held name 0) read last _ stops.end whole stops.ends);
   comes = stops.comes;
   faults = stops.faults ∙ ap (count_after (is_file_fault stops.end)) well.faults;
 }
@@ -152,11 +151,6 @@ longer-part text rest before now part = record {
   appends = part.appends ∙ ap (appended before) (sym (take-append-le part.count text rest (omega (arith, part.shorter))));
 }
 
--- the lines of a front of actions stand in front of those of all
-lines_front : (plant : PlantData) (actions front later : List Action) (output : List ℕ) → output ≡ flat_map (line_of plant) actions → actions ≡ front ++ later → output ≡ lines_in plant front ++ lines_in plant later
-lines_front plant actions front later output shown place =
-    shown ∙ ap (λ (all : List Action). lines_in plant all) place ∙ flat_map-append (line_of plant) front later
-
 module _ (plant : PlantData) (script : List ℕ) (made : Bor (List ℕ)) (read made_then now : Snapshot) (shown : SinkEnd) (within : length script ≤ longest_script) (makes : MakesFile made.now read made_then)
     (named : IsNamed made.now shown.name) (takes : TakesBack shown made_then now) where
   gives : {Shows : SinkEnd → Type 0} → Shows shown → GivesFile made.now Shows read now
@@ -179,6 +173,7 @@ module _ (plant : PlantData) (script : List ℕ) (made : Bor (List ℕ)) (read m
           later = [];
           place = sym (append-nil has.replay.actions);
           all = λ zero. refl;
+          cut = λ other. absurd (other refl);
           given = just_texts shown.written shown.faults (packets_in plant has.replay.actions) none has.sends;
         },
       );
@@ -188,7 +183,7 @@ module _ (plant : PlantData) (script : List ℕ) (made : Bor (List ℕ)) (read m
   }
 
   -- the output failed, and no write of the stream
-  cut_stream : {T : Type 0} (before after : Option (List ℕ)) → shown.faults ≡ 0 → HasStreamedFront plant script before after (ShowsPackets shown)
+  cut_stream : {T : Type 0} (before after : Option (List ℕ)) → shown.faults ≡ 0 → HasStreamedFront plant script before after (ShowsPackets shown) 0 shown.faults
       → MakesStream {T = T} (Err stops.OutputFault) plant (Holds script) made.now read now before after
   cut_stream before after none has =
       let lines = lines_front plant has.replay.actions has.front has.later has.output has.replay.history.shown has.place in
@@ -204,6 +199,7 @@ module _ (plant : PlantData) (script : List ℕ) (made : Bor (List ℕ)) (read m
               later = has.later;
               place = has.place;
               all = λ zero. absurd (omega (arith, zero));
+              cut = λ other. has.appends;
               given = just_texts shown.written shown.faults (packets_in plant has.front) none has.sends;
             },
           );
@@ -213,9 +209,9 @@ module _ (plant : PlantData) (script : List ℕ) (made : Bor (List ℕ)) (read m
       }
 
   -- the output failed, and a write of the stream
-  cut_both : {T : Type 0} (before after : Option (List ℕ)) → shown.faults ≡ one_more 0 → HasStreamedFront plant script before after (ShowsPackets shown)
+  cut_both : {T : Type 0} (before after : Option (List ℕ)) → shown.faults ≡ one_more 0 → (has : HasStreamedFront plant script before after (ShowsPackets shown) 0 shown.faults) → BeginWithPacket plant has.later
       → MakesStream {T = T} (Err stops.OutputFault) plant (Holds script) made.now read now before after
-  cut_both before after one has = record {
+  cut_both before after one has begins = record {
     end = StreamFailed made.now (lines_in plant has.front);
     ends = (
       refl,
@@ -229,6 +225,7 @@ module _ (plant : PlantData) (script : List ℕ) (made : Bor (List ℕ)) (read m
             front = has.front;
             later = has.later;
             place = has.place;
+            stops = begins;
             lines = refl;
             given = its_items shown.written shown.faults (packets_in plant has.front) has.sends;
           },
@@ -256,6 +253,7 @@ module _ (plant : PlantData) (script : List ℕ) (made : Bor (List ℕ)) (read m
             front = has.front;
             later = has.failed ∷ has.later;
             place = has.place;
+            stops = (has.failed, has.later, refl, has.has_packet);
             lines = refl;
             given = its_items shown.written shown.faults (packets_in plant has.front) has.sends;
           },
@@ -280,8 +278,10 @@ module _ (plant : PlantData) (script : List ℕ) (made : Bor (List ℕ)) (read m
     comes = record { status_is = refl; front = []; text_is = refl; appends = same ∙ sym (appended-nil before) };
     faults = well_counted made.now read made_then now shown makes takes is.no_faults;
   }
-  fault_stream streams.OutputFault before after (inl none, has) = cut_stream before after none has
-  fault_stream streams.OutputFault before after (inr one, has) = cut_both before after one has
+  fault_stream {T} streams.OutputFault before after has = elim has.stops [
+    | inl none ↦ cut_stream {T = T} before after none has
+    | inr stops ↦ cut_both {T = T} before after stops.0 has stops.1
+  ]
   fault_stream streams.PortFault before after (one, has) = broken_stream before after one has
 
   -- by the answer

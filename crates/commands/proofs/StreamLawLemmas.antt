@@ -34,8 +34,8 @@ then_not_0 word name held held' (Ok plant) end opens ends is = unread_not_0 name
 then_not_0 word name held held' (Err stopped) end opens ends is = word_not_0 word held stopped opens (is ∙ ap status_of ends)
 
 -- what a stream that ends with 0 was given
-made_at : (plant : PlantData) (made : List ℕ) (held : Held) (words : List (List ℕ)) (before now : World) (read : Snapshot) (end : End) → StreamEnds plant made held read (snapshot now) 0 end → 0 ≡ status_of end
-    → (output : List ℕ) × (end ≡ Done output) × GivesFile made (StreamDone plant held output 0) read (snapshot now)
+made_at : (plant : PlantData) (made : List ℕ) (held : Held) (words : List (List ℕ)) (before now : World) (read : Snapshot) (end : End) → StreamEnds plant made held read (snapshot now) before.written now.written 0 end → 0 ≡ status_of end
+    → (output : List ℕ) × (end ≡ Done output) × GivesFile made (StreamDone plant held output 0 before.written now.written) read (snapshot now)
 made_at plant made held words before now read (Done output) ends is = (output, refl, ends)
 made_at plant made held words before now read NoMemory ends is = absurd (omega arith)
 made_at plant made held words before now read (LineRefused number) ends is = absurd (omega arith)
@@ -61,7 +61,7 @@ made_of words before now word name made end ask (inr (inr by)) written =
       asks = record { word = by.word; ask = inr (by.made, by.ask); leads = by.opens; held_is = refl };
       output = found.0;
       read = by.read;
-      gives = subst (λ (m : List ℕ). GivesFile m (StreamDone by.plant held found.0 0) by.read (snapshot now)) same found.2;
+      gives = subst (λ (m : List ℕ). GivesFile m (StreamDone by.plant held found.0 0 before.written now.written) by.read (snapshot now)) same found.2;
       appends = written.appends ∙ ap (λ (e : End). appended before.written (end_text e)) found.1;
     }
 

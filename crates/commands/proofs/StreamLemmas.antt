@@ -1,9 +1,15 @@
 -- What the ends of a replay with a stream tell, whatever else they say.
-use Rattle.std.proofs.Common.{◌≡◌, ◌≢◌, ◌⊎◌, inl, inr, ℕ, ◌+◌, ◌-◌, List, Option, Some, None, refl, sym, ◌∙◌, ap, arith}
+use Rattle.std.proofs.Common.{◌≡◌, ◌≢◌, ◌⊎◌, inl, inr, ℕ, ◌+◌, ◌-◌, List, [], ◌++◌, Option, Some, None, refl, sym, ◌∙◌, ap, arith}
+use Rattle.std.specs.List.{flat_map}
+use Rattle.std.proofs.lemmas.Grind.{flat_map-append}
+use Rattle.std.proofs.lemmas.List.{append-nil}
 use Rattle.ctl_io.specs.Custody.{FilesCustody, SinkEnd}
 use Rattle.ctl_io.specs.Faults.{count_after}
 use Rattle.ctl_io.specs.Held.{Held, IsNamed, Stays}
+use Rattle.ctl_io.specs.Sink.{AppendsPart}
 use Rattle.plant_config.specs.Plant.{PlantData}
+use Rattle.record_replay.specs.Laws.{Action, line_of}
+use Rattle.record_replay.specs.Streamed.{lines_in}
 use Rattle.commands.specs.World.{World, Snapshot}
 use Rattle.commands.specs.End.{End, Done, NoMemory, FileMissing, FileFault, LineRefused, ScriptTooLong, StreamFailed, status_of, is_file_fault}
 use Rattle.commands.specs.Replay.{ReplayEnds, UnreadEnds}
@@ -11,10 +17,25 @@ use Rattle.commands.specs.Stream.{GivesFile, StreamDone, StreamEnds}
 use Rattle.commands.specs.Outcomes.{WasKept}
 use Rattle.commands.proofs.HeldLemmas.{if_held}
 
+-- the lines of a front of actions stand in front of those of all
+pub lines_front : (plant : PlantData) (actions front later : List Action) (output : List ℕ) → output ≡ flat_map (line_of plant) actions → actions ≡ front ++ later → output ≡ lines_in plant front ++ lines_in plant later
+lines_front plant actions front later output shown place =
+    shown ∙ ap (λ (all : List Action). lines_in plant all) place ∙ flat_map-append (line_of plant) front later
+
+-- and where nothing is left behind the front, they are all
+lines_whole : (plant : PlantData) (actions front later : List Action) (output : List ℕ) → output ≡ flat_map (line_of plant) actions → actions ≡ front ++ later → later ≡ [] → output ≡ lines_in plant front
+lines_whole plant actions front later output shown place none =
+    lines_front plant actions front later output shown place ∙ ap (λ (rest : List Action). lines_in plant front ++ lines_in plant rest) none ∙ append-nil (lines_in plant front)
+
+-- What was cut short at one status and moment of the output is so at another: the text of a front that is cut there, and is all of
+-- the output where nothing is, is cut here.
+abbrev pub Moves : List ℕ → ℕ → ℕ → Option (List ℕ) → Option (List ℕ) → Option (List ℕ) → Type 0
+Moves output status later before mid now = (lines : List ℕ) → (status ≢ 0 → AppendsPart lines before mid) → (status ≡ 0 → output ≡ lines) → later ≢ 0 → AppendsPart lines before now
+
 -- an end that has its cause at one status has it at another that is 0 no more often
-done_later : (plant : PlantData) (made : List ℕ) (held : Held) (read now : Snapshot) (status later : ℕ) (output : List ℕ) → (later ≡ 0 → status ≡ 0) → GivesFile made (StreamDone plant held output status) read now
-    → GivesFile made (StreamDone plant held output later) read now
-done_later plant made held read now status later output only gives = record {
+done_later : (plant : PlantData) (made : List ℕ) (held : Held) (read now : Snapshot) (wrote mid wrote_then : Option (List ℕ)) (status later : ℕ) (output : List ℕ) → (later ≡ 0 → status ≡ 0)
+    → Moves output status later wrote mid wrote_then → GivesFile made (StreamDone plant held output status wrote mid) read now → GivesFile made (StreamDone plant held output later wrote wrote_then) read now
+done_later plant made held read now wrote mid wrote_then status later output only moves gives = record {
   made = gives.made;
   makes = gives.makes;
   shown = gives.shown;
@@ -29,6 +50,7 @@ done_later plant made held read now status later output only gives = record {
         later = h.1.later;
         place = h.1.place;
         all = λ none. h.1.all (only none);
+        cut = moves (lines_in plant h.1.front) h.1.cut (λ none. lines_whole plant h.1.replay.actions h.1.front h.1.later output h.1.replay.history.shown h.1.place (h.1.all none));
         given = h.1.given;
       },
     )) gives.shows.streamed;
@@ -36,13 +58,13 @@ done_later plant made held read now status later output only gives = record {
   takes = gives.takes;
 }
 
-pub ends_later : (plant : PlantData) (made : List ℕ) (held : Held) (read now : Snapshot) (status later : ℕ) (end : End) → (later ≡ 0 → status ≡ 0) → StreamEnds plant made held read now status end
-    → StreamEnds plant made held read now later end
-ends_later plant made held read now status later (Done output) only ends = done_later plant made held read now status later output only ends
-ends_later plant made held read now status later NoMemory only ends = ends
-ends_later plant made held read now status later (LineRefused number) only ends = ends
-ends_later plant made held read now status later (StreamFailed failed output) only ends = ends
-ends_later plant made held read now status later other only ends = absurd ends
+pub ends_later : (plant : PlantData) (made : List ℕ) (held : Held) (read now : Snapshot) (wrote mid wrote_then : Option (List ℕ)) (status later : ℕ) (end : End) → (later ≡ 0 → status ≡ 0)
+    → ((output : List ℕ) → end ≡ Done output → Moves output status later wrote mid wrote_then) → StreamEnds plant made held read now wrote mid status end → StreamEnds plant made held read now wrote wrote_then later end
+ends_later plant made held read now wrote mid wrote_then status later (Done output) only moves ends = done_later plant made held read now wrote mid wrote_then status later output only (moves output refl) ends
+ends_later plant made held read now wrote mid wrote_then status later NoMemory only moves ends = ends
+ends_later plant made held read now wrote mid wrote_then status later (LineRefused number) only moves ends = ends
+ends_later plant made held read now wrote mid wrote_then status later (StreamFailed failed output) only moves ends = ends
+ends_later plant made held read now wrote mid wrote_then status later other only moves ends = absurd ends
 
 -- the sinks that are out come to the same, the sources stay, and so does what is held of every other name
 pub record LeavesOthers (made : List ℕ) (read now : Snapshot) : Type 0 where
@@ -71,26 +93,26 @@ gives_leaves made Shows read now gives =
           (gives.takes.others name (not_shown made name gives.shown.name gives.named other));
     }
 
-pub ends_leave : (plant : PlantData) (made : List ℕ) (held : Held) (read now : Snapshot) (status : ℕ) (end : End) → StreamEnds plant made held read now status end → LeavesOthers made read now
-ends_leave plant made held read now status (Done output) ends = gives_leaves made _ read now ends
-ends_leave plant made held read now status NoMemory ends = gives_leaves made _ read now ends.1
-ends_leave plant made held read now status (LineRefused number) ends = gives_leaves made _ read now ends.1
-ends_leave plant made held read now status (StreamFailed failed output) (is, inl unmade) = record {
+pub ends_leave : (wrote wrote_then : Option (List ℕ)) (plant : PlantData) (made : List ℕ) (held : Held) (read now : Snapshot) (status : ℕ) (end : End) → StreamEnds plant made held read now wrote wrote_then status end → LeavesOthers made read now
+ends_leave wrote wrote_then plant made held read now status (Done output) ends = gives_leaves made _ read now ends
+ends_leave wrote wrote_then plant made held read now status NoMemory ends = gives_leaves made _ read now ends.1
+ends_leave wrote wrote_then plant made held read now status (LineRefused number) ends = gives_leaves made _ read now ends.1
+ends_leave wrote wrote_then plant made held read now status (StreamFailed failed output) (is, inl unmade) = record {
   sources = ap (λ (c : FilesCustody). c.sources) unmade.fails.custody;
   sinks = ap (λ (c : FilesCustody). c.sinks.out) unmade.fails.custody;
   others = unmade.fails.others;
 }
-ends_leave plant made held read now status (StreamFailed failed output) (is, inr gives) = gives_leaves made _ read now gives
-ends_leave plant made held read now status other ends = absurd ends
+ends_leave wrote wrote_then plant made held read now status (StreamFailed failed output) (is, inr gives) = gives_leaves made _ read now gives
+ends_leave wrote wrote_then plant made held read now status other ends = absurd ends
 
 -- the replay ends as one without a stream, or the stream failed
-pub as_replay : (plant : PlantData) (name made : List ℕ) (held : Held) (read then : Snapshot) (status : ℕ) (before now : World) (end : End) → now.file_faults ≡ count_after (is_file_fault end) before.file_faults
-    → StreamEnds plant made held read then status end → ReplayEnds plant name held end ⊎ WasKept before now (status_of end)
-as_replay plant name made held read then status before now (Done output) count ends = inl (if_held held (λ script h. (h.0, h.1.replay)) ends.shows.streamed)
-as_replay plant name made held read then status before now NoMemory count ends = inl ends.0
-as_replay plant name made held read then status before now (LineRefused number) count ends = inl ends.0
-as_replay plant name made held read then status before now (StreamFailed failed output) count ends = inr (inr (inl (refl, count)))
-as_replay plant name made held read then status before now other count ends = absurd ends
+pub as_replay : (wrote wrote_then : Option (List ℕ)) (plant : PlantData) (name made : List ℕ) (held : Held) (read then : Snapshot) (status : ℕ) (before now : World) (end : End) → now.file_faults ≡ count_after (is_file_fault end) before.file_faults
+    → StreamEnds plant made held read then wrote wrote_then status end → ReplayEnds plant name held end ⊎ WasKept before now (status_of end)
+as_replay wrote wrote_then plant name made held read then status before now (Done output) count ends = inl (if_held held (λ script h. (h.0, h.1.replay)) ends.shows.streamed)
+as_replay wrote wrote_then plant name made held read then status before now NoMemory count ends = inl ends.0
+as_replay wrote wrote_then plant name made held read then status before now (LineRefused number) count ends = inl ends.0
+as_replay wrote wrote_then plant name made held read then status before now (StreamFailed failed output) count ends = inr (inr (inl (refl, count)))
+as_replay wrote wrote_then plant name made held read then status before now other count ends = absurd ends
 
 -- so does one whose script isn't there to be worked
 pub unread_replay : (plant : PlantData) (name : List ℕ) (held : Held) (end : End) → UnreadEnds name held end → ReplayEnds plant name held end
@@ -108,9 +130,9 @@ unread_not_4 name held (FileFault failed) ends four = omega arith
 unread_not_4 name held ScriptTooLong ends four = omega arith
 unread_not_4 name held other ends four = absurd ends
 
-pub stream_not_4 : (plant : PlantData) (made : List ℕ) (held : Held) (read now : Snapshot) (status : ℕ) (end : End) → StreamEnds plant made held read now status end → status_of end ≡ 4 → ⊥
-stream_not_4 plant made held read now status (Done output) ends four = omega arith
-stream_not_4 plant made held read now status NoMemory ends four = omega arith
-stream_not_4 plant made held read now status (LineRefused number) ends four = omega arith
-stream_not_4 plant made held read now status (StreamFailed failed output) ends four = omega arith
-stream_not_4 plant made held read now status other ends four = absurd ends
+pub stream_not_4 : (wrote wrote_then : Option (List ℕ)) (plant : PlantData) (made : List ℕ) (held : Held) (read now : Snapshot) (status : ℕ) (end : End) → StreamEnds plant made held read now wrote wrote_then status end → status_of end ≡ 4 → ⊥
+stream_not_4 wrote wrote_then plant made held read now status (Done output) ends four = omega arith
+stream_not_4 wrote wrote_then plant made held read now status NoMemory ends four = omega arith
+stream_not_4 wrote wrote_then plant made held read now status (LineRefused number) ends four = omega arith
+stream_not_4 wrote wrote_then plant made held read now status (StreamFailed failed output) ends four = omega arith
+stream_not_4 wrote wrote_then plant made held read now status other ends four = absurd ends

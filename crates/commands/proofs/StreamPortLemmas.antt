@@ -17,7 +17,7 @@ use Rattle.tsl_stream.specs.Port.{HasPackets, IsJust, HasSent, sink_of}
 use Rattle.record_replay.specs.declared.streamed.StreamedFault.{StreamedFault}
 use Rattle.record_replay.specs.declared.streamed.StreamedFault.TheVariants as streams
 use Rattle.record_replay.specs.Script.{IsFirstBad}
-use Rattle.record_replay.specs.Streamed.{HasStreamed, HasStreamedFront, HasStoppedAtPort, StaysBoth, PortCounts}
+use Rattle.record_replay.specs.Streamed.{HasStreamed, HasStreamedFront, PortStops, HasStoppedAtPort, StaysBoth, PortCounts}
 use Rattle.commands.specs.declared.file_port.FilePort.{FilePort}
 use Rattle.commands.specs.StreamInside.{WasGiven, ShowsPackets, IsUnused, StreamsTo}
 
@@ -97,7 +97,8 @@ module _ {K : Type 0} (name written : K → Option (List ℕ)) (faults : K → �
     to_done streamed count =
         (count ∙ new, record { output = streamed.output; replay = streamed.replay; appends = streamed.appends; sends = shows_packets port port_then file _ given streamed.sends })
 
-    to_front : HasStreamedFront plant script before now (SendsOn Given port port_then) → HasStreamedFront plant script before now (ShowsPackets (Sink port_then))
+    to_front : HasStreamedFront plant script before now (SendsOn Given port port_then) (faults (sink_of port.port)) (faults (sink_of port_then.port))
+        → HasStreamedFront plant script before now (ShowsPackets (Sink port_then)) 0 (faults (sink_of port_then.port))
     to_front streamed = record {
       output = streamed.output;
       replay = streamed.replay;
@@ -106,6 +107,7 @@ module _ {K : Type 0} (name written : K → Option (List ℕ)) (faults : K → �
       place = streamed.place;
       appends = streamed.appends;
       sends = shows_packets port port_then file _ given streamed.sends;
+      stops = subst (λ (count : ℕ). PortStops plant streamed.later count (faults (sink_of port_then.port))) new streamed.stops;
     }
 
     to_stopped : HasStoppedAtPort plant script before now (SendsOn Given port port_then) → HasStoppedAtPort plant script before now (ShowsPackets (Sink port_then))
@@ -124,14 +126,9 @@ module _ {K : Type 0} (name written : K → Option (List ℕ)) (faults : K → �
     unused : port_then ≡ port → IsUnused (Sink port_then)
     unused same = subst (λ (p : FilePort K). IsUnused (Sink p)) (sym same) (record { unwritten = unwritten; no_faults = new })
 
-    counted : (faults (sink_of port_then.port) ≡ faults (sink_of port.port)) ⊎ (faults (sink_of port_then.port) ≡ one_more (faults (sink_of port.port)))
-        → (faults (sink_of port_then.port) ≡ 0) ⊎ (faults (sink_of port_then.port) ≡ one_more 0)
-    counted (inl same) = inl (same ∙ new)
-    counted (inr one) = inr (one ∙ ap one_more new)
-
     pub to_ended : {T : Type 0} (ended : Result T StreamedFault) → ((done : T) → ended ≡ Ok done → HasStreamed plant script before now (SendsOn Given port port_then))
         → ((number : ℕ) → ended ≡ Err (streams.BadLine number) → IsFirstBad plant script number)
-        → (ended ≡ Err streams.OutputFault → HasStreamedFront plant script before now (SendsOn Given port port_then))
+        → (ended ≡ Err streams.OutputFault → HasStreamedFront plant script before now (SendsOn Given port port_then) (faults (sink_of port.port)) (faults (sink_of port_then.port)))
         → (ended ≡ Err streams.PortFault → HasStoppedAtPort plant script before now (SendsOn Given port port_then))
         → ((number : ℕ) → ended ≡ Err (streams.BadLine number) → StaysBoth before now port port_then) → (ended ≡ Err streams.NoMemory → StaysBoth before now port port_then)
         → PortCounts ended (faults (sink_of port.port)) (faults (sink_of port_then.port)) → StreamsTo plant script ended (Sink port_then) before now
@@ -142,12 +139,12 @@ module _ {K : Type 0} (name written : K → Option (List ℕ)) (faults : K → �
     to_ended (Err (streams.BadLine number)) ok bad_line output_fault port_fault same no_memory count =
         let stays = same number refl in
         (bad_line number refl, stays.0, unused stays.1)
-    to_ended (Err streams.OutputFault) ok bad_line output_fault port_fault same no_memory count = (counted count, to_front (output_fault refl))
+    to_ended (Err streams.OutputFault) ok bad_line output_fault port_fault same no_memory count = to_front (output_fault refl)
     to_ended (Err streams.PortFault) ok bad_line output_fault port_fault same no_memory count = (count ∙ ap one_more new, to_stopped (port_fault refl))
 
     -- the sink's name stays
     pub named_ended : {T : Type 0} (its : List ℕ) → IsNamed its (name (sink_of port.port)) → (ended : Result T StreamedFault) → ((done : T) → ended ≡ Ok done → HasStreamed plant script before now (SendsOn Given port port_then))
-        → (ended ≡ Err streams.OutputFault → HasStreamedFront plant script before now (SendsOn Given port port_then))
+        → (ended ≡ Err streams.OutputFault → HasStreamedFront plant script before now (SendsOn Given port port_then) (faults (sink_of port.port)) (faults (sink_of port_then.port)))
         → (ended ≡ Err streams.PortFault → HasStoppedAtPort plant script before now (SendsOn Given port port_then))
         → ((number : ℕ) → ended ≡ Err (streams.BadLine number) → StaysBoth before now port port_then) → (ended ≡ Err streams.NoMemory → StaysBoth before now port port_then) → IsNamed its (name (sink_of port_then.port))
     named_ended its named (Ok done) ok output_fault port_fault same no_memory = shows_named port port_then its _ (given_none port.port its named has) (ok done refl).sends

@@ -1,55 +1,29 @@
 -- How a run ends whose words ask to tell a recorded stream.
-use Rattle.std.proofs.Common.{◌≡◌, ◌⊎◌, inl, inr, ℕ, ◌≤◌, ◌<◌, List, length, Err, refl, ◌∙◌, ap, subst, arith}
-use Rattle.std.specs.Prelude.{codes}
-use Rattle.std.proofs.lemmas.Slice.Eq.{bytes_eq-Decides}
+use Rattle.std.proofs.Common.{◌≡◌, ◌⊎◌, inl, inr, ℕ, ◌≤◌, ◌<◌, List, length, refl, sym, ◌∙◌, ap, subst, arith}
+use Rattle.std.proofs.lemmas.Option.{none-some}
 use Rattle.ctl_io.specs.Faults.{count_after}
 use Rattle.ctl_io.specs.Held.{Held, NoFile, Holds}
 use Rattle.commands.specs.World.{World}
 use Rattle.commands.specs.End.{End, Done, NoMemory, Usage, FileMissing, FileFault, PlantRefused, PlantTooLong, LineRefused, ScriptTooLong, Audited, TraceTooLong, StreamTooLong, StreamFailed, status_of, is_file_fault}
-use Rattle.command_words.specs.Words.{Command, Monitor, plant_word, Ask}
-use Rattle.commands.specs.OpensPlant.{is_bench, OpensBench, OpensFile, OpensPlant}
+use Rattle.command_words.specs.Words.{Monitor, plant_word, Ask}
 use Rattle.commands.specs.Monitor.{longest_stream, MonitorEnds}
 use Rattle.commands.specs.Run.{RunEnds}
 use Rattle.commands.specs.Outcomes.{WasKept}
-use Rattle.commands.proofs.OpensLemmas.{from_true}
 use Rattle.commands.proofs.AskedLemmas.{check_no_monitor, replay_no_monitor, audit_no_monitor, same_stream}
 use Rattle.commands.proofs.CauseLemmas.{Came, at_words, at_plant, in_check, in_replay, in_audit, in_stream, in_monitor, came, asked_end}
 use Rattle.command_words.proofs.WordsLemmas.{same_command}
 use Rattle.commands.proofs.AlwaysLemmas.{IsOrKept, by_end}
 
--- memory alone keeps the bench plant away
-bench_memory : (end : End) → OpensBench (Err end) → status_of end ≡ 1
-bench_memory NoMemory opens = refl
-bench_memory (Done output) opens = absurd opens
-bench_memory Usage opens = absurd opens
-bench_memory (FileMissing name) opens = absurd opens
-bench_memory (FileFault name) opens = absurd opens
-bench_memory (PlantRefused fault) opens = absurd opens
-bench_memory PlantTooLong opens = absurd opens
-bench_memory (LineRefused number) opens = absurd opens
-bench_memory ScriptTooLong opens = absurd opens
-bench_memory (Audited verdict) opens = absurd opens
-bench_memory TraceTooLong opens = absurd opens
-bench_memory StreamTooLong opens = absurd opens
-bench_memory (StreamFailed failed' output') opens = absurd opens
-
--- a run whose words ask for it isn't stopped at a plant's word
-bench_always : (words : List (List ℕ)) (before : World) (name : List ℕ) (command : Command) (end : End) → Ask words (Monitor name) → Ask words command
-    → OpensPlant (plant_word command) (before.held (plant_word command) 0) (Err end) → status_of end ≡ 1
-bench_always words before name command end ask ask' opens =
-    let same : plant_word command ≡ codes "bench" = ap plant_word (same_command words command (Monitor name) ask' ask) in
-    let there = subst (λ (n : List ℕ). OpensPlant n (before.held n 0) (Err end)) same opens in
-    bench_memory end (from_true (OpensBench (Err end)) (OpensFile (codes "bench") (before.held (codes "bench") 0) (Err end)) (is_bench (codes "bench")) ((bytes_eq-Decides (codes "bench") (codes "bench")).1 refl) there)
-
 -- how a run ends whose words ask to tell a stream, unless it is kept from that
 monitored_of : (words : List (List ℕ)) (before now : World) (end : End) (name : List ℕ) (held : Held) → Ask words (Monitor name) → before.held name 0 ≡ held → Came words before end
     → MonitorEnds name held end ⊎ WasKept before now (status_of end)
 monitored_of words before now end name held ask is (at_words ends) = inr (inl (ap status_of (asked_end words end (Monitor name) ask ends)))
-monitored_of words before now end name held ask is (at_plant command ask' opens) = inr (inl (bench_always words before name command end ask ask' opens))
+monitored_of words before now end name held ask is (at_plant command own has ask' opens) =
+    absurd (none-some own (sym (ap plant_word (same_command words command (Monitor name) ask' ask)) ∙ has))
 monitored_of words before now end name held ask is (in_check plant by ends) = check_no_monitor words by.word name by.ask ask
 monitored_of words before now end name held ask is (in_replay plant script held' by ends) = replay_no_monitor words by.word script name by.ask ask
 monitored_of words before now end name held ask is (in_audit plant files by ends) = audit_no_monitor words by.word name by.traces by.ask ask
-monitored_of words before now end name held ask is (in_stream plant script held' by made read then status ask' ends) = replay_no_monitor words by.word script name by.ask ask
+monitored_of words before now end name held ask is (in_stream plant script held' by made read then wrote wrote_then status ask' ends) = replay_no_monitor words by.word script name by.ask ask
 monitored_of words before now end name held ask is (in_monitor name' held' by ends) =
     let same : name' ≡ name = same_stream words name' name by.ask ask in
     let there : held' ≡ held = by.held_is ∙ ap (λ (n : List ℕ). before.held n 0) same ∙ is in

@@ -26,8 +26,8 @@ use Rattle.commands.proofs.ShownLemmas.{FilesAreRight, shown}
 audited_of : (words : List (List ℕ)) (before now : World) (end : End) (plant : PlantData) (files : List TraceFile) → AskTraces words before plant files
     → now.file_faults ≡ count_after (is_file_fault end) before.file_faults → Came words before end → AuditEnds plant files end ⊎ WasKept before now (status_of end)
 audited_of words before now end plant files asks count (at_words ends) = inr (inl (ap status_of (asked_end words end (Audit asks.word asks.traces) asks.ask ends)))
-audited_of words before now end plant files asks count (at_plant command ask opens) =
-    inr (kept_at_word words before now end asks.word plant (Audit asks.word asks.traces) command refl asks.ask ask asks.shows count opens)
+audited_of words before now end plant files asks count (at_plant command own has ask opens) =
+    inr (kept_at_word words before now end asks.word plant (Audit asks.word asks.traces) command own refl has asks.ask ask asks.shows count opens)
 audited_of words before now end plant files asks count (in_check plant' by ends) = no_audit words asks.word by.word asks.traces asks.ask by.ask
 audited_of words before now end plant files asks count (in_replay plant' name held by ends) = no_replay words asks.word by.word asks.traces name asks.ask by.ask
 audited_of words before now end plant files asks count (in_audit plant' files' by ends) =
@@ -36,7 +36,7 @@ audited_of words before now end plant files asks count (in_audit plant' files' b
     let found : files' ≡ files =
     by.files_are ∙ ap (λ (w : List ℕ). trace_files before.held (opened_for w) by.traces) same.0 ∙ ap (λ (ts : List (List ℕ)). trace_files before.held (opened_for asks.word) ts) same.1 ∙ asks.files_are in
     inl (subst (λ (p : PlantData). AuditEnds p files end) plants (subst (λ (fs : List TraceFile). AuditEnds plant' fs end) found ends))
-audited_of words before now end plant files asks count (in_stream plant' name held by made read then status ask' ends) = no_replay words asks.word by.word asks.traces name asks.ask by.ask
+audited_of words before now end plant files asks count (in_stream plant' name held by made read then wrote wrote_then status ask' ends) = no_replay words asks.word by.word asks.traces name asks.ask by.ask
 audited_of words before now end plant files asks count (in_monitor name held by ends) = audit_no_monitor words asks.word name asks.traces asks.ask by.ask
 
 -- what holds of texts that traces hold

@@ -1,5 +1,5 @@
 -- What the words of a run ask for, and of which names they ask.
-use Rattle.std.specs.Prelude.{◌≡◌, ◌⊎◌, ℕ, ◌≤◌, true, false, MatchBool, List, ◌++◌, length, Contains, Ok}
+use Rattle.std.specs.Prelude.{◌≡◌, ◌⊎◌, ℕ, ◌≤◌, true, false, MatchBool, List, ◌++◌, length, Contains, Some, IfSome, Ok}
 use Rattle.ctl_io.specs.Held.{Held, Unshown, NoFile, Holds, MayBeHere}
 use Rattle.plant_config.specs.Plant.{PlantData}
 use Rattle.plant_config.specs.Bench.{bench}
@@ -13,7 +13,7 @@ use Rattle.commands.specs.Audit.{TraceFile, trace_files, Reaches}
 pub record AskFile (words : List (List ℕ)) (name : List ℕ) : Type 0 where
   pub command : Command
   pub ask : Ask words command
-  pub name_is : name ≡ plant_word command
+  pub name_is : plant_word command ≡ Some name
   pub is_file : is_bench name ≡ false
 
 -- A plant's word leads to this plant, as far as the files show it.
@@ -23,6 +23,11 @@ LeadsTo word before plant = OpensPlant word (before.held word 0) (Ok plant)
 -- The plant of a word may be here: it is the bench plant, or the files may hold its file.
 abbrev pub PlantMayBeHere : World → List ℕ → Type 0
 PlantMayBeHere before word = (is_bench word ≡ true) ⊎ MayBeHere (before.held word 0)
+
+-- The file that a command opens first may be here: its plant's, where it has one, or else a recorded stream's.
+abbrev pub FirstMayBeHere : World → Command → Type 0
+FirstMayBeHere before (Monitor name) = MayBeHere (before.held name 0)
+FirstMayBeHere before other = IfSome (plant_word other) (PlantMayBeHere before)
 
 -- The words ask to check this plant.
 pub record AskCheck (words : List (List ℕ)) (before : World) (plant : PlantData) : Type 0 where

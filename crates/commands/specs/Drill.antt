@@ -51,7 +51,8 @@ pub record IsTraceOf (drill : Drill) (trace : List ℕ) : Type 0 where
   pub confirmed :
       IsVerdict (drill_plant drill.panels) (lines trace) (Confirmed (length history))
 
--- The drill ends so: with exactly its lines, behind which there is its trace, or without memory.
+-- The drill ends so: with exactly its lines, and there is a trace of it, or without memory. That trace needn't be the one that the
+-- run made, which stays in its memory: that there is one follows from the drill's numbers alone.
 abbrev pub DrillEnds : Drill → End → Type 0
 DrillEnds drill (Done output) =
     (output ≡ drill_text drill) × ((trace : List ℕ) × IsTraceOf drill trace)

@@ -17,6 +17,8 @@ pub mod Outcomes
 pub mod History
 pub mod Statuses
 pub mod ProgramStatuses
+pub mod ServiceStatuses
+pub mod ServedWhole
 pub mod StopInside
 pub mod AuditInside
 pub mod DrillInside

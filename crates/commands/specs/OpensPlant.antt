@@ -1,5 +1,5 @@
 -- What a plant's word leads to: a plant, or the end of the run.
-use Rattle.std.specs.Prelude.{◌≡◌, ℕ, ◌≤◌, Bool, bytes_eq, if◌then◌else◌, MatchBool, List, [], ◌∷◌, ◌++◌, length, codes, Result, Ok, Err}
+use Rattle.std.specs.Prelude.{◌≡◌, ℕ, ◌≤◌, Bool, bytes_eq, if◌then◌else◌, MatchBool, List, [], ◌∷◌, ◌++◌, length, codes, Option, None, Some, Result, Ok, Err}
 use Rattle.ctl_io.specs.Held.{Held, IfHeld, IsLonger, MayBeHere, MayBeMissing}
 use Rattle.plant_file.specs.declared.fault.PlantFault.{PlantFault}
 use Rattle.plant_config.specs.Plant.{PlantData}
@@ -56,6 +56,11 @@ next_opening word name = if is_bench word then 0 else (if bytes_eq word name the
 abbrev pub opened_for : List ℕ → List (List ℕ)
 opened_for word = if is_bench word then [] else word ∷ []
 
+-- the names of the files that are opened for the plant of a command: none where it has no plant's word
+abbrev pub plant_files : Option (List ℕ) → List (List ℕ)
+plant_files None = []
+plant_files (Some word) = opened_for word
+
 -- the names of all files that a command asks for, in order
 abbrev pub files_of : Command → List (List ℕ)
-files_of command = opened_for (plant_word command) ++ other_files command
+files_of command = plant_files (plant_word command) ++ other_files command

@@ -15,7 +15,7 @@ use Rattle.trace_audit.specs.declared.verdict.Verdict.TheVariants.{Confirmed, Ba
 use Rattle.commands.specs.World.{World, Snapshot, snapshot, FilesUntouched}
 use Rattle.commands.specs.Lines.{no_memory, file_missing, file_fault, plant_refused, plant_too_long, line_refused, script_too_long, trace_too_long, stream_too_long}
 use Rattle.commands.specs.End.{StreamFailed, verdict_line}
-use Rattle.command_words.specs.Words.{Command, Stream, plant_word, Ask}
+use Rattle.command_words.specs.Words.{Command, Stream, Ask}
 use Rattle.commands.specs.OpensPlant.{longest_plant, Reads, files_of}
 use Rattle.commands.specs.Check.{check_text}
 use Rattle.commands.specs.Replay.{longest_script}
@@ -23,7 +23,7 @@ use Rattle.commands.specs.Audit.{TraceFile, EndsTooLong, HaveVerdict}
 use Rattle.commands.specs.Monitor.{longest_stream, IsMonitored}
 use Rattle.commands.specs.Stream.{GivesFile, StreamDone, StreamEnds}
 use Rattle.commands.specs.Run.{EndsReading}
-use Rattle.commands.specs.Asked.{AskFile, AskCheck, AskReplay, AskAudit, AskMonitor, PlantMayBeHere, WantsFile}
+use Rattle.commands.specs.Asked.{AskFile, AskCheck, AskReplay, AskAudit, AskMonitor, FirstMayBeHere, WantsFile}
 
 -- The plant was checked: exactly its ten lines were appended.
 pub record WasChecked (words : List (List ℕ)) (before now : World) : Type 0 where
@@ -43,12 +43,12 @@ pub record WasReplayed (words : List (List ℕ)) (before now : World) : Type 0 w
   pub replay : IfHeld held (λ script. IsTiedReplay plant script output)
   pub appends : now.written ≡ appended before.written output
 
--- Memory ran out, before any file was opened or though the plant's file, where one was asked for, may be there; and nothing was
--- appended but the line that says so.
+-- Memory ran out, before any file was opened or though the first may be there, the plant's or a recorded stream's; and nothing
+-- was appended but the line that says so.
 pub record RanOutOfMemory (words : List (List ℕ)) (before now : World) : Type 0 where
   pub command : Command
   pub ask : Ask words command
-  pub there : FilesUntouched before now ⊎ PlantMayBeHere before (plant_word command)
+  pub there : FilesUntouched before now ⊎ FirstMayBeHere before command
   pub appends : now.written ≡ appended before.written no_memory
 
 -- Of the files that the words ask for, in order, the last that was opened has this name and was read so, and with those before
@@ -93,7 +93,8 @@ pub record HadStreamFault (words : List (List ℕ)) (before now : World) : Type 
   pub ask : Ask words (Stream asks.word name made)
   pub output : List ℕ
   pub read : Snapshot
-  pub ends : StreamEnds plant made held read (snapshot now) 3 (StreamFailed made output)
+  pub ends : StreamEnds plant made held read (snapshot now) before.written now.written 3
+      (StreamFailed made output)
   pub fault : now.file_faults ≡ one_more before.file_faults
   pub appends : now.written ≡ appended before.written (output ++ file_fault made)
 
@@ -107,7 +108,8 @@ pub record WasStreamed (words : List (List ℕ)) (before now : World) (made : Li
   pub asks : AskReplay words before plant name held
   pub output : List ℕ
   pub read : Snapshot
-  pub gives : GivesFile made (StreamDone plant held output 0) read (snapshot now)
+  pub gives : GivesFile made (StreamDone plant held output 0 before.written now.written) read
+      (snapshot now)
   pub appends : now.written ≡ appended before.written output
 
 -- The plant file has this fault, its first, and the line says it.

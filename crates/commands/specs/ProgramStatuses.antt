@@ -14,7 +14,7 @@ use Rattle.commands.specs.Serve.{AllWell, LimitsMet, NetFailed, NetRefused, Serv
 use Rattle.commands.specs.Asked.{ShowsPlant}
 use Rattle.commands.specs.Program.{ProgramEnds}
 
--- A drill was worked: exactly its lines were appended, and behind them there is its trace.
+-- A drill was worked: exactly its lines were appended, and there is a trace of it, which needn't be the one of this run.
 pub record WasDrilled (drill : Drill) (before now : World) : Type 0 where
   pub appends : now.written ≡ appended before.written (drill_text drill)
   pub trace : List ℕ

@@ -9,7 +9,7 @@ use Rattle.commands.specs.World.{World, Snapshot, snapshot, FilesUntouched}
 use Rattle.commands.specs.Lines.{no_memory}
 use Rattle.commands.specs.End.{End, NoMemory, Usage, FileMissing, FileFault, status_of, unwritten_status, end_text, is_file_fault}
 use Rattle.command_words.specs.Words.{Command, Check, Replay, Audit, Stream, Monitor, plant_word, other_files, Ask, AskCommand, HasNoForm}
-use Rattle.commands.specs.OpensPlant.{OpensPlant, ThenEnds, next_opening, opened_for}
+use Rattle.commands.specs.OpensPlant.{OpensPlant, ThenEnds, next_opening, opened_for, plant_files}
 use Rattle.commands.specs.Check.{CheckEnds}
 use Rattle.commands.specs.Replay.{ReplayEnds, UnreadEnds}
 use Rattle.commands.specs.Audit.{trace_files, OpensWithin, AuditEnds}
@@ -69,15 +69,15 @@ LeavesOpened (FileMissing name) opened before now = EndsReading Missing name ope
 LeavesOpened (FileFault name) opened before now = EndsReading Failed name opened before now
 LeavesOpened other opened before now = ReadsWell opened before now
 
--- A command that ends so has opened its plant's file, and behind it a front of its other files, in order: none where the plant
--- is refused, and no trace behind others that are too long together.
+-- A command that ends so has opened its plant's file, where it has one, and behind it a front of its other files, in order: none
+-- where the plant is refused, and no trace behind others that are too long together.
 pub record LeavesFiles (command : Command) (before now : Snapshot) (end : End) : Type 0 where
   pub opened : List (List ℕ)
   pub unopened : List (List ℕ)
   pub front : other_files command ≡ opened ++ unopened
-  pub left : LeavesOpened end (opened_for (plant_word command) ++ opened) before now
+  pub left : LeavesOpened end (plant_files (plant_word command) ++ opened) before now
   pub refused : status_of end ≡ 4 → opened ≡ []
-  pub within : OpensWithin before.held (opened_for (plant_word command)) opened
+  pub within : OpensWithin before.held (plant_files (plant_word command)) opened
 
 -- Words lead to this end before any file is opened: they have no form, or they have one and memory runs out.
 abbrev pub WordsEnd : List (List ℕ) → End → Type 0
@@ -109,7 +109,7 @@ pub record EndsByStream (words : List (List ℕ)) (before now : World) (end : En
   pub read : Snapshot
   pub well : ReadsWell (opened_for word ++ name ∷ []) (snapshot before) read
   pub ends : StreamEnds plant made (before.held name (next_opening word name)) read
-      (snapshot now) status end
+      (snapshot now) before.written now.written status end
 
 -- Why a run with these words ends so, with this status: its words, a command that made no file, or a stream.
 abbrev pub RunHasCause : List (List ℕ) → World → World → End → ℕ → Type 0

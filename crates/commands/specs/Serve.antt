@@ -4,6 +4,7 @@ use Rattle.ctl_io.specs.Custody.{SinkEnd}
 use Rattle.ctl_io.specs.Held.{IsNamed}
 use Rattle.ctl_io.specs.Sink.{IsUnwritten}
 use Rattle.plant_config.specs.Plant.{PlantData}
+use Rattle.plant_config.specs.IsPlant.{IsPlant}
 use Rattle.panel_session.specs.Served.{TraceData}
 use Rattle.panel_server.specs.PlantServed.{NetData, ServedSo}
 use Rattle.panel_server.specs.Workers.{trace_of}
@@ -97,6 +98,11 @@ abbrev pub AreThoseOf : Option (List ℕ) → List TraceData → List SinkEnd �
 AreThoseOf None traces back = back ≡ []
 AreThoseOf (Some prefix) traces back = map trace_of back ≡ traces
 
+-- Traces that are kept nowhere never fail: where there is no prefix, no write of one has failed.
+abbrev pub NeverFail : Option (List ℕ) → List TraceData → Type 0
+NeverFail None traces = All (λ trace. trace.faults ≡ 0) traces
+NeverFail (Some prefix) traces = Unit {0}
+
 -- There was no memory for what serving takes, before any trace was made.
 abbrev pub EndsUnready : Snapshot → Snapshot → ServeEnd → Type 0
 EndsUnready opened now end = (now ≡ opened) × (end ≡ Unserved NoMemory)
@@ -109,14 +115,17 @@ pub record EndsAtTrace (plant : PlantData) (prefix : Option (List ℕ)) (opened 
   pub end_is : end ≡ Unserved (FileFault fails.stops.name)
 
 -- The plant was to be served over the net, with new traces, and this is the end by the answer. So where the answer says what was
--- done, there is a closed history in which it was done. The files of the traces were made before, and given back behind.
+-- done, there is a closed history in which it was done. The files of the traces were made before, and given back behind; where
+-- none are kept, no write of a trace failed, before or behind that.
 pub record EndsServed {P : Type 0} (WasSent : P → List (List ℕ) → Type 0) (faults : P → ℕ)
     (plant : PlantData) (prefix : Option (List ℕ)) (opened now : Snapshot)
     (net net_then : NetData P) (end : ServeEnd) : Type 0 where
+  pub plant_is : IsPlant plant
   pub answer : Result PlantDone ServeFault
   pub traces : List TraceData
   pub new : All IsNewTrace traces
   pub traces_then : List TraceData
+  pub silent : NeverFail prefix traces_then
   pub served : ServedSo WasSent faults plant net net_then traces traces_then answer
   pub made : Snapshot
   pub makes : MakesFiles (names_for prefix (length plant.panels)) opened made

@@ -51,8 +51,7 @@ StreamsTo plant script (Err NoMemory) shown before now = (now ≡ before) × IsU
 StreamsTo plant script (Err (BadLine number)) shown before now =
     IsFirstBad plant script number × (now ≡ before) × IsUnused shown
 StreamsTo plant script (Err OutputFault) shown before now =
-    ((shown.faults ≡ 0) ⊎ (shown.faults ≡ one_more 0))
-    × HasStreamedFront plant script before now (ShowsPackets shown)
+    HasStreamedFront plant script before now (ShowsPackets shown) 0 shown.faults
 StreamsTo plant script (Err PortFault) shown before now =
     (shown.faults ≡ one_more 0) × HasStoppedAtPort plant script before now (ShowsPackets shown)
 
@@ -61,22 +60,25 @@ pub record MakesStream {T : Type 0} (result : Result T Stop) (plant : PlantData)
     (made : List ℕ) (before now : Snapshot) (written written_then : Option (List ℕ))
     : Type 0 where
   pub end : End
-  pub ends : StreamEnds plant made held before now (number_of_end result) end
+  pub ends : StreamEnds plant made held before now written written_then
+      (number_of_end result) end
   pub comes : ComesTo result end written written_then
   pub faults : now.faults ≡ count_after (is_file_fault end) before.faults
 
 -- The replay of the script of this name ends before the stream's file is asked for, or behind that, and leaves the files so.
-abbrev pub Streams : PlantData → List ℕ → List ℕ → Snapshot → Snapshot → ℕ → End → Type 0
-Streams plant name made before now status end =
+abbrev pub Streams : PlantData → List ℕ → List ℕ → Snapshot → Snapshot → Option (List ℕ)
+    → Option (List ℕ) → ℕ → End → Type 0
+Streams plant name made before now written written_then status end =
     (UnreadEnds name (before.held name 0) end × LeavesOpened end (name ∷ []) before now)
     ⊎ ((read : Snapshot) × ReadsWell (name ∷ []) before read
-    × StreamEnds plant made (before.held name 0) read now status end)
+    × StreamEnds plant made (before.held name 0) read now written written_then status end)
 
 -- It comes to such an end.
 pub record StreamStops {T : Type 0} (result : Result T Stop) (plant : PlantData)
     (name made : List ℕ) (before now : Snapshot) (written written_then : Option (List ℕ))
     : Type 0 where
   pub end : End
-  pub cause : Streams plant name made before now (number_of_end result) end
+  pub cause :
+      Streams plant name made before now written written_then (number_of_end result) end
   pub comes : ComesTo result end written written_then
   pub faults : now.faults ≡ count_after (is_file_fault end) before.faults

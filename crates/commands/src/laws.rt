@@ -97,9 +97,9 @@ pub fn output_fault()
     ensures others { OthersWriteAll }
 {}
 
-/// Whatever the status, each source was given back and no sink was made, the files hold what they held of each
-/// name that the words don't name, and their count of faults stayed, unless the status is 3 or 7, where it may have
-/// risen by one.
+/// Whatever the status, each source and each sink was given back, no sink was made but that of a stream's file, the files hold
+/// what they held of each name that the words don't name, and their count of faults stayed, unless the status is 3 or 7, where
+/// it may have risen by one.
 pub fn files_stay()
     ensures given_back { SourcesComeBack }
     ensures sinks_back { SinksComeBack }

@@ -1,6 +1,6 @@
 //! The commands of `plantctl`, the controller of a television plant's routers: what the words of the command line ask is
 //! done, and the exit status tells how it ended. The top call is `run`, which does all that the program does, over any
-//! files, gate and output. What the exit statuses tell are the laws of `laws` and `program_laws`.
+//! files, gate and output. What the exit statuses tell are the laws of `laws`, `program_laws` and `service_laws`.
 #![tactic(auto)]
 
 mod audit;
@@ -16,6 +16,7 @@ mod program_laws;
 mod quiet;
 mod replay;
 mod serve;
+mod service_laws;
 mod stop;
 mod stream;
 mod told;
@@ -29,3 +30,4 @@ pub use laws::{
 pub use program::{end_without_memory, run};
 pub use program_laws::{drilled, limits_met, net_failed, program_output, program_usage, served};
 pub use quiet::run_quiet;
+pub use service_laws::{served_whole, services_have_causes};

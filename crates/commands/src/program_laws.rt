@@ -11,10 +11,11 @@ ghost use Rattle.commands.specs.ProgramStatuses.{ProgramSevenHasCause, ProgramOt
 
 use ctl_net::DisplayPort;
 
-/// Words that ask for a drill. Status 0: exactly the drill's lines were appended, and behind them stands its trace, whose lines
-/// are those of a legal history of the drill's plant, each once. Status 1: nothing but the line that says so was appended. Such
-/// words always end with 0, but for want of memory and a write that failed, so never with 6; and the files are left alone. What
-/// words lead to that ask for no drill and no service are the laws of quiet runs.
+/// Words that ask for a drill. Status 0: exactly the drill's lines were appended, and the drill has a trace, whose lines are those
+/// of a legal history of the drill's plant, each once; it need not be the one that this run made, which is shown nowhere. Status
+/// 1: nothing but the line that says so was appended. Such words always end with 0, but for want of memory and a write that
+/// failed, so never with 6; and the files are left alone. What words lead to that ask for no drill and no service are the laws of
+/// quiet runs.
 pub fn drilled<P: DisplayPort>()
     ensures done { ZeroHasDrilled P.was_sent P.faults }
     ensures no_memory { OneSaysNoMemory P.was_sent P.faults }

@@ -9,7 +9,7 @@ use Rattle.commands.proofs.quiet.run_audit.Goals as goal
 pub returns-in-Err : goal.returns-in-Err
 returns-in-Err g c =
     let opens = c.in-Err.ensures.opens in
-    at_plant (Audit c.args.word.now (texts c.args.traces.now)) _ _ c.in-Err.stop opens (Err opens.0, opens.1.0, refl) refl c.in-Err.ensures.count refl
+    at_plant (Audit c.args.word.now (texts c.args.traces.now)) c.args.word.now _ _ c.in-Err.stop refl opens (Err opens.0, opens.1.0, refl) refl c.in-Err.ensures.count refl
 
 pub returns : goal.returns
 returns g c =

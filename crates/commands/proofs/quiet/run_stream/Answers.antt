@@ -8,7 +8,7 @@ pub returns-in-Err : goal.returns-in-Err
 returns-in-Err g c = λ words ask.
     let command = Stream c.args.word.now c.args.script.now c.args.made.now in
     let opens = c.in-Err.ensures.opens in
-    run_stopped words command _ _ _ ask (at_plant command _ _ c.in-Err.stop opens (Err opens.0, opens.1.0, refl) refl c.in-Err.ensures.count refl)
+    run_stopped words command _ _ _ ask (at_plant command c.args.word.now _ _ c.in-Err.stop refl opens (Err opens.0, opens.1.0, refl) refl c.in-Err.ensures.count refl)
 
 pub returns : goal.returns
 returns g c = λ words ask.

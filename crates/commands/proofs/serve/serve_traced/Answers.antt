@@ -52,5 +52,5 @@ returns-clause-served g c =
     served-traced g.N.P.DisplayPort.was_sent g.N.P.DisplayPort.faults g.F.K.Sink.name g.F.K.Sink.written g.F.K.Sink.faults c.args.plant.now c.args.prefix.now (texts c.in-Ok.trace_names.items)
     c.in-Ok-make_traces.traces.items c.serve-traces.result.0.items (snapshot_of g.F.Files.held g.F.Files.custody g.F.Files.faults c.args.files.now)
     (snapshot_of g.F.Files.held g.F.Files.custody g.F.Files.faults c.make_traces.new.files) (snapshot_of g.F.Files.held g.F.Files.custody g.F.Files.faults c.close_traces.new.files) _ _ c.serve-traces.result.1
-    (c.in-Ok.ensures ∙ ap (λ (ps : List Panel). trace_names c.args.prefix.now (length ps)) c.panels.ensures.panels) (rw (← c.deref.ensures.value) c.in-Ok-make_traces.ensures.made)
+    c.panels.ensures.plant (c.in-Ok.ensures ∙ ap (λ (ps : List Panel). trace_names c.args.prefix.now (length ps)) c.panels.ensures.panels) (rw (← c.deref.ensures.value) c.in-Ok-make_traces.ensures.made)
     (rw (← c.deref.ensures.value) c.in-Ok-make_traces.ensures.as_made) c.serve-traces.ensures.served c.serve-traces.ensures.names c.close_traces.ensures

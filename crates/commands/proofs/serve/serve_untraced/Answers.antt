@@ -6,4 +6,4 @@ use Rattle.commands.proofs.serve.serve_untraced.Goals as goal
 pub returns-clause-served : goal.returns-clause-served
 returns-clause-served g c =
     λ files. served-untraced g.N.P.DisplayPort.was_sent g.N.P.DisplayPort.faults (λ sink. None) (λ sink. 0) c.args.plant.now (texts c.new.result.items) c.in-Ok.traces.items c.serve-answer.result.0.items files _ _
-    c.serve-answer.result.1 (λ sink. record { unwritten = tt; no_faults = refl }) (ap texts c.new.ensures.items) c.serve-answer.ensures.served
+    c.serve-answer.result.1 c.panels.ensures.plant (λ sink. record { unwritten = tt; no_faults = refl }) (ap texts c.new.ensures.items) c.serve-answer.ensures.served
