@@ -4,11 +4,15 @@ pub mod SourceInside
 pub mod ReadHalf
 pub mod Sink
 pub mod SinkInside
+pub mod Disk
+pub mod Crash
 pub mod Held
 pub mod Custody
 pub mod Files
 pub mod WholeFile
 pub mod Calls
 pub mod Memory
+pub mod MemDisk
+pub mod MemDiskInside
 pub mod MemFiles
 pub mod MemFilesInside

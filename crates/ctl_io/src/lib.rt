@@ -4,6 +4,7 @@
 #![tactic(auto)]
 
 mod bytes;
+mod disk;
 mod faults;
 mod files;
 mod memory;
@@ -14,13 +15,18 @@ mod transfer;
 mod whole_file;
 
 pub use bytes::Bytes;
+pub use disk::{Did, Disk};
 pub use faults::FaultCount;
 pub use files::{Files, Found, Made};
-pub use memory::{CallCount, Dropped, MemFiles, MemSink, MemSource, NamedSink, NamedSource};
+pub use memory::{
+    CallCount, DiskCall, Dropped, MemDisk, MemFiles, MemSink, MemSource, NamedSink, NamedSource,
+    WriteSpan,
+};
 pub use sink::{Sink, Write};
 pub use source::{Read, Source};
 pub use system::{
-    FileSink, FileSource, StdFiles, StdOut, call_again, read_again, write_again, write_answer,
+    FileSink, FileSource, StdDisk, StdFiles, StdOut, call_again, read_again, write_again,
+    write_answer,
 };
 pub use transfer::{WholeFault, read_whole, write_all};
 pub use whole_file::{FileFault, read_file};

@@ -5,6 +5,7 @@ mod answers;
 mod attempts;
 mod file_sink;
 mod file_source;
+mod std_disk;
 mod std_files;
 mod std_out;
 
@@ -12,5 +13,6 @@ pub use answers::write_answer;
 pub use attempts::{call_again, read_again, write_again};
 pub use file_sink::FileSink;
 pub use file_source::FileSource;
+pub use std_disk::StdDisk;
 pub use std_files::StdFiles;
 pub use std_out::StdOut;

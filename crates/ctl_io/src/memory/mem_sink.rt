@@ -83,8 +83,8 @@ impl Sink for MemSink {
     }
 }
 
-// Appends the bytes in the memory that is there.
-fn append(bytes: &[u8], out: &mut Vec<u8>)
+/// Appends the bytes in the memory that is there.
+pub(crate) fn append(bytes: &[u8], out: &mut Vec<u8>)
     requires { vec_len out.old + length bytes.now ≤ vec_capacity out.old }
     ensures items { out.new.items ≡ out.old.items ++ bytes.now }
     ensures room { vec_capacity out.new ≡ vec_capacity out.old }

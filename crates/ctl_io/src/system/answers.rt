@@ -1,13 +1,14 @@
 //! What the adapters answer for an answer of the system.
 
-ghost use Rattle.std.specs.Prelude.{◌≡◌, ◌≢◌, ◌<◌, IfOk, OnErr, IfErr};
+ghost use Rattle.std.specs.Prelude.{◌≡◌, ◌≢◌, ◌<◌, IfOk, OnOk, OnErr, IfErr};
 ghost use Rattle.std.specs.IoError.{error_kind};
 ghost use Rattle.ctl_io.specs.Faults.{count_after};
 ghost use Rattle.ctl_io.specs.Files.{source_failed, sink_failed};
+ghost use Rattle.ctl_io.specs.Disk.{did_fail};
 ghost use Rattle.ctl_io.specs.Source.{read_failed};
 ghost use Rattle.ctl_io.specs.Sink.{write_failed};
 
-use crate::{FaultCount, Found, Made, Read, Write};
+use crate::{Did, FaultCount, Found, Made, Read, Write};
 use std::io::{self, ErrorKind};
 
 /// A read that gives no bytes is at the end, and an error is a fault.
@@ -73,6 +74,21 @@ pub(crate) fn made_answer<F>(created: io::Result<F>, faults: &mut FaultCount) ->
         Err(_) => {
             faults.raise();
             Made::Failed
+        }
+    }
+}
+
+/// A call of a disk that the system didn't make is a fault.
+pub(crate) fn did_answer(made: io::Result<()>, faults: &mut FaultCount) -> Did
+    ensures done { OnOk made (result ≡ Did.Done) }
+    ensures failed { OnErr made (result ≡ Did.Failed) }
+    ensures count { faults.new ≡ count_after (did_fail result) faults.old }
+{
+    match made {
+        Ok(()) => Did::Done,
+        Err(_) => {
+            faults.raise();
+            Did::Failed
         }
     }
 }

@@ -1,0 +1,35 @@
+use Rattle.std.proofs.Common.{◌≡◌, not, ap, sym, subst, List, length, Some}
+use Rattle.ctl_io.specs.Calls.{next_fails}
+use Rattle.ctl_io.specs.Crash.{LeavesNoMore, LeavesShown, Elapses}
+use Rattle.ctl_io.specs.MemDisk.{DiskState, WasSynced, MayLeave, LeftSince, stored_by, has_room}
+use Rattle.ctl_io.proofs.MemDiskLaws.{counts, elapses_when, syncs, durable, sync_crash}
+use Rattle.ctl_io.proofs.memory.mem_disk.MemDiskDisk.sync.Goals as goal
+
+pub returns-clause-durable : goal.returns-clause-durable
+returns-clause-durable c = λ done.
+    let d = c.args.self.now in
+    subst (λ (s : DiskState). LeavesShown (Some (stored_by d).present) (MayLeave (stored_by s))) (sym c.settle.ensures.after) (durable d _ c.settle.ensures.answer done)
+
+pub returns-clause-contents : goal.returns-clause-contents
+returns-clause-contents c =
+    let d = c.args.self.now in
+    subst (λ (s : DiskState). Some (stored_by s).present ≡ Some (stored_by d).present) (sym c.settle.ensures.after) (ap (λ (l : List _). Some l) (syncs d))
+
+pub returns-clause-size : goal.returns-clause-size
+returns-clause-size c =
+    let d = c.args.self.now in
+    subst (λ (s : DiskState). length (stored_by s).present ≡ length (stored_by d).present) (sym c.settle.ensures.after) (ap length (syncs d))
+
+pub returns-clause-crash : goal.returns-clause-crash
+returns-clause-crash c =
+    let d = c.args.self.now in
+    subst (λ (s : DiskState). LeavesNoMore (MayLeave (stored_by d)) (MayLeave (stored_by s))) (sym c.settle.ensures.after) (sync_crash d)
+
+pub returns-clause-time : goal.returns-clause-time
+returns-clause-time c =
+    let d = c.args.self.now in
+    subst (λ (s : DiskState). Elapses (length d.events) (length s.events) (LeftSince d.start d.events) (LeftSince s.start s.events) (MayLeave (stored_by s))) (sym c.settle.ensures.after)
+    (elapses_when (next_fails d.calls) (has_room 0 d) (WasSynced (not (next_fails d.calls))) 0 d)
+
+pub returns-clause-count : goal.returns-clause-count
+returns-clause-count c = counts c.args.self.now _ 0 _ _ c.settle.ensures.after c.settle.ensures.answer
