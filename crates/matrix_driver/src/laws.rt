@@ -1,0 +1,16 @@
+//! What is true of every driver and every run of the line and the frame, not only of those that a program makes.
+
+ghost use Rattle.matrix_driver.specs.declared.crosspoint.Crosspoint.{Crosspoint};
+ghost use Rattle.matrix_driver.specs.declared.level.Level.{Level};
+ghost use Rattle.matrix_driver.specs.Laws.{AnswersAreExact, AlwaysHad};
+
+/// The outstanding connect is answered by one message alone: the frame's word that it made this crosspoint.
+pub fn answers_are_exact()
+    ensures { (level : Level) (crosspoint : Crosspoint) → AnswersAreExact level crosspoint }
+{}
+
+/// What the driver counts as settled, the frame has: after any steps, whatever was lost, sent again or wanted meanwhile, and
+/// whatever the frame carried at first.
+pub fn settled_is_had()
+    ensures { (level : Level) → AlwaysHad level }
+{}
