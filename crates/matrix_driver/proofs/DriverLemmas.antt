@@ -1,12 +1,12 @@
 -- What stays true of a driver, whatever happens to it.
-use Rattle.std.proofs.Common.{◌≡◌, ◌≢◌, ◌⊎◌, ℕ, ◌<◌, ◌≤◌, ◌==◌, nat_eq, nat_lt, Bool, true, false, not, cond, ◌&&◌, ◌||◌, is_some, Option, Some, None, find, inl, inr, refl, sym, ap, subst, ◌∙◌, arith, eq-eqb}
+use Rattle.std.proofs.Common.{◌≡◌, ◌≢◌, ◌⊎◌, ℕ, ◌<◌, ◌≤◌, nat_eq, Bool, true, false, not, cond, ◌||◌, is_some, Option, Some, None, find, inl, inr, refl, sym, ap, subst, ◌∙◌, arith}
 use Rattle.std.proofs.lemmas.Bool.{cases_eq, cases_lt, false≢true}
 use Rattle.std.specs.List.{range_with_len}
 use Rattle.std.specs.Ordering.{nat_cmp}
 use Rattle.std.specs.Option.{option_map, option_map_or, option_and_then, option_eq}
 use Rattle.std.specs.FinMap as finite
 use Rattle.number_tables.specs.Table.{Entries}
-use Rattle.number_tables.proofs.PutLemmas.{get-put_same, get-put_other}
+use Rattle.number_tables.proofs.PutLemmas.{get-put, get-put_same, get-put_other}
 use Rattle.swp08_messages.specs.declared.message.Message.{Message}
 use Rattle.matrix_driver.specs.declared.crosspoint.Crosspoint.{Crosspoint}
 use Rattle.matrix_driver.specs.declared.level.Level.{Level}
@@ -14,7 +14,7 @@ use Rattle.matrix_driver.specs.declared.event.DriverEvent.{DriverEvent}
 use Rattle.matrix_driver.specs.declared.event.DriverEvent.TheVariants.{Want, Heard, Nak, Timeout}
 use Rattle.matrix_driver.specs.Levels.{IsLevel, IsOf}
 use Rattle.matrix_driver.specs.Messages.{is_answer}
-use Rattle.matrix_driver.specs.Progress.{Progress, blank, crosspoint_of, has, is_settled, is_due, next, noted, settled_at, opened}
+use Rattle.matrix_driver.specs.Progress.{Progress, blank, crosspoint_of, is_settled, is_due, next, noted, settled_at, opened}
 use Rattle.matrix_driver.specs.Driver.{Data, start, sends, wants, made, hears, happens, MayCome}
 use Rattle.matrix_driver.specs.DriverInside.{IsProgressOf, IsDriver}
 use Rattle.matrix_driver.proofs.ProgressLemmas.{due_of, due_wanted}
@@ -222,3 +222,54 @@ IsDriver-happens driver (Want dest source) is may = IsDriver-wants driver (cross
 IsDriver-happens driver (Heard message) is may = IsDriver-hears driver driver.outstanding message is
 IsDriver-happens driver Nak is may = is
 IsDriver-happens driver Timeout is may = is
+
+-- a driver drives one level
+sends_level : (level : Level) (progress : Progress) (following : Option Crosspoint) → (sends level progress following).driver.level ≡ level
+sends_level level progress None = refl
+sends_level level progress (Some crosspoint) = refl
+
+wants_level : (driver : Data) (crosspoint : Crosspoint) → (wants driver crosspoint).driver.level ≡ driver.level
+wants_level driver crosspoint = by (is_some driver.outstanding || is_settled driver.progress crosspoint) refl
+  where
+    by : (b : Bool) → (is_some driver.outstanding || is_settled driver.progress crosspoint) ≡ b → (wants driver crosspoint).driver.level ≡ driver.level
+    by true e = rw e refl
+    by false e = rw e refl
+
+hears_level : (driver : Data) (outstanding : Option Crosspoint) (message : Message) → (hears driver outstanding message).driver.level ≡ driver.level
+hears_level driver None message = refl
+hears_level driver (Some crosspoint) message = by (is_answer driver.level crosspoint message) refl
+  where
+    by : (b : Bool) → is_answer driver.level crosspoint message ≡ b → (hears driver (Some crosspoint) message).driver.level ≡ driver.level
+    by true e = rw e (sends_level driver.level (settled_at driver.progress crosspoint) (next (settled_at driver.progress crosspoint)))
+    by false e = rw e refl
+
+pub happens_level : (driver : Data) (event : DriverEvent) → (happens driver event).driver.level ≡ driver.level
+happens_level driver (Want dest source) = wants_level driver (crosspoint_of dest source)
+happens_level driver (Heard message) = hears_level driver driver.outstanding message
+happens_level driver Nak = refl
+happens_level driver Timeout = refl
+
+-- what is wanted of each destination after something happened
+sends_wants : (level : Level) (progress : Progress) (following : Option Crosspoint) → (sends level progress following).driver.progress.wants ≡ progress.wants
+sends_wants level progress None = refl
+sends_wants level progress (Some crosspoint) = refl
+
+wants_wants : (driver : Data) (crosspoint : Crosspoint) → (wants driver crosspoint).driver.progress.wants ≡ (noted driver.progress crosspoint).wants
+wants_wants driver crosspoint = by (is_some driver.outstanding || is_settled driver.progress crosspoint) refl
+  where
+    by : (b : Bool) → (is_some driver.outstanding || is_settled driver.progress crosspoint) ≡ b → (wants driver crosspoint).driver.progress.wants ≡ (noted driver.progress crosspoint).wants
+    by true e = rw e refl
+    by false e = rw e refl
+
+pub hears_wants : (driver : Data) (outstanding : Option Crosspoint) (message : Message) → (hears driver outstanding message).driver.progress.wants ≡ driver.progress.wants
+hears_wants driver None message = refl
+hears_wants driver (Some crosspoint) message = by (is_answer driver.level crosspoint message) refl
+  where
+    by : (b : Bool) → is_answer driver.level crosspoint message ≡ b → (hears driver (Some crosspoint) message).driver.progress.wants ≡ driver.progress.wants
+    by true e = rw e (sends_wants driver.level (settled_at driver.progress crosspoint) (next (settled_at driver.progress crosspoint)))
+    by false e = rw e refl
+
+pub get-wanted : (driver : Data) (crosspoint : Crosspoint) (dest : ℕ) → finite.get (wants driver crosspoint).driver.progress.wants dest ≡ cond (nat_eq dest crosspoint.dest) (Some crosspoint.source) (finite.get driver.progress.wants dest)
+get-wanted driver crosspoint dest =
+    ap (λ (wants : Entries (Option ℕ)). finite.get wants dest) (wants_wants driver crosspoint)
+    ∙ get-put driver.progress.wants crosspoint.dest (Some crosspoint.source) dest

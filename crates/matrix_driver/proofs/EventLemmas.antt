@@ -1,23 +1,22 @@
 -- What is kept of the rounds, where something happens to the driver.
-use Rattle.std.proofs.Common.{◌≡◌, ◌≢◌, ◌⊎◌, ℕ, nat_eq, Bool, true, false, not, cond, ◌||◌, is_some, List, [], ◌∷◌, ◌++◌, map, Option, Some, None, inl, inr, refl, sym, ap, subst, ◌∙◌, append_assoc, append-nil}
+use Rattle.std.proofs.Common.{◌≡◌, ℕ, nat_eq, Bool, true, false, ◌||◌, is_some, List, [], ◌∷◌, ◌++◌, map, Option, Some, None, inl, inr, refl, sym, ap, subst, ◌∙◌, append_assoc, append-nil}
 use Rattle.std.proofs.lemmas.Bool.{cases_eq, false≢true}
 use Rattle.std.specs.Option.{option_map_or, option_eq, option_to_list}
 use Rattle.std.specs.FinMap as finite
 use Rattle.number_tables.proofs.PutLemmas.{get-put_same, get-put_other}
 use Rattle.swp08_messages.specs.declared.message.Message.{Message}
 use Rattle.matrix_driver.specs.declared.crosspoint.Crosspoint.{Crosspoint}
-use Rattle.matrix_driver.specs.declared.level.Level.{Level}
-use Rattle.matrix_driver.specs.Levels.{IsLevel, IsOf}
-use Rattle.matrix_driver.specs.Messages.{connect, connected, is_answer}
+use Rattle.matrix_driver.specs.Levels.{IsOf}
+use Rattle.matrix_driver.specs.Messages.{connect, connected}
 use Rattle.matrix_driver.specs.Progress.{Progress, is_settled, next, noted, settled_at, opened}
-use Rattle.matrix_driver.specs.Driver.{Data, Outcome, message_of, silent, sends, wants, made, hears, repeats}
+use Rattle.matrix_driver.specs.Driver.{Outcome, message_of, silent, sends, wants, repeats}
 use Rattle.matrix_driver.specs.DriverInside.{IsDriver}
-use Rattle.matrix_driver.specs.World.{World, Carried, with_back}
+use Rattle.matrix_driver.specs.World.{World, with_back}
 use Rattle.matrix_driver.specs.Rounds.{Each, IsOld, InRounds, Agrees, IsOver, IsKept}
 use Rattle.matrix_driver.proofs.Sources.{source_itself}
 use Rattle.matrix_driver.proofs.DriverLemmas.{IsDriver-noted, IsDriver-sent, IsDriver-sends, IsProgress-noted, IsProgress-settled, next-IsNext, IsNext-unsettled, unsettled_due}
-use Rattle.matrix_driver.proofs.Copies.{each_map, each_left, each_right, each_join, rounds_present, rounds_more, rounds_begin, joined}
-use Rattle.matrix_driver.proofs.RoundLemmas.{answers_same, still_settled, settled_here}
+use Rattle.matrix_driver.proofs.Copies.{each_map, each_left, each_join, rounds_present, rounds_more, rounds_begin, joined}
+use Rattle.matrix_driver.proofs.RoundLemmas.{still_settled, settled_here}
 
 -- the world after something happened to its driver
 abbrev pub after : World → Outcome → World

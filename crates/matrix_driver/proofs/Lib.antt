@@ -7,3 +7,4 @@ pub mod Copies
 pub mod RoundLemmas
 pub mod EventLemmas
 pub mod RunLemmas
+pub mod DoneLemmas

@@ -1,5 +1,5 @@
 -- The set of the destinations that are wanted and not settled, as wants and settled sources change.
-use Rattle.std.proofs.Common.{◌≡◌, ◌≢◌, ◌⊎◌, ℕ, ◌<◌, ◌≤◌, ◌==◌, nat_lt, nat_eq, Bool, true, false, not, cond, ◌&&◌, ◌||◌, Option, Some, None, inl, inr, refl, sym, ap, ◌∙◌, arith, eq-eqb}
+use Rattle.std.proofs.Common.{◌≡◌, ◌≢◌, ◌⊎◌, ℕ, ◌<◌, ◌≤◌, nat_lt, nat_eq, Bool, true, false, not, ◌&&◌, ◌||◌, Option, Some, None, inl, inr, refl, sym, ap, ◌∙◌, arith, eq-eqb}
 use Rattle.std.proofs.lemmas.Bool.{cases_eq, ne_eqb, lt-ltb}
 use Rattle.std.proofs.Math.Bool.{and-false}
 use Rattle.std.specs.Ordering.{nat_cmp}
@@ -11,7 +11,7 @@ use Rattle.number_tables.specs.Numbers.{Numbers, lowest, number_limit}
 use Rattle.number_tables.proofs.Members.{contains_inserted, contains_removed}
 use Rattle.number_tables.proofs.PutLemmas.{get-put_same, get-put_other}
 use Rattle.matrix_driver.specs.declared.crosspoint.Crosspoint.{Crosspoint}
-use Rattle.matrix_driver.specs.Progress.{Progress, has, is_due, crosspoint_of, next}
+use Rattle.matrix_driver.specs.Progress.{has, is_due, crosspoint_of, next}
 use Rattle.matrix_driver.specs.ProgressInside.{progress_of, KeepsDue}
 use Rattle.matrix_driver.proofs.LowestDue.{lowest_below}
 use Rattle.matrix_driver.proofs.Sources.{source_back}
@@ -91,7 +91,7 @@ pub due_wanted : (wanted settled : Option (Option ℕ)) → due_of wanted settle
 due_wanted None settled e = e
 due_wanted (Some source) settled e = refl
 
-settled_due : (wanted settled : Option (Option ℕ)) (source : Option ℕ) → due_of wanted settled ≡ true → due_of wanted (Some source) ≡ not (option_map_or (λ at. option_eq nat_eq at source) wanted false)
+pub settled_due : (wanted settled : Option (Option ℕ)) (source : Option ℕ) → due_of wanted settled ≡ true → due_of wanted (Some source) ≡ not (option_map_or (λ at. option_eq nat_eq at source) wanted false)
 settled_due None settled source e = cc
 settled_due (Some want) settled source e = ap not (source_back source want)
 

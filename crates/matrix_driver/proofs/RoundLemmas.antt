@@ -1,25 +1,19 @@
 -- What is kept of the rounds, at each step of a world.
-use Rattle.std.proofs.Common.{◌≡◌, ◌≢◌, ◌⊎◌, ℕ, ◌==◌, nat_eq, nat_lt, Bool, true, false, not, cond, ◌&&◌, ◌||◌, is_some, List, [], ◌∷◌, ◌++◌, map, Option, Some, None, inl, inr, refl, sym, ap, subst, ◌∙◌, append_assoc, append-nil, arith, eq-eqb, eqb-true}
-use Rattle.std.proofs.lemmas.Bool.{cases_eq, ne_eqb, and_parts, false≢true}
-use Rattle.std.specs.Ordering.{nat_cmp}
-use Rattle.std.specs.Option.{option_map_or, option_eq, option_to_list}
+use Rattle.std.proofs.Common.{◌≡◌, ◌≢◌, ℕ, nat_eq, Bool, true, false, not, cond, ◌&&◌, List, [], ◌∷◌, ◌++◌, map, Option, Some, None, inl, inr, refl, sym, ap, subst, ◌∙◌, append_assoc, eq-eqb, eqb-true}
+use Rattle.std.proofs.lemmas.Bool.{cases_eq, ne_eqb, and_parts}
+use Rattle.std.specs.Option.{option_eq}
 use Rattle.std.specs.FinMap as finite
-use Rattle.number_tables.specs.Table.{Entries}
 use Rattle.number_tables.proofs.PutLemmas.{get-put_same, get-put_other}
 use Rattle.swp08_messages.specs.declared.message.Message.{Message}
 use Rattle.swp08_messages.specs.declared.message.Message.TheVariants.{Connect, Connected, ExtConnect, ExtConnected}
 use Rattle.matrix_driver.specs.declared.crosspoint.Crosspoint.{Crosspoint}
 use Rattle.matrix_driver.specs.declared.level.Level.{Level}
-use Rattle.matrix_driver.specs.Levels.{IsLevel, IsOf}
 use Rattle.matrix_driver.specs.Messages.{is_short, point, connect, connected, is_about, is_answer}
-use Rattle.matrix_driver.specs.Progress.{Progress, crosspoint_of, is_settled, next, noted, settled_at, opened}
-use Rattle.matrix_driver.specs.Driver.{Data, Outcome, message_of, silent, sends, wants, made, hears, repeats}
-use Rattle.matrix_driver.specs.DriverInside.{IsDriver}
+use Rattle.matrix_driver.specs.Progress.{Progress, crosspoint_of, settled_at, opened}
 use Rattle.matrix_driver.specs.World.{World, Carried, carries, made_by, told_by, with_forth, with_back, takes}
-use Rattle.matrix_driver.specs.Rounds.{Each, IsOld, InRounds, Agrees, IsOver, IsKept}
-use Rattle.matrix_driver.proofs.Sources.{same_source, source_itself}
-use Rattle.matrix_driver.proofs.DriverLemmas.{IsDriver-noted, IsDriver-sent, IsDriver-sends, IsDriver-made, IsProgress-noted, IsProgress-settled, next-IsNext, IsNext-unsettled, unsettled_due}
-use Rattle.matrix_driver.proofs.Copies.{each_map, each_left, each_right, each_join, each_lose, rounds_present, rounds_lose, rounds_more, rounds_begin, rounds_at, cut, IsCut, joined}
+use Rattle.matrix_driver.specs.Rounds.{Each, InRounds, Agrees, IsOver, IsKept}
+use Rattle.matrix_driver.proofs.Sources.{same_source}
+use Rattle.matrix_driver.proofs.Copies.{each_map, each_right, each_join, each_lose, rounds_lose, rounds_at, cut, IsCut, joined}
 
 -- two crosspoints with the same destination and the same source are one
 pub same_crosspoint : (x y : Crosspoint) → x.dest ≡ y.dest → x.source ≡ y.source → x ≡ y
@@ -47,7 +41,7 @@ makes level carried copy =
       | false ↦ refl
     ]
 
-tells : (level : Level) (copy : Crosspoint) → told_by (connect level copy) ≡ connected level copy ∷ []
+pub tells : (level : Level) (copy : Crosspoint) → told_by (connect level copy) ≡ connected level copy ∷ []
 tells level copy =
     elim (is_short copy) as (λ short. told_by (cond short (Connect (point level copy.dest) copy.source) (ExtConnect (point level copy.dest) copy.source)) ≡ cond short (Connected (point level copy.dest) copy.source) (ExtConnected (point level copy.dest) copy.source) ∷ []) [
       | true ↦ refl

@@ -1,9 +1,6 @@
 -- Comparisons of sources and crosspoints.
-use Rattle.std.proofs.Common.{◌≡◌, ◌≢◌, ℕ, nat_eq, Bool, true, false, not, ◌&&◌, Option, Some, None, refl, sym, ap, ◌∙◌, eq-eqb, eqb-true}
-use Rattle.std.proofs.lemmas.Bool.{cases_eq, ne_eqb}
-use Rattle.std.specs.Option.{option_eq, option_map_or}
-use Rattle.matrix_driver.specs.declared.crosspoint.Crosspoint.{Crosspoint}
-use Rattle.matrix_driver.specs.Progress.{crosspoint_of}
+use Rattle.std.proofs.Common.{◌≡◌, ℕ, nat_eq, Bool, true, false, Option, Some, None, refl, sym, ap, ◌∙◌, eq-eqb, eqb-true}
+use Rattle.std.specs.Option.{option_eq}
 
 pub same_source : (one other : Option ℕ) → option_eq nat_eq one other ≡ true → one ≡ other
 same_source None None e = refl

@@ -1,5 +1,5 @@
 -- The driver as plain data, and what each event makes of it.
-use Rattle.std.specs.Prelude.{ℕ, Bool, ◌||◌, is_some, if◌then◌else◌, Option, Some, None, refl}
+use Rattle.std.specs.Prelude.{ℕ, ◌||◌, is_some, if◌then◌else◌, Option, Some, None, refl}
 use Rattle.std.specs.Option.{option_map}
 use Rattle.std.specs.Coded.{Coded, code_by, coded×, coded_ℕ, coded_option}
 use Rattle.swp08_messages.specs.declared.message.Message.{Message}

@@ -1,5 +1,5 @@
 -- What is wanted of each destination of a level, and at what it is settled.
-use Rattle.std.specs.Prelude.{ℕ, nat_eq, Bool, true, false, not, Option, Some, None, find, refl}
+use Rattle.std.specs.Prelude.{ℕ, nat_eq, Bool, false, not, Option, find, refl}
 use Rattle.std.specs.List.{range_with_len}
 use Rattle.std.specs.Option.{option_map, option_map_or, option_and_then, option_eq}
 use Rattle.std.specs.FinMap.{empty, get, insert, remove, code as map_code}

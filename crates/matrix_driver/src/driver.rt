@@ -58,7 +58,8 @@ impl Driver {
         requires level { level ≤ 15 }
         requires some { 1 ≤ destinations }
         requires most { destinations ≤ 1024 }
-        ensures { IfOk result (λ driver. driver ≡ start (short_level matrix level destinations)) }
+        ensures { IfOk result
+            (λ driver. driver ≡ start (short_level matrix level destinations)) }
     {
         let level = Level {
             matrix,
@@ -81,7 +82,8 @@ impl Driver {
         requires level { level ≤ 15 }
         requires some { 1 ≤ destinations }
         requires most { destinations ≤ 65536 }
-        ensures { IfOk result (λ driver. driver ≡ start (wide_level matrix level destinations)) }
+        ensures { IfOk result
+            (λ driver. driver ≡ start (wide_level matrix level destinations)) }
     {
         let level = Level {
             matrix,
@@ -106,11 +108,13 @@ impl Driver {
     }
 
     /// The message to send now, `None` where none is. It takes no memory.
+    #[tactic(auto, using(crate::proofs::DriverLemmas::happens_level))]
     pub fn event(&mut self, event: &DriverEvent) -> Option<Message>
         requires { MayCome self.old.level event.now }
         ensures driver { self.new ≡ (happens self.old event.now).driver }
         ensures answer { result ≡ answer self.old event.now }
         ensures in_range { IfSome result InRange }
+        ensures level { self.new.level ≡ self.old.level }
     {
         match *event {
             DriverEvent::Want { dest, source } => self.want(&Crosspoint { dest, source }),

@@ -2,7 +2,7 @@
 
 ghost use Rattle.matrix_driver.specs.declared.crosspoint.Crosspoint.{Crosspoint};
 ghost use Rattle.matrix_driver.specs.declared.level.Level.{Level};
-ghost use Rattle.matrix_driver.specs.Laws.{AnswersAreExact, AlwaysHad};
+ghost use Rattle.matrix_driver.specs.Laws.{AnswersAreExact, AlwaysHad, DoneWhereQuiet};
 
 /// The outstanding connect is answered by one message alone: the frame's word that it made this crosspoint.
 pub fn answers_are_exact()
@@ -13,4 +13,10 @@ pub fn answers_are_exact()
 /// whatever the frame carried at first.
 pub fn settled_is_had()
     ensures { (level : Level) → AlwaysHad level }
+{}
+
+/// Where nothing is outstanding, each destination of which something was wanted is settled at what was wanted last, and the
+/// frame has it there: no want is lost.
+pub fn quiet_is_done()
+    ensures { (level : Level) → DoneWhereQuiet level }
 {}

@@ -2,7 +2,7 @@
 
 ghost use Rattle.std.specs.Prelude.{◌≡◌, ◌≤◌};
 ghost use Rattle.swp08_messages.specs.Text.{InRange};
-ghost use Rattle.matrix_driver.specs.Messages.{connect, is_answer, is_about};
+ghost use Rattle.matrix_driver.specs.Messages.{point, connect, is_answer, is_about};
 ghost use Rattle.matrix_driver.specs.Levels.{IsLevel, IsOf};
 
 use crate::crosspoint::Crosspoint;
@@ -65,7 +65,7 @@ impl Level {
 
     // The place of a destination.
     fn point(&self, dest: u16) -> Point
-        ensures { result ≡ record { matrix = self.now.matrix; level = self.now.number; dest = dest } }
+        ensures { result ≡ point self.now dest }
     {
         Point {
             matrix: self.matrix,
