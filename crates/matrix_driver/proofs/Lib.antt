@@ -8,3 +8,5 @@ pub mod RoundLemmas
 pub mod EventLemmas
 pub mod RunLemmas
 pub mod DoneLemmas
+pub mod Counts
+pub mod TurnLemmas

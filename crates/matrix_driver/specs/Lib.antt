@@ -7,3 +7,4 @@ pub mod DriverInside
 pub mod World
 pub mod Rounds
 pub mod Laws
+pub mod Turns

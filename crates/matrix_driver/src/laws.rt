@@ -2,7 +2,9 @@
 
 ghost use Rattle.matrix_driver.specs.declared.crosspoint.Crosspoint.{Crosspoint};
 ghost use Rattle.matrix_driver.specs.declared.level.Level.{Level};
+ghost use Rattle.matrix_driver.specs.World.{World};
 ghost use Rattle.matrix_driver.specs.Laws.{AnswersAreExact, AlwaysHad, DoneWhereQuiet};
+ghost use Rattle.matrix_driver.specs.Turns.{SettlesAll, IsTurn};
 
 /// The outstanding connect is answered by one message alone: the frame's word that it made this crosspoint.
 pub fn answers_are_exact()
@@ -19,4 +21,14 @@ pub fn settled_is_had()
 /// frame has it there: no want is lost.
 pub fn quiet_is_done()
     ensures { (level : Level) → DoneWhereQuiet level }
+{}
+
+/// Whatever was lost and wanted before: if from then on nothing is lost and nothing more is wanted, so many turns settle all.
+pub fn turns_settle_all()
+    ensures { (level : Level) → SettlesAll level }
+{}
+
+/// A turn is a step of the world, and neither loses a message nor wants anything.
+pub fn turns_are_steps()
+    ensures { (world : World) → IsTurn world }
 {}

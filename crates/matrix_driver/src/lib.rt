@@ -12,4 +12,6 @@ mod progress;
 
 pub use driver::Driver;
 pub use event::DriverEvent;
-pub use laws::{answers_are_exact, quiet_is_done, settled_is_had};
+pub use laws::{
+    answers_are_exact, quiet_is_done, settled_is_had, turns_are_steps, turns_settle_all,
+};
