@@ -9,4 +9,5 @@ pub mod EventLemmas
 pub mod RunLemmas
 pub mod DoneLemmas
 pub mod Counts
+pub mod DueCounts
 pub mod TurnLemmas
