@@ -5,6 +5,7 @@ mod of_ctl_net;
 mod of_dle_framing;
 mod of_history_lock;
 mod of_line_text;
+mod of_matrix_driver;
 mod of_number_tables;
 mod of_swp08_messages;
 mod of_tap_lists;

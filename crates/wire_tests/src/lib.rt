@@ -16,6 +16,8 @@ mod of_history_lock;
 #[cfg(test)]
 mod of_line_text;
 #[cfg(test)]
+mod of_matrix_driver;
+#[cfg(test)]
 mod of_swp08_messages;
 #[cfg(test)]
 mod of_tsl_stream;

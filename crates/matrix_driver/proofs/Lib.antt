@@ -1,0 +1,13 @@
+pub mod LowestDue
+pub mod Sources
+pub mod Searches
+pub mod ProgressLemmas
+pub mod DriverLemmas
+pub mod Copies
+pub mod RoundLemmas
+pub mod EventLemmas
+pub mod RunLemmas
+pub mod DoneLemmas
+pub mod Counts
+pub mod DueCounts
+pub mod TurnLemmas

@@ -1,0 +1,10 @@
+pub mod Levels
+pub mod Messages
+pub mod Progress
+pub mod ProgressInside
+pub mod Driver
+pub mod DriverInside
+pub mod World
+pub mod Rounds
+pub mod Laws
+pub mod Turns
