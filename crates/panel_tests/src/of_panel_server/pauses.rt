@@ -1,8 +1,8 @@
 //! When the worker of the displays pauses: after each round in which no screen had anything to be told, and after no other.
 
-use crate::examples::of_panel_server::TOWER;
+use crate::examples::of_panel_server::{TOWER, locked};
 use crate::in_memory::Call::Line;
-use crate::in_memory::{locked, trace_of};
+use crate::in_memory::trace_of;
 use ctl_net::{DisplayPort, Sent};
 use panel_server::{DriverEnd, drive_displays};
 use plant_config::Plant;
@@ -18,7 +18,10 @@ struct PausingPort {
 }
 
 impl DisplayPort for PausingPort {
+    ghost use Rattle.std.specs.Prelude.{None};
     ghost use Rattle.ctl_net.specs.Port.{IsSomePacket};
+
+    ghost opening = { λ _. None };
 
     ghost takes = { IsSomePacket };
 
