@@ -29,11 +29,11 @@ fn connect(dest: u16, source: Option<u16>) -> Message {
     }
 }
 
-fn heard(dest: u16, source: Option<u16>) -> DriverEvent {
-    DriverEvent::Heard(Message::Connected {
+fn connected(dest: u16, source: Option<u16>) -> Message {
+    Message::Connected {
         at: at(dest),
         source,
-    })
+    }
 }
 
 #[test]
@@ -56,15 +56,15 @@ fn one_connect_is_outstanding_at_a_time(rt: HostRuntime) -> Result<(), Fail> {
     );
     assert!(rt; driver.event(&DriverEvent::Timeout) == Some(connect(0, first)));
     // Neither a tally nor the answer of another source is what is waited for.
-    assert!(rt; driver.event(&heard(0, second)) == None);
+    assert!(rt; driver.event(&DriverEvent::Heard(connected(0, second))) == None);
     assert!(rt;
         driver.event(&DriverEvent::Heard(Message::Tally {
             at: at(0),
             source: first
         })) == None
     );
-    assert!(rt; driver.event(&heard(0, first)) == Some(connect(1, second)));
-    assert!(rt; driver.event(&heard(0, first)) == None);
+    assert!(rt; driver.event(&DriverEvent::Heard(connected(0, first))) == Some(connect(1, second)));
+    assert!(rt; driver.event(&DriverEvent::Heard(connected(0, first))) == None);
     assert!(rt; driver.outstanding() == Some(connect(1, second)));
     assert!(rt;
         driver.wanted(1) == Some(second)
@@ -95,8 +95,11 @@ fn extended_commands_are_sent_where_short_ones_have_no_room(rt: HostRuntime) -> 
         at: at(1024),
         source: None,
     };
-    assert!(rt; driver.event(&heard(1023, Some(1022))) == Some(wide));
-    assert!(rt; driver.event(&heard(1024, None)) == None && driver.settled(1024) == None);
+    assert!(rt; driver.event(&DriverEvent::Heard(connected(1023, Some(1022)))) == Some(wide));
+    assert!(rt;
+        driver.event(&DriverEvent::Heard(connected(1024, None))) == None
+            && driver.settled(1024) == None
+    );
 
     // The same destination with a source that only the extended commands have.
     assert!(rt;
