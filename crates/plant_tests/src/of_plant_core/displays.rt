@@ -187,6 +187,7 @@ fn connect_all(
     connects: &[(u8, u16, u16)],
 )
     requires { room_of state.old.plant ≤ out.old.places }
+    ensures { room_of state.new.plant ≤ out.new.places }
 {
     for (level, dest, source) in connects.iter().copied() {
         ask(rt, state, out, &connect(level, dest, source));
@@ -196,6 +197,7 @@ fn connect_all(
 // The rows are told one after the other.
 fn are_told(rt: &impl Abort, state: &mut PlantState, out: &mut OutBox<Answer>)
     requires { room_of state.old.plant ≤ out.old.places }
+    ensures { room_of state.new.plant ≤ out.new.places }
 {
     for (connects, refresh, shown) in ROWS {
         connect_all(rt, state, out, connects);
