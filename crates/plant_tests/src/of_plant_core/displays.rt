@@ -14,8 +14,7 @@ use std::test::Fail;
 use swp08_messages::Point;
 use tally::Roots;
 
-// Two mixers, the second bus of the first with a switch. Destination 0 is on air, 1 on preview, and displays 0 and 1 watch
-// 2 and 3. One tie-line leads to another router, and is kept for masters.
+// Two mixers, one bus with a switch. Destination 0 is on air, 1 on preview; displays watch 2 and 3; masters have a tie-line.
 pub(crate) const STUDIO: &str = r#"title = "Studio"
 [[level]]
 matrix = 0
