@@ -2,28 +2,29 @@
 use Rattle.std.proofs.Common.{◌≡◌, ◌≢◌, ◌⊎◌, List, [], ◌∷◌, ◌++◌, map, inl, inr, refl, sym, ap, ◌∙◌}
 use Rattle.std.proofs.lemmas.List.{map-append}
 use Rattle.matrix_driver.specs.declared.crosspoint.Crosspoint.{Crosspoint}
-use Rattle.matrix_driver.specs.Rounds.{Each, IsOld, InRounds}
+use Rattle.std.specs.List.{AllByRecursion}
+use Rattle.matrix_driver.specs.Rounds.{IsOld, InRounds}
 
-pub each_map : (P Q : Crosspoint → Type 0) → ((copy : Crosspoint) → P copy → Q copy) → (xs : List Crosspoint) → Each P xs → Each Q xs
+pub each_map : (P Q : Crosspoint → Type 0) → ((copy : Crosspoint) → P copy → Q copy) → (xs : List Crosspoint) → AllByRecursion P xs → AllByRecursion Q xs
 each_map P Q f [] h = tt
 each_map P Q f (x ∷ xs) h = (f x h.0, each_map P Q f xs h.1)
 
-pub each_left : (P : Crosspoint → Type 0) (xs ys : List Crosspoint) → Each P (xs ++ ys) → Each P xs
+pub each_left : (P : Crosspoint → Type 0) (xs ys : List Crosspoint) → AllByRecursion P (xs ++ ys) → AllByRecursion P xs
 each_left P [] ys h = tt
 each_left P (x ∷ xs) ys h = (h.0, each_left P xs ys h.1)
 
-pub each_right : (P : Crosspoint → Type 0) (xs ys : List Crosspoint) → Each P (xs ++ ys) → Each P ys
+pub each_right : (P : Crosspoint → Type 0) (xs ys : List Crosspoint) → AllByRecursion P (xs ++ ys) → AllByRecursion P ys
 each_right P [] ys h = h
 each_right P (x ∷ xs) ys h = each_right P xs ys h.1
 
-pub each_join : (P : Crosspoint → Type 0) (xs ys : List Crosspoint) → Each P xs → Each P ys → Each P (xs ++ ys)
+pub each_join : (P : Crosspoint → Type 0) (xs ys : List Crosspoint) → AllByRecursion P xs → AllByRecursion P ys → AllByRecursion P (xs ++ ys)
 each_join P [] ys h k = k
 each_join P (x ∷ xs) ys h k = (h.0, each_join P xs ys h.1 k)
 
-pub each_lose : (P : Crosspoint → Type 0) (xs : List Crosspoint) (copy : Crosspoint) (ys : List Crosspoint) → Each P (xs ++ copy ∷ ys) → Each P (xs ++ ys)
+pub each_lose : (P : Crosspoint → Type 0) (xs : List Crosspoint) (copy : Crosspoint) (ys : List Crosspoint) → AllByRecursion P (xs ++ copy ∷ ys) → AllByRecursion P (xs ++ ys)
 each_lose P xs copy ys h = each_join P xs ys (each_left P xs (copy ∷ ys) h) (each_right P xs (copy ∷ ys) h).1
 
-pub rounds_present : (before present : Crosspoint) (xs : List Crosspoint) → Each (λ one. one ≡ present) xs → InRounds before present xs
+pub rounds_present : (before present : Crosspoint) (xs : List Crosspoint) → AllByRecursion (λ one. one ≡ present) xs → InRounds before present xs
 rounds_present before present [] h = tt
 rounds_present before present (x ∷ xs) h = inr h
 
@@ -40,12 +41,12 @@ rounds_more before present (x ∷ xs) (inl h) = inl (h.0, rounds_more before pre
 rounds_more before present (x ∷ xs) (inr h) = inr (h.0, each_join (λ one. one ≡ present) xs (present ∷ []) h.1 (refl, tt))
 
 -- the first copy of a new round, behind those of the round before
-pub rounds_begin : (before present : Crosspoint) (xs : List Crosspoint) → Each (IsOld before present) xs → InRounds before present (xs ++ present ∷ [])
+pub rounds_begin : (before present : Crosspoint) (xs : List Crosspoint) → AllByRecursion (IsOld before present) xs → InRounds before present (xs ++ present ∷ [])
 rounds_begin before present [] h = inr (refl, tt)
 rounds_begin before present (x ∷ xs) h = inl (h.0, rounds_begin before present xs h.1)
 
 -- a copy is of the present round, or it is of the round before, and so are those that stand before it
-pub rounds_at : (before present : Crosspoint) (xs : List Crosspoint) (copy : Crosspoint) (ys : List Crosspoint) → InRounds before present (xs ++ copy ∷ ys) → (copy ≡ present) ⊎ ((copy ≢ present) × Each (λ one. one ≢ present) xs)
+pub rounds_at : (before present : Crosspoint) (xs : List Crosspoint) (copy : Crosspoint) (ys : List Crosspoint) → InRounds before present (xs ++ copy ∷ ys) → (copy ≡ present) ⊎ ((copy ≢ present) × AllByRecursion (λ one. one ≢ present) xs)
 rounds_at before present [] copy ys (inl h) = inr (h.0.other, tt)
 rounds_at before present [] copy ys (inr h) = inl h.0
 rounds_at before present (x ∷ xs) copy ys (inl h) =

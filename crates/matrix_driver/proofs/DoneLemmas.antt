@@ -6,7 +6,7 @@ use Rattle.std.specs.FinMap as finite
 use Rattle.number_tables.specs.Table.{Entries}
 use Rattle.matrix_driver.specs.declared.level.Level.{Level}
 use Rattle.matrix_driver.specs.Progress.{crosspoint_of}
-use Rattle.matrix_driver.specs.World.{World, Step, Wanted, Refused, Overdue, Lost_forth, Lost_back, Taken, Told, new_world, Leads, Runs}
+use Rattle.matrix_driver.specs.World.{World, Step, Wanted, Refused, Overdue, LostForth, LostBack, Taken, Told, new_world, Leads, Runs}
 use Rattle.matrix_driver.specs.Rounds.{IsKept}
 use Rattle.matrix_driver.specs.Laws.{wanted_by, wanted_last, DoneWhereQuiet}
 use Rattle.matrix_driver.proofs.Sources.{same_source}
@@ -26,8 +26,8 @@ wanted_leads old new (Wanted at source) dest h =
     by false = refl
 wanted_leads old new Refused dest h = ap (λ (world : World). finite.get world.driver.progress.wants dest) h.is
 wanted_leads old new Overdue dest h = ap (λ (world : World). finite.get world.driver.progress.wants dest) h.is
-wanted_leads old new Lost_forth dest h = ap (λ (world : World). finite.get world.driver.progress.wants dest) h.others
-wanted_leads old new Lost_back dest h = ap (λ (world : World). finite.get world.driver.progress.wants dest) h.others
+wanted_leads old new LostForth dest h = ap (λ (world : World). finite.get world.driver.progress.wants dest) h.others
+wanted_leads old new LostBack dest h = ap (λ (world : World). finite.get world.driver.progress.wants dest) h.others
 wanted_leads old new Taken dest h = ap (λ (world : World). finite.get world.driver.progress.wants dest) h.is
 wanted_leads old new Told dest h =
     ap (λ (world : World). finite.get world.driver.progress.wants dest) h.is

@@ -12,7 +12,8 @@ use Rattle.matrix_driver.specs.Progress.{Progress, is_settled, next, noted, sett
 use Rattle.matrix_driver.specs.Driver.{Outcome, message_of, silent, sends, wants, repeats}
 use Rattle.matrix_driver.specs.DriverInside.{IsDriver}
 use Rattle.matrix_driver.specs.World.{World, with_back}
-use Rattle.matrix_driver.specs.Rounds.{Each, IsOld, InRounds, Agrees, IsOver, IsKept}
+use Rattle.std.specs.List.{AllByRecursion}
+use Rattle.matrix_driver.specs.Rounds.{IsOld, InRounds, Agrees, IsOver, IsKept}
 use Rattle.matrix_driver.proofs.Sources.{source_itself}
 use Rattle.matrix_driver.proofs.DriverLemmas.{IsDriver-noted, IsDriver-sent, IsDriver-sends, IsProgress-noted, IsProgress-settled, next-IsNext, IsNext-unsettled, unsettled_due}
 use Rattle.matrix_driver.proofs.Copies.{each_map, each_left, each_join, rounds_present, rounds_more, rounds_begin, joined}
@@ -79,7 +80,7 @@ IsKept-again world crosspoint is e = record {
   over = λ none.
       let wrong : None ≡ Some crosspoint = sym none ∙ e in
       cc;
-  agree = subst (Each (Agrees world.driver.progress.settled)) (append_assoc is.back is.forth (crosspoint ∷ []))
+  agree = subst (AllByRecursion (Agrees world.driver.progress.settled)) (append_assoc is.back is.forth (crosspoint ∷ []))
       (each_join (Agrees world.driver.progress.settled) (is.back ++ is.forth) (crosspoint ∷ []) is.agree (agrees, tt));
   answered = is.answered;
   had = is.had;
@@ -94,7 +95,7 @@ IsKept-again world crosspoint is e = record {
 module _ (world : World) (progress : Progress) (past crosspoint : Crosspoint) (forth back : List Crosspoint)
     (to_frame : world.to_frame ≡ map (connect world.driver.level) forth)
     (to_driver : world.to_driver ≡ map (connected world.driver.level) back)
-    (over : Each (IsOver progress.settled past) (back ++ forth))
+    (over : AllByRecursion (IsOver progress.settled past) (back ++ forth))
     (had : (dest : ℕ) (source : Option ℕ) → finite.get progress.settled dest ≡ Some source → world.carried dest ≡ source)
     (unsettled : is_settled progress crosspoint ≡ false)
     (driver : IsDriver (record { level = world.driver.level; progress = opened progress crosspoint.dest; outstanding = Some crosspoint })) where
@@ -107,7 +108,7 @@ module _ (world : World) (progress : Progress) (past crosspoint : Crosspoint) (f
         false≢true (sym unsettled ∙ ap (λ found. option_map_or (λ source. option_eq nat_eq source crosspoint.source) found false) at ∙ source_itself crosspoint.source);
   }
 
-  old : Each (IsOld past crosspoint) (back ++ forth)
+  old : AllByRecursion (IsOld past crosspoint) (back ++ forth)
   old = each_map (IsOver progress.settled past) (IsOld past crosspoint) is_old (back ++ forth) over
 
   agrees_old : (copy : Crosspoint) → IsOver progress.settled past copy → Agrees (opened progress crosspoint.dest).settled copy
@@ -135,7 +136,7 @@ module _ (world : World) (progress : Progress) (past crosspoint : Crosspoint) (f
     rounds = subst (InRounds past crosspoint) (append_assoc back forth (crosspoint ∷ [])) (rounds_begin past crosspoint (back ++ forth) old);
     sent = λ copy e. sym (sent copy e);
     over = λ none. cc;
-    agree = subst (Each (Agrees (opened progress crosspoint.dest).settled)) (append_assoc back forth (crosspoint ∷ []))
+    agree = subst (AllByRecursion (Agrees (opened progress crosspoint.dest).settled)) (append_assoc back forth (crosspoint ∷ []))
         (each_join (Agrees (opened progress crosspoint.dest).settled) (back ++ forth) (crosspoint ∷ [])
         (each_map (IsOver progress.settled past) (Agrees (opened progress crosspoint.dest).settled) agrees_old (back ++ forth) over) (agrees_new, tt));
     answered = each_map (IsOld past crosspoint) (λ copy. copy ≡ crosspoint → world.carried copy.dest ≡ copy.source) (λ copy is same. absurd (is.other same)) back (each_left (IsOld past crosspoint) back forth old);
@@ -178,7 +179,7 @@ module _ (world : World) (is : IsKept world) (copy : Crosspoint) (rest : List Cr
   progress_now : Progress
   progress_now = settled_at world.driver.progress copy
 
-  all : Each (λ one. one ≡ is.present) (rest ++ is.forth)
+  all : AllByRecursion (λ one. one ≡ is.present) (rest ++ is.forth)
   all =
       elim (subst (λ back. InRounds is.before is.present (back ++ is.forth)) parts is.rounds) [
         | inl old ↦ absurd (old.0.other present)
@@ -186,9 +187,9 @@ module _ (world : World) (is : IsKept world) (copy : Crosspoint) (rest : List Cr
       ]
 
   now : world.carried copy.dest ≡ copy.source
-  now = (subst (Each (λ one. one ≡ is.present → world.carried one.dest ≡ one.source)) parts is.answered).0 present
+  now = (subst (AllByRecursion (λ one. one ≡ is.present → world.carried one.dest ≡ one.source)) parts is.answered).0 present
 
-  over_now : Each (IsOver (settled_at world.driver.progress copy).settled is.present) (rest ++ is.forth)
+  over_now : AllByRecursion (IsOver (settled_at world.driver.progress copy).settled is.present) (rest ++ is.forth)
   over_now = each_map (λ one. one ≡ is.present) (IsOver (settled_at world.driver.progress copy).settled is.present) f (rest ++ is.forth) all
     where
       f : (one : Crosspoint) → one ≡ is.present → IsOver (settled_at world.driver.progress copy).settled is.present one

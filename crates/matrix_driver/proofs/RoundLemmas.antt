@@ -11,7 +11,8 @@ use Rattle.matrix_driver.specs.declared.level.Level.{Level}
 use Rattle.matrix_driver.specs.Messages.{is_short, point, connect, connected, is_about, is_answer}
 use Rattle.matrix_driver.specs.Progress.{Progress, crosspoint_of, settled_at, opened}
 use Rattle.matrix_driver.specs.World.{World, Carried, carries, made_by, told_by, with_forth, with_back, takes}
-use Rattle.matrix_driver.specs.Rounds.{Each, InRounds, Agrees, IsOver, IsKept}
+use Rattle.std.specs.List.{AllByRecursion}
+use Rattle.matrix_driver.specs.Rounds.{InRounds, Agrees, IsOver, IsKept}
 use Rattle.matrix_driver.proofs.Sources.{same_source}
 use Rattle.matrix_driver.proofs.Copies.{each_map, each_right, each_join, each_lose, rounds_lose, rounds_at, cut, IsCut, joined}
 
@@ -94,8 +95,8 @@ IsKept-forth world before lost behind is way = by (cut (connect world.driver.lev
         after : (is.back ++ at.front) ++ at.rest ≡ is.back ++ (at.front ++ at.rest)
         after = append_assoc is.back at.front at.rest
 
-        each : (P : Crosspoint → Type 0) → Each P (is.back ++ is.forth) → Each P (is.back ++ (at.front ++ at.rest))
-        each P h = subst (Each P) after (each_lose P (is.back ++ at.front) at.copy at.rest (subst (Each P) was h))
+        each : (P : Crosspoint → Type 0) → AllByRecursion P (is.back ++ is.forth) → AllByRecursion P (is.back ++ (at.front ++ at.rest))
+        each P h = subst (AllByRecursion P) after (each_lose P (is.back ++ at.front) at.copy at.rest (subst (AllByRecursion P) was h))
 
 -- A message is lost, on the way back.
 pub IsKept-back : (world : World) (before : List Message) (lost : Message) (behind : List Message) → IsKept world → world.to_driver ≡ before ++ lost ∷ behind → IsKept (with_back world (before ++ behind))
@@ -115,7 +116,7 @@ IsKept-back world before lost behind is way = by (cut (connected world.driver.le
       over = λ none. each (IsOver world.driver.progress.settled is.present) (is.over none);
       agree = each (Agrees world.driver.progress.settled) is.agree;
       answered = each_lose (λ copy. copy ≡ is.present → world.carried copy.dest ≡ copy.source) at.front at.copy at.rest
-          (subst (Each (λ copy. copy ≡ is.present → world.carried copy.dest ≡ copy.source)) at.parts is.answered);
+          (subst (AllByRecursion (λ copy. copy ≡ is.present → world.carried copy.dest ≡ copy.source)) at.parts is.answered);
       had = is.had;
     }
       where
@@ -125,8 +126,8 @@ IsKept-back world before lost behind is way = by (cut (connected world.driver.le
         after : at.front ++ (at.rest ++ is.forth) ≡ (at.front ++ at.rest) ++ is.forth
         after = sym (append_assoc at.front at.rest is.forth)
 
-        each : (P : Crosspoint → Type 0) → Each P (is.back ++ is.forth) → Each P ((at.front ++ at.rest) ++ is.forth)
-        each P h = subst (Each P) after (each_lose P at.front at.copy (at.rest ++ is.forth) (subst (Each P) was h))
+        each : (P : Crosspoint → Type 0) → AllByRecursion P (is.back ++ is.forth) → AllByRecursion P ((at.front ++ at.rest) ++ is.forth)
+        each P h = subst (AllByRecursion P) after (each_lose P at.front at.copy (at.rest ++ is.forth) (subst (AllByRecursion P) was h))
 
 -- The frame takes a message: the list of the copies stays as it is.
 module _ (world : World) (is : IsKept world) (copy : Crosspoint) (rest : List Crosspoint) (parts : is.forth ≡ copy ∷ rest) where
@@ -137,7 +138,7 @@ module _ (world : World) (is : IsKept world) (copy : Crosspoint) (rest : List Cr
   carried_now = carries world.carried copy.dest copy.source
 
   agrees : Agrees world.driver.progress.settled copy
-  agrees = (each_right (Agrees world.driver.progress.settled) is.back (copy ∷ rest) (subst (λ forth. Each (Agrees world.driver.progress.settled) (is.back ++ forth)) parts is.agree)).0
+  agrees = (each_right (Agrees world.driver.progress.settled) is.back (copy ∷ rest) (subst (λ forth. AllByRecursion (Agrees world.driver.progress.settled) (is.back ++ forth)) parts is.agree)).0
 
   had_now : (dest : ℕ) (source : Option ℕ) → finite.get world.driver.progress.settled dest ≡ Some source → carries world.carried copy.dest copy.source dest ≡ source
   had_now dest source e =
@@ -148,7 +149,7 @@ module _ (world : World) (is : IsKept world) (copy : Crosspoint) (rest : List Cr
         | inr apart ↦ carries_there world.carried copy.dest copy.source dest apart ∙ is.had dest source e
       ]
 
-  answered_now : Each (λ one. one ≡ is.present → carries world.carried copy.dest copy.source one.dest ≡ one.source) (is.back ++ copy ∷ [])
+  answered_now : AllByRecursion (λ one. one ≡ is.present → carries world.carried copy.dest copy.source one.dest ≡ one.source) (is.back ++ copy ∷ [])
   answered_now =
       elim (rounds_at is.before is.present is.back copy rest (subst (λ forth. InRounds is.before is.present (is.back ++ forth)) parts is.rounds)) [
         | inl present ↦ each_join Q is.back (copy ∷ []) (each_map (λ one. one ≡ is.present → world.carried one.dest ≡ one.source) Q (λ one _. now present one) is.back is.answered) (now present copy, tt)
@@ -179,8 +180,8 @@ module _ (world : World) (is : IsKept world) (copy : Crosspoint) (rest : List Cr
     to_driver = joined (connected world.driver.level) is.back (copy ∷ []) world.to_driver (connected world.driver.level copy ∷ []) is.to_driver refl;
     rounds = subst (InRounds is.before is.present) moved is.rounds;
     sent = is.sent;
-    over = λ none. subst (Each (IsOver world.driver.progress.settled is.present)) moved (is.over none);
-    agree = subst (Each (Agrees world.driver.progress.settled)) moved is.agree;
+    over = λ none. subst (AllByRecursion (IsOver world.driver.progress.settled is.present)) moved (is.over none);
+    agree = subst (AllByRecursion (Agrees world.driver.progress.settled)) moved is.agree;
     answered = answered_now;
     had = had_now;
   }

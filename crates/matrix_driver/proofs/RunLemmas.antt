@@ -9,7 +9,7 @@ use Rattle.matrix_driver.specs.Levels.{IsLevel}
 use Rattle.matrix_driver.specs.Messages.{connected, is_answer}
 use Rattle.matrix_driver.specs.Progress.{crosspoint_of, next, settled_at}
 use Rattle.matrix_driver.specs.Driver.{made, hears}
-use Rattle.matrix_driver.specs.World.{World, Carried, Step, Wanted, Refused, Overdue, Lost_forth, Lost_back, Taken, Told, new_world, with_back, with_forth, Leads, Runs}
+use Rattle.matrix_driver.specs.World.{World, Carried, Step, Wanted, Refused, Overdue, LostForth, LostBack, Taken, Told, new_world, with_back, with_forth, Leads, Runs}
 use Rattle.matrix_driver.specs.Rounds.{IsKept}
 use Rattle.matrix_driver.specs.Laws.{AlwaysHad}
 use Rattle.matrix_driver.proofs.DriverLemmas.{IsDriver-start}
@@ -76,9 +76,9 @@ pub IsKept-leads : (old new : World) (step : Step) → IsKept old → Leads old 
 IsKept-leads old new (Wanted dest source) is h = subst IsKept (sym h.is) (IsKept-wants old (crosspoint_of dest source) is h.may)
 IsKept-leads old new Refused is h = subst IsKept (sym h.is) (IsKept-repeats old is)
 IsKept-leads old new Overdue is h = subst IsKept (sym h.is) (IsKept-repeats old is)
-IsKept-leads old new Lost_forth is h =
+IsKept-leads old new LostForth is h =
     subst IsKept (sym (h.others ∙ ap (with_forth old) h.one.is)) (IsKept-forth old h.one.before h.one.lost h.one.behind is h.one.was)
-IsKept-leads old new Lost_back is h =
+IsKept-leads old new LostBack is h =
     subst IsKept (sym (h.others ∙ ap (with_back old) h.one.is)) (IsKept-back old h.one.before h.one.lost h.one.behind is h.one.was)
 IsKept-leads old new Taken is h = subst IsKept (sym h.is) (IsKept-taken old h.first h.rest is h.way)
 IsKept-leads old new Told is h = subst IsKept (sym h.is) (IsKept-told old h.first h.rest is h.way)

@@ -77,11 +77,7 @@ abbrev pub wants : Data → Crosspoint → Outcome
 wants driver crosspoint =
     let progress = noted driver.progress crosspoint in
     if is_some driver.outstanding || is_settled driver.progress crosspoint
-    then silent (record {
-      level = driver.level;
-      progress = progress;
-      outstanding = driver.outstanding;
-    })
+    then silent (record driver { progress = progress })
     else sends driver.level progress (Some crosspoint)
 
 -- The outstanding crosspoint was made: its destination is settled at its source, and the connect of the lowest destination

@@ -58,24 +58,14 @@ next progress =
 
 -- a source is wanted of a destination
 abbrev pub noted : Progress → Crosspoint → Progress
-noted progress crosspoint = record {
-  wants = insert progress.wants crosspoint.dest crosspoint.source;
-  settled = progress.settled;
-  room = progress.room;
-}
+noted progress crosspoint =
+    record progress { wants = insert progress.wants crosspoint.dest crosspoint.source }
 
 -- a destination is settled at a source
 abbrev pub settled_at : Progress → Crosspoint → Progress
-settled_at progress crosspoint = record {
-  wants = progress.wants;
-  settled = insert progress.settled crosspoint.dest crosspoint.source;
-  room = progress.room;
-}
+settled_at progress crosspoint =
+    record progress { settled = insert progress.settled crosspoint.dest crosspoint.source }
 
 -- a destination isn't settled
 abbrev pub opened : Progress → ℕ → Progress
-opened progress dest = record {
-  wants = progress.wants;
-  settled = remove progress.settled dest;
-  room = progress.room;
-}
+opened progress dest = record progress { settled = remove progress.settled dest }

@@ -14,17 +14,13 @@
 -- since. And what is left of a round when the next one begins can do no harm: its connect is the one at which its
 -- destination is settled, if it is settled.
 use Rattle.std.specs.Prelude.{◌≡◌, ◌≢◌, ℕ, ◌⊎◌, List, [], ◌∷◌, ◌++◌, map, Option, Some, None}
+use Rattle.std.specs.List.{AllByRecursion}
 use Rattle.std.specs.FinMap.{get}
 use Rattle.number_tables.specs.Table.{Entries}
 use Rattle.matrix_driver.specs.declared.crosspoint.Crosspoint.{Crosspoint}
 use Rattle.matrix_driver.specs.Messages.{connect, connected}
 use Rattle.matrix_driver.specs.DriverInside.{IsDriver}
 use Rattle.matrix_driver.specs.World.{World}
-
--- Each of these is so.
-abbrev pub Each : (Crosspoint → Type 0) → List Crosspoint → Type 0
-Each P [] = Unit {0}
-Each P (copy ∷ copies) = P copy × Each P copies
 
 -- A copy of the round before isn't one of the present round.
 pub record IsOld (before present copy : Crosspoint) : Type 0 where
@@ -36,7 +32,7 @@ abbrev pub InRounds : Crosspoint → Crosspoint → List Crosspoint → Type 0
 InRounds before present [] = Unit {0}
 InRounds before present (copy ∷ copies) =
     (IsOld before present copy × InRounds before present copies)
-    ⊎ ((copy ≡ present) × Each (λ one. one ≡ present) copies)
+    ⊎ ((copy ≡ present) × AllByRecursion (λ one. one ≡ present) copies)
 
 -- Its destination is settled at its source, if it is settled.
 abbrev pub Agrees : Entries (Option ℕ) → Crosspoint → Type 0
@@ -62,10 +58,10 @@ pub record IsKept (world : World) : Type 0 where
   -- the outstanding crosspoint is that of the present round; once it was heard only the present round is left
   pub sent : (copy : Crosspoint) → world.driver.outstanding ≡ Some copy → copy ≡ present
   pub over : world.driver.outstanding ≡ None
-      → Each (IsOver world.driver.progress.settled present) (back ++ forth)
-  pub agree : Each (Agrees world.driver.progress.settled) (back ++ forth)
+      → AllByRecursion (IsOver world.driver.progress.settled present) (back ++ forth)
+  pub agree : AllByRecursion (Agrees world.driver.progress.settled) (back ++ forth)
   -- where an answer of the present round is on the way back, the frame has made its connect and no other one since
-  pub answered : Each
+  pub answered : AllByRecursion
       (λ copy. copy ≡ present → world.carried copy.dest ≡ copy.source) back
   -- what the driver counts as settled, the frame has
   pub had : (dest : ℕ) (source : Option ℕ)

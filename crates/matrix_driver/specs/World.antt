@@ -43,17 +43,14 @@ told_by message = []
 
 -- An event comes to the driver, and its answer is put at the end of the way to the frame.
 abbrev pub comes : World → DriverEvent → World
-comes world event = record {
+comes world event = record world {
   driver = (happens world.driver event).driver;
   to_frame = world.to_frame ++ option_to_list (answer world.driver event);
-  to_driver = world.to_driver;
-  carried = world.carried;
 }
 
 -- The frame takes a message, makes the connect, and tells so at the end of the way back. These stay on the way to it.
 abbrev pub takes : World → Message → List Message → World
-takes world message rest = record {
-  driver = world.driver;
+takes world message rest = record world {
   to_frame = rest;
   to_driver = world.to_driver ++ told_by message;
   carried = made_by world.carried message;
@@ -61,14 +58,7 @@ takes world message rest = record {
 
 -- The driver hears a message. These stay on the way to it.
 abbrev pub hears_of : World → Message → List Message → World
-hears_of world message rest = comes
-    (record {
-      driver = world.driver;
-      to_frame = world.to_frame;
-      to_driver = rest;
-      carried = world.carried;
-    })
-    (Heard message)
+hears_of world message rest = comes (record world { to_driver = rest }) (Heard message)
 
 -- what may happen next
 pub data Step : Type 0 where
@@ -77,8 +67,8 @@ pub data Step : Type 0 where
   Refused : Step
   Overdue : Step
   -- a message is lost, on the way to the frame or on the way back
-  Lost_forth : Step
-  Lost_back : Step
+  LostForth : Step
+  LostBack : Step
   -- the frame takes the first message on the way to it, the driver hears the first one on the way back
   Taken : Step
   Told : Step
@@ -93,20 +83,10 @@ pub record LosesOne (old new : List Message) : Type 0 where
 
 -- the world with other messages on the way to the frame, and on the way back
 abbrev pub with_forth : World → List Message → World
-with_forth world messages = record {
-  driver = world.driver;
-  to_frame = messages;
-  to_driver = world.to_driver;
-  carried = world.carried;
-}
+with_forth world messages = record world { to_frame = messages }
 
 abbrev pub with_back : World → List Message → World
-with_back world messages = record {
-  driver = world.driver;
-  to_frame = world.to_frame;
-  to_driver = messages;
-  carried = world.carried;
-}
+with_back world messages = record world { to_driver = messages }
 
 -- A message is lost on the way to the frame, and on the way back.
 pub record LosesForth (old new : World) : Type 0 where
@@ -141,8 +121,8 @@ abbrev pub Leads : World → Step → World → Type 0
 Leads old (Wanted dest source) new = Comes old (Want dest source) new
 Leads old Refused new = Comes old Nak new
 Leads old Overdue new = Comes old Timeout new
-Leads old Lost_forth new = LosesForth old new
-Leads old Lost_back new = LosesBack old new
+Leads old LostForth new = LosesForth old new
+Leads old LostBack new = LosesBack old new
 Leads old Taken new = IsTaken old new
 Leads old Told new = IsTold old new
 
