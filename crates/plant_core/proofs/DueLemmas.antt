@@ -12,10 +12,15 @@ use Rattle.tally.specs.Touched.{named_by}
 use Rattle.due_displays.specs.Due.{Due, AreDueOf, is_due}
 use Rattle.due_displays.specs.Changed.{BecomeDue, watches}
 use Rattle.due_displays.specs.Watchers.{watch_of}
-use Rattle.plant_core.specs.DueInside.{StayDue, AreWatchersDue, AreTappedDue}
+use Rattle.crosspoint_state.specs.Crosspoints.{Crosspoints}
+use Rattle.plant_core.specs.DueInside.{StayDue, AreWatchersDue, AreTappedDue, FollowValues}
 
 pub stay_self : (plant : PlantData) (due : Due) → AreDueOf plant due → StayDue plant due due
 stay_self plant due are = record { tables = are; stay = λ display below is. is }
+
+-- without displays nothing follows
+pub nobody_follows : (plant : PlantData) (old new : Crosspoints) (due : Due) → length plant.displays ≡ 0 → AreDueOf plant due → FollowValues plant old new due due
+nobody_follows plant old new due none are = record { due = stay_self plant due are; same = λ display below is. absurd (omega (arith, none, below)) }
 
 pub stay_then : (plant : PlantData) (old between new : Due) → StayDue plant old between → StayDue plant between new → StayDue plant old new
 stay_then plant old between new first then = record { tables = then.tables; stay = λ display below is. then.stay display below (first.stay display below is) }

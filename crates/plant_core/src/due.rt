@@ -19,8 +19,30 @@ use tap_lists::Steps;
 
 // The displays are due whose value changes may have moved: those that watch a destination that moved, or one whose source was
 // turned on or off.
-#[inline(never)]
+#[inline]
 pub(crate) fn follow_changes(
+    due: &mut DueDisplays,
+    plant: &Plant,
+    points: &Crosspoints,
+    tallies: &Tallies,
+    changes: &[Change],
+)
+    requires due { AreDueOf plant.now due.old }
+    requires tapped { AreTapsOf plant.now points.now.entries points.now.taps }
+    ensures { (old : carried.Crosspoints)
+        → HaveTurned plant.now old points.now.entries changes.now tallies.now
+        → FollowValues plant.now old points.now.entries due.old due.new }
+{
+    // Short way: without displays nobody watches.
+    if plant.displays().is_empty() {
+        return;
+    }
+    follow_watched(due, plant, points, tallies, changes);
+}
+
+// The same where there are displays.
+#[inline(never)]
+fn follow_watched(
     due: &mut DueDisplays,
     plant: &Plant,
     points: &Crosspoints,

@@ -3,7 +3,7 @@ use Rattle.std.specs.Prelude.{Contains}
 use Rattle.plant_core.specs.DueInside.{StayDue}
 use Rattle.plant_core.proofs.DueLemmas.{stay_then, watchers_stay, tapped_stay}
 use Rattle.plant_core.proofs.TurnLemmas.{values_followed}
-use Rattle.plant_core.proofs.due.follow_changes.Goals as goal
+use Rattle.plant_core.proofs.due.follow_watched.Goals as goal
 
 pub returns : goal.returns
 returns c old turned =
