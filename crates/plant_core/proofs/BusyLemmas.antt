@@ -1,12 +1,15 @@
 -- Of a list of changes those that aren't idle are all that matter.
-use Rattle.std.proofs.Common.{◌≡◌, ℕ, ◌+◌, ◌<◌, Bool, true, false, not, cond, List, [], ◌∷◌, ◌++◌, filter, length, get_or, drop, suc, refl, sym, ap, ◌∙◌, add-one, append_assoc, append-nil, drop-cons}
+use Rattle.std.proofs.Common.{◌≡◌, All, ℕ, ◌+◌, ◌<◌, Bool, true, false, not, cond, List, [], ◌∷◌, ◌++◌, filter, length, get_or, drop, suc, refl, sym, ap, ◌∙◌, add-one, append_assoc, append-nil, drop-cons}
 use Rattle.std.proofs.lemmas.List.Elements.{filter_passes}
 use Rattle.plant_config.specs.Plant.{PlantData}
 use Rattle.plant_config.specs.declared.records.Change.{Change}
 use Rattle.plant_config.proofs.Groups.{filter_all}
-use Rattle.crosspoint_state.specs.Crosspoints.{Crosspoints, is_idle}
+use Rattle.crosspoint_state.specs.Crosspoints.{Crosspoints, is_idle, NamesOnce}
 use Rattle.crosspoint_state.specs.Applied.{applied, released, all_given}
+use Rattle.crosspoint_state.proofs.ChangeLists.{NamesOnce-filter}
+use Rattle.tally.specs.Update.{AreMoves}
 use Rattle.plant_core.specs.StateInside.{busy_of}
+use Rattle.plant_core.proofs.Changes.{moves-applied}
 
 -- an idle change isn't put into a list
 pub busy_idle : (points : Crosspoints) (before : List Change) (change : Change) → is_idle points change ≡ true → before ≡ before ++ busy_of points (change ∷ [])
@@ -32,3 +35,16 @@ busy_more points before all changes index change within is was =
 pub applied_busy : (plant : PlantData) (points : Crosspoints) (changes : List Change) → applied plant points changes ≡ applied plant points (busy_of points changes)
 applied_busy plant points changes =
     sym (ap (λ busy. all_given plant (released points busy) busy) (filter_all (λ change. not (is_idle points change)) (busy_of points changes) (filter_passes (λ change. not (is_idle points change)) changes)))
+
+-- none of them is idle
+pub busy_all : (points : Crosspoints) (changes : List Change) → All (λ change. is_idle points change ≡ false) (busy_of points changes)
+busy_all points changes k d below = by (is_idle points (get_or (busy_of points changes) k d)) (filter_passes (λ change. not (is_idle points change)) changes k d below)
+  where
+    by : (b : Bool) → not b ≡ true → b ≡ false
+    by true is = cc
+    by false is = refl
+
+-- those of a list that are no idle changes move what they name
+pub busy_moves : (plant : PlantData) (old new : Crosspoints) (changes : List Change) → NamesOnce changes → new ≡ applied plant old changes → AreMoves old new (busy_of old changes)
+busy_moves plant old new changes once made =
+    moves-applied plant old new (busy_of old changes) (NamesOnce-filter (λ change. not (is_idle old change)) changes once) (busy_all old changes) (made ∙ applied_busy plant old changes)

@@ -18,7 +18,9 @@ use Rattle.std.proofs.lemmas.Map.Keys.{IsDistinct-cons}
 use Rattle.crosspoint_state.proofs.ChangeLists.{names, find-unnamed, NamesOnce-nil}
 use Rattle.crosspoint_state.proofs.AppliedLemmas.{gone, get-released, get-all_given, is_busy}
 use Rattle.crosspoint_state.proofs.LawLemmas.{ChangesAreMade-applied}
-use Rattle.tally.specs.Update.{MovedOnly}
+use Rattle.tally.specs.Moved.{has_moved}
+use Rattle.tally.specs.Update.{MovedOnly, AreMoves}
+use Rattle.tally.proofs.MovedLemmas.{each_named}
 use Rattle.protects.specs.Owners.{Owners, allows, IsForeign}
 use Rattle.plant_core.specs.Connects.{are_permitted}
 use Rattle.plant_core.specs.Salvos.{moved}
@@ -122,6 +124,10 @@ applied-idle plant crosspoints change idle =
 pub once-one : (change : Change) → NamesOnce (change ∷ [])
 once-one change = IsDistinct-cons nat_eq change.dest [] tt NamesOnce-nil
 
+-- none of it is idle where its change isn't
+pub busy-one : (crosspoints : Crosspoints) (change : Change) → is_idle crosspoints change ≡ false → All (λ change. is_idle crosspoints change ≡ false) (change ∷ [])
+busy-one crosspoints change busy = All-cons (λ (c : Change). is_idle crosspoints c ≡ false) change [] busy (All-nil (λ (c : Change). is_idle crosspoints c ≡ false))
+
 -- and is inside the plant where its destination is
 pub inside-one : (plant : PlantData) (change : Change) → change.dest < destinations_of plant → AreInside plant (change ∷ [])
 inside-one plant change within = All-cons (λ (c : Change). c.dest < destinations_of plant) change [] within (All-nil (λ (c : Change). c.dest < destinations_of plant))
@@ -220,3 +226,17 @@ moved-applied plant old new changes made dest unnamed =
   where
     dest_of : Change → ℕ
     dest_of change = change.dest
+
+-- where none of the changes is idle, each moves what it names
+pub moves-applied : (plant : PlantData) (old new : Crosspoints) (changes : List Change) → NamesOnce changes → All (λ change. is_idle old change ≡ false) changes → new ≡ applied plant old changes → AreMoves old new changes
+moves-applied plant old new changes once busy made = record {
+  only = moved-applied plant old new changes made;
+  each = each_named (λ dest. has_moved old new dest ≡ true) changes moves;
+  once = once;
+}
+  where
+    moves : All (λ (change : Change). has_moved old new change.dest ≡ true) changes
+    moves k d below =
+        let change : Change = get_or changes k d in
+        let carries : source_of new change.dest ≡ change.source = ap (λ points. source_of points change.dest) made ∙ source_of-applied plant old changes once k d below in
+        ap (λ source. not (option_eq nat_eq (source_of old change.dest) source)) carries ∙ ap not (busy k d below)

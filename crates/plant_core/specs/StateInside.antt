@@ -11,7 +11,7 @@ use Rattle.change_boards.specs.Board.{Board}
 use Rattle.change_boards.specs.Screens.{AreScreensOf}
 use Rattle.change_boards.specs.Shown.{Shown}
 use Rattle.mixer_effects.specs.Wiring.{IsWiringOf}
-use Rattle.tally.specs.Update.{MovedOnly}
+use Rattle.tally.specs.Update.{AreMoves}
 use Rattle.tally.specs.Kept.{IsKeptFor}
 use Rattle.plant_core.specs.declared.tables.Tables.{Tables}
 use Rattle.plant_core.specs.declared.tallies.Tallies.{Tallies}
@@ -41,12 +41,12 @@ pub record AreTalliesOf (plant : PlantData) (crosspoints : Crosspoints) (tallies
   pub air : IsKeptFor plant crosspoints plant.air tallies.air
   pub preview : IsKeptFor plant crosspoints plant.preview tallies.preview
 
--- Tallies were those of what stood, and since then only what changes name has moved.
+-- Tallies were those of what stood, and since then these changes have moved what they name, and nothing else has moved.
 pub record WereTallies (plant : PlantData) (crosspoints : Crosspoints) (changes : List Change)
     (tallies : Tallies) : Type 0 where
   pub old : Crosspoints
   pub before : AreTalliesOf plant old tallies
-  pub moved : MovedOnly old crosspoints changes
+  pub moved : AreMoves old crosspoints changes
 
 -- Tables are those of a plant and its crosspoints: the counts of its ties, the tables of its mixers, its tallies, and the
 -- displays of its screens.

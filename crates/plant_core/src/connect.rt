@@ -125,9 +125,10 @@ impl PlantState {
         self.give_notice(asker, change.dest, Sort::Source);
     }
 
-    // Makes a change for which the ties are enough, as a list of one.
+    // Makes a change that isn't idle and for which the ties are enough, as a list of one.
     fn apply(&mut self, change: &Change, planned: Planned)
         requires change { IsChangeOf self.old.plant change.now }
+        requires busy { is_idle self.old.crosspoints change.now ≡ false }
         requires enough { are_enough self.old.plant self.old.crosspoints
             (change.now ∷ []) ≡ true }
         ensures { self.new ≡ record self.old {

@@ -1,9 +1,9 @@
 //! What is kept beside the state of a plant, so that nothing is looked for in it.
 
-ghost use Rattle.std.specs.Prelude.{◌≡◌, ◌<◌, ℕ, true, All, IfOk, length};
+ghost use Rattle.std.specs.Prelude.{◌≡◌, ◌<◌, ℕ, true, false, All, IfOk, length};
 ghost use Rattle.std.specs.FinMap.{empty};
 ghost use Rattle.plant_config.specs.IsPlant.{IsPlant};
-ghost use Rattle.crosspoint_state.specs.Crosspoints.{NamesOnce};
+ghost use Rattle.crosspoint_state.specs.Crosspoints.{NamesOnce, is_idle};
 ghost use Rattle.crosspoint_state.specs.Taps.{ArePointsOf};
 ghost use Rattle.crosspoint_state.specs.Ties.{HaveValidTies};
 ghost use Rattle.crosspoint_state.specs.Applied.{applied, are_enough};
@@ -79,7 +79,7 @@ impl Tables {
         })
     }
 
-    // Makes changes for which the ties are enough, and follows them in the tallies.
+    // Makes changes for which the ties are enough, none of them idle, and follows them in the tallies.
     #[inline(always)]
     pub(crate) fn make(
         &mut self,
@@ -94,6 +94,7 @@ impl Tables {
         requires ties { HaveValidTies plant.now points.old.entries }
         requires tables { AreTablesOf plant.now points.old.entries self.old }
         requires changes { All (IsChangeOf plant.now) changes.now }
+        requires busy { All (λ change. is_idle points.old.entries change ≡ false) changes.now }
         requires once { NamesOnce changes.now }
         requires enough { are_enough plant.now points.old.entries changes.now ≡ true }
         ensures made { points.new.entries ≡ applied plant.now points.old.entries changes.now }

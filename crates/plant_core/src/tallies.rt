@@ -9,7 +9,7 @@ ghost use Rattle.crosspoint_state.specs.Taps.{AreTapsOf};
 ghost use Rattle.mixer_effects.specs.Wiring.{IsWiringOf};
 ghost use Rattle.tally.specs.Tally.{roots_of};
 ghost use Rattle.tally.specs.Kept.{IsKeptFor};
-ghost use Rattle.tally.specs.Update.{MovedOnly};
+ghost use Rattle.tally.specs.Update.{AreMoves};
 ghost use Rattle.plant_core.specs.StateInside.{AreTalliesOf, WereTallies};
 ghost use Rattle.plant_core.specs.DueInside.{HaveTurned};
 
@@ -55,7 +55,7 @@ impl Tallies {
         requires before { WereTallies plant.now points.now.entries changes.now self.old }
         ensures kept { AreTalliesOf plant.now points.now.entries self.new }
         ensures turned { (old : carried.Crosspoints) → AreTalliesOf plant.now old self.old
-            → MovedOnly old points.now.entries changes.now
+            → AreMoves old points.now.entries changes.now
             → HaveTurned plant.now old points.now.entries changes.now self.new }
     {
         self.follow_counted::<Brand>(plant, mixers, points, changes, Blank::new(1));
@@ -80,7 +80,7 @@ impl Tallies {
         requires before { WereTallies plant.now points.now.entries changes.now self.old }
         ensures kept { AreTalliesOf plant.now points.now.entries self.new }
         ensures turned { (old : carried.Crosspoints) → AreTalliesOf plant.now old self.old
-            → MovedOnly old points.now.entries changes.now
+            → AreMoves old points.now.entries changes.now
             → HaveTurned plant.now old points.now.entries changes.now self.new }
     {
         let (book, share) = blank.open::<L>();

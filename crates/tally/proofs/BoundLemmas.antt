@@ -27,15 +27,16 @@ use Rattle.tally.specs.Relit.{AreRelit}
 use Rattle.tally.specs.Touched.{touched_by}
 use Rattle.tally.specs.Update.{IsMove}
 use Rattle.tally.specs.Doubt.{is_doubtful, is_device_on, is_affected}
-use Rattle.tally.specs.Reads.{lost_by}
+use Rattle.tally.specs.Moved.{lost_between}
 use Rattle.tally.specs.Weight.{weigh, device_weight}
 use Rattle.tally.proofs.DeviceLemmas.{fed_is, fed_found}
 use Rattle.tally.proofs.LitLemmas.{lit_under}
 use Rattle.tally.proofs.LiveLemmas.{bus_found}
 use Rattle.tally.proofs.Searches.{any_stands}
-use Rattle.tally.proofs.ListLemmas.{was_kept, is_kept, bus_among}
+use Rattle.tally.proofs.ListLemmas.{was_kept, bus_among}
 use Rattle.tally.proofs.FedLemmas.{output_there, feeds_marked, is_fed}
 use Rattle.tally.proofs.KeptLemmas.{marks_say}
+use Rattle.tally.proofs.MovedLemmas.{lost_lost}
 use Rattle.tally.proofs.SettleLemmas.{none_has, through}
 use Rattle.tally.proofs.WeightLemmas.{weigh_parts, weigh_within}
 
@@ -66,15 +67,15 @@ on_live plant is old roots place bus at lived no_root =
 
 module _ (plant : PlantData) (is : IsPlant plant) (old new : Crosspoints) (roots : List ℕ) (set : Origins) (changes : List Change) (a b c : Marks) (idle sure one two all : Origins) (move : IsMove plant old new roots set changes a) (no_wait : idle ≡ empty) (no_doubt : sure ≡ empty) (lost : AreLost plant (touched_by plant changes) a b idle one sure) (spread : HasSpread plant set b c one two all) (gone : two ≡ empty) where
   abbrev among : ℕ → Bool
-  among = is_live plant old (lost_by plant old roots changes)
+  among = is_live plant old (lost_between plant old new roots)
 
-  reached : LiveIsLeast plant old (lost_by plant old roots changes)
-  reached = live_is_least plant old (lost_by plant old roots changes)
+  reached : LiveIsLeast plant old (lost_between plant old new roots)
+  reached = live_is_least plant old (lost_between plant old new roots)
 
   lost_lives : (dest : ℕ) → Contains (touched_by plant changes) dest → contains a.live dest ≡ true → among dest ≡ true
   lost_lives dest touched marked =
-      let list = lost_by plant old roots changes in
-      let has = is_kept (is_live plant old roots) (touched_by plant changes) dest touched (move.settled.sound dest marked) in
+      let list = lost_between plant old new roots in
+      let has = lost_lost plant old new roots changes move.moved dest touched (move.settled.sound dest marked) in
       subst (λ d. is_live plant old list d ≡ true) has.2 (reached.closed.has_roots has.0 (get_or list has.0 dest) (slice_get-get_or list has.0 dest has.1))
 
   first_feeds : (device : ℕ) → contains one device ≡ true → FeedsAmong plant old among device
@@ -94,17 +95,17 @@ module _ (plant : PlantData) (is : IsPlant plant) (old new : Crosspoints) (roots
       (reached.closed.has_buses found.place feeds.dest found.bus found.at (on_live plant is old roots found.place found.bus found.at lived no_root) feeds.among
       (subst (λ d. is_fed_by plant old d feeds.dest ≡ true) (sym (eqb-true found.bus.device device found.passes)) (feeder_feeds plant old device feeds.dest feeds.fed)))
 
-  doubtful : (device : ℕ) → contains all device ≡ true → is_doubtful plant old (lost_by plant old roots changes) device ≡ true
+  doubtful : (device : ℕ) → contains all device ≡ true → is_doubtful plant old (lost_between plant old new roots) device ≡ true
   doubtful device doubt =
-      let list = live plant old (lost_by plant old roots changes) in
+      let list = live plant old (lost_between plant old new roots) in
       let feeds = spread.come old among (lost.kept old move.settled.kept) behind first_feeds device (or_right (contains two device) (contains all device) doubt) in
       let found = any_place (λ other. other == feeds.dest) list feeds.among in
       any_passes_from_place (is_fed_by plant old device) list found.0 found.1 found.2
       (subst (λ d. is_fed_by plant old device d ≡ true) (sym (eqb-true found.1 feeds.dest found.3)) (feeder_feeds plant old device feeds.dest feeds.fed))
 
-  affected_doubt : (device : ℕ) → contains all device ≡ true → is_affected plant old new roots (lost_by plant old roots changes) device ≡ true
+  affected_doubt : (device : ℕ) → contains all device ≡ true → is_affected plant old new roots device ≡ true
   affected_doubt device doubt =
-      or_left (is_doubtful plant old (lost_by plant old roots changes) device) (is_device_on plant new roots device && not (is_device_on plant old roots device)) (doubtful device doubt)
+      or_left (is_doubtful plant old (lost_between plant old new roots) device) (is_device_on plant new roots device && not (is_device_on plant old roots device)) (doubtful device doubt)
 
   -- a device that was fed and isn't is in doubt
   once_fed : (device : ℕ) → device < length plant.devices → contains a.fed device ≡ true → contains c.fed device ≡ false → contains all device ≡ true
@@ -124,21 +125,21 @@ module _ (plant : PlantData) (is : IsPlant plant) (old new : Crosspoints) (roots
             | inr here ↦ here
           ]
 
-  affected_fed : (e : Marks) → AreSettled plant new roots e → (device : ℕ) → device < length plant.devices → contains e.fed device ≡ true → contains c.fed device ≡ false → is_affected plant old new roots (lost_by plant old roots changes) device ≡ true
+  affected_fed : (e : Marks) → AreSettled plant new roots e → (device : ℕ) → device < length plant.devices → contains e.fed device ≡ true → contains c.fed device ≡ false → is_affected plant old new roots device ≡ true
   affected_fed e settled device below fed unfed =
       let out = output_there plant device below in
       let now : is_device_on plant new roots device ≡ true = ap (λ (found : Option ℕ). option_map_or (is_origin_seen plant new roots) found false) out.is ∙ sym ((marks_say plant new roots e settled).seen out.output) ∙ sym (settled.kept.fed device out.output out.is) ∙ fed in
       let was : contains a.fed device ≡ is_device_on plant old roots device = move.settled.kept.fed device out.output out.is ∙ (marks_say plant old roots a move.settled).seen out.output ∙ sym (ap (λ (found : Option ℕ). option_map_or (is_origin_seen plant old roots) found false) out.is) in
       by now was (is_device_on plant old roots device) refl
     where
-      by : is_device_on plant new roots device ≡ true → contains a.fed device ≡ is_device_on plant old roots device → (b : Bool) → is_device_on plant old roots device ≡ b → is_affected plant old new roots (lost_by plant old roots changes) device ≡ true
+      by : is_device_on plant new roots device ≡ true → contains a.fed device ≡ is_device_on plant old roots device → (b : Bool) → is_device_on plant old roots device ≡ b → is_affected plant old new roots device ≡ true
       by now was true on = affected_doubt device (once_fed device below (was ∙ on) unfed)
       by now was false off =
-          or_right (is_doubtful plant old (lost_by plant old roots changes) device) (is_device_on plant new roots device && not (is_device_on plant old roots device))
+          or_right (is_doubtful plant old (lost_between plant old new roots) device) (is_device_on plant new roots device && not (is_device_on plant old roots device))
           (and_from (is_device_on plant new roots device) (not (is_device_on plant old roots device)) now (ap not off))
 
   module _ (d e : Marks) (done last : Origins) (relit : AreRelit plant new set (touched_by plant changes) c d all done) (waited : AreRelit plant new set [] d e done last) (settled : AreSettled plant new roots e) where
-    newly : (device : ℕ) → (contains e.fed device && not (contains c.fed device)) ≡ true → is_affected plant old new roots (lost_by plant old roots changes) device ≡ true
+    newly : (device : ℕ) → (contains e.fed device && not (contains c.fed device)) ≡ true → is_affected plant old new roots device ≡ true
     newly device fed = by (waited.fed.within device parts.0)
       where
         parts : (contains e.fed device ≡ true) × (not (contains c.fed device) ≡ true)
@@ -147,20 +148,20 @@ module _ (plant : PlantData) (is : IsPlant plant) (old new : Crosspoints) (roots
         unfed : contains c.fed device ≡ false
         unfed = not_true (contains c.fed device) parts.1
 
-        first : (contains c.fed device ≡ true) ⊎ (device < length plant.devices) → is_affected plant old new roots (lost_by plant old roots changes) device ≡ true
+        first : (contains c.fed device ≡ true) ⊎ (device < length plant.devices) → is_affected plant old new roots device ≡ true
         first (inl was) = absurd (both_ways (contains c.fed device) unfed was)
         first (inr below) = affected_fed e settled device below parts.0 unfed
 
-        by : (contains d.fed device ≡ true) ⊎ (device < length plant.devices) → is_affected plant old new roots (lost_by plant old roots changes) device ≡ true
+        by : (contains d.fed device ≡ true) ⊎ (device < length plant.devices) → is_affected plant old new roots device ≡ true
         by (inl was) = first (relit.fed.within device was)
         by (inr below) = affected_fed e settled device below parts.0 unfed
 
-    pub doubt_weighs : weigh (device_weight plant) (contains all) ≤ weigh (device_weight plant) (is_affected plant old new roots (lost_by plant old roots changes))
-    doubt_weighs = weigh_within (device_weight plant) (contains all) (is_affected plant old new roots (lost_by plant old roots changes)) affected_doubt
+    pub doubt_weighs : weigh (device_weight plant) (contains all) ≤ weigh (device_weight plant) (is_affected plant old new roots)
+    doubt_weighs = weigh_within (device_weight plant) (contains all) (is_affected plant old new roots) affected_doubt
 
-    pub relit_weighs : weigh (device_weight plant) (contains done) + weigh (device_weight plant) (contains e.fed) ≤ 2 * weigh (device_weight plant) (is_affected plant old new roots (lost_by plant old roots changes)) + weigh (device_weight plant) (contains d.fed)
+    pub relit_weighs : weigh (device_weight plant) (contains done) + weigh (device_weight plant) (contains e.fed) ≤ 2 * weigh (device_weight plant) (is_affected plant old new roots) + weigh (device_weight plant) (contains d.fed)
     relit_weighs =
         let w = device_weight plant in
         let parts = weigh_parts w (contains c.fed) (contains e.fed) (λ device was. waited.fed.more device (relit.fed.more device was)) in
-        let few = weigh_within w (λ device. contains e.fed device && not (contains c.fed device)) (is_affected plant old new roots (lost_by plant old roots changes)) newly in
+        let few = weigh_within w (λ device. contains e.fed device && not (contains c.fed device)) (is_affected plant old new roots) newly in
         omega (arith, parts, few, relit.fed.work w, doubt_weighs)

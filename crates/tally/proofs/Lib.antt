@@ -19,6 +19,6 @@ pub mod LightLemmas
 pub mod DrainLemmas
 pub mod KeptLemmas
 pub mod StartLemmas
-pub mod BoundLemmas
 pub mod MovedLemmas
+pub mod BoundLemmas
 pub mod RootlessLemmas

@@ -1,9 +1,9 @@
--- What changes name, where each has moved it, is what moved; and how the bounds on reads go together.
-use Rattle.std.proofs.Common.{◌≡◌, ◌⊎◌, ℕ, ◌<◌, ◌≤◌, ◌==◌, nat_eq, Bool, true, false, not, ◌&&◌, List, [], ◌∷◌, length, map, get_or, slice_get, Option, Some, None, suc, inl, inr, refl, sym, ap, subst, arith, eq-eqb, eqb-true, length-append}
-use Rattle.std.proofs.lemmas.Bool.{or_cases, or_left, or_right, and_from, ne_eqb, eqb-false}
+-- What moves name is what moved, and what they touch is no more than the bound on reads says.
+use Rattle.std.proofs.Common.{◌≡◌, ◌⊎◌, ℕ, ◌<◌, ◌≤◌, ◌==◌, nat_eq, Bool, true, false, not, ◌&&◌, List, [], ◌∷◌, length, map, slice_get, Option, Some, None, suc, inl, inr, refl, sym, ap, subst, arith, eq-eqb, eqb-true, length-append}
+use Rattle.std.proofs.lemmas.Bool.{or_left, or_right, and_from, ne_eqb, eqb-false}
 use Rattle.std.proofs.lemmas.List.Elements.{Contains-append_cases, Contains-append_right}
 use Rattle.std.proofs.lemmas.Map.Keys.{any_passes_from_place, IsDistinct-head, IsDistinct-tail}
-use Rattle.std.proofs.lemmas.Option.{slice_get-get_or, slice_get_within, get_or_from_slice_get}
+use Rattle.std.proofs.lemmas.Option.{slice_get_within, get_or_from_slice_get}
 use Rattle.std.specs.List.{All, Contains, AllByRecursion, list_any}
 use Rattle.std.specs.Option.{option_eq, option_map_or}
 use Rattle.plant_config.specs.declared.records.Bus.{Bus}
@@ -11,17 +11,16 @@ use Rattle.plant_config.specs.declared.records.Change.{Change}
 use Rattle.plant_config.specs.Plant.{PlantData, destinations_of}
 use Rattle.crosspoint_state.specs.Crosspoints.{Crosspoints, NamesOnce}
 use Rattle.mixer_effects.specs.Buses.{switched_at, buses_at}
-use Rattle.mixer_effects.specs.Live.{is_fed_by, live, is_live}
-use Rattle.mixer_effects.specs.Laws.{AreClosed, LiveIsLeast}
-use Rattle.mixer_effects.proofs.LiveLemmas.{live_is_least}
+use Rattle.mixer_effects.specs.Live.{live, is_live}
 use Rattle.mixer_effects.proofs.AnyLemmas.{any_place}
 use Rattle.tally.specs.Touched.{named_by, with_switched, touched_by}
-use Rattle.tally.specs.Moved.{has_moved, has_switch_moved, is_disturbed, lost_between, AreMoves}
-use Rattle.tally.specs.Doubt.{is_doubtful, is_device_on, is_affected}
-use Rattle.tally.specs.Reads.{lost_by, named_bound, is_moved_by, read_bound, ReadsAreFew}
-use Rattle.tally.specs.Weight.{weights, device_weight}
-use Rattle.tally.proofs.ListLemmas.{first_or_behind, was_kept, is_kept, bus_among}
-use Rattle.tally.proofs.WeightLemmas.{weights_one, weigh_plus, weigh_within}
+use Rattle.tally.specs.Moved.{has_moved, has_switch_moved, is_disturbed, lost_between}
+use Rattle.tally.specs.Update.{AreMoves}
+use Rattle.tally.specs.Doubt.{is_affected}
+use Rattle.tally.specs.Reads.{moved_and_switched, ReadsAreFew}
+use Rattle.tally.specs.Weight.{weights}
+use Rattle.tally.proofs.ListLemmas.{first_or_behind, is_kept, bus_among}
+use Rattle.tally.proofs.WeightLemmas.{weights_one, weigh_plus}
 
 -- an element that stands in a list is one of its own
 stands_among : (xs : List ℕ) (place x : ℕ) → slice_get xs place ≡ Some x → Contains xs x
@@ -48,7 +47,7 @@ each_named P (change ∷ changes) all dest has =
 -- the law: the bound is within the counts
 pub reads_few : (plant : PlantData) (old new : Crosspoints) (roots : List ℕ) → ReadsAreFew plant old new roots
 reads_few plant old new roots =
-    let parts = weigh_plus (λ device. length (buses_at plant device)) (is_moved_by plant old new roots) in
+    let parts = weigh_plus (λ device. length (buses_at plant device)) (is_affected plant old new roots) in
     omega (arith, parts)
 
 -- what changes name weighs no more than what passes a test that all of it does
@@ -106,47 +105,13 @@ module _ (plant : PlantData) (old new : Crosspoints) (roots : List ℕ) where
       first (inr switched) = switched_disturbed change.dest dest (each change.dest (0, omega arith, refl)) switched
 
   module _ (changes : List Change) (moves : AreMoves old new changes) where
-    -- what is lost by the changes is lost between
-    lost_lost : (dest : ℕ) → Contains (lost_by plant old roots changes) dest → Contains (lost_between plant old new roots) dest
-    lost_lost dest has =
-        let lost = was_kept (is_live plant old roots) (touched_by plant changes) dest has in
-        let found = any_place (λ other. other == dest) (live plant old roots) lost.1 in
+    -- what was live and is touched is lost
+    pub lost_lost : (dest : ℕ) → Contains (touched_by plant changes) dest → is_live plant old roots dest ≡ true → Contains (lost_between plant old new roots) dest
+    lost_lost dest touched lived =
+        let found = any_place (λ other. other == dest) (live plant old roots) lived in
         let among : Contains (live plant old roots) dest = subst (λ dest. Contains (live plant old roots) dest) (eqb-true found.1 dest found.3) (stands_among (live plant old roots) found.0 found.1 found.2) in
-        is_kept (is_disturbed plant old new) (live plant old roots) dest among (touched_disturbed changes moves.each dest lost.0)
+        is_kept (is_disturbed plant old new) (live plant old roots) dest among (touched_disturbed changes moves.each dest touched)
 
-    reached : LiveIsLeast plant old (lost_between plant old new roots)
-    reached = live_is_least plant old (lost_between plant old new roots)
-
-    closed : AreClosed plant old (lost_by plant old roots changes) (is_live plant old (lost_between plant old new roots))
-    closed = record {
-      has_roots = λ place root at.
-          let list = lost_between plant old new roots in
-          let has = lost_lost root (stands_among (lost_by plant old roots changes) place root at) in
-          subst (λ d. is_live plant old list d ≡ true) has.2 (reached.closed.has_roots has.0 (get_or list has.0 root) (slice_get-get_or list has.0 root has.1));
-      has_buses = reached.closed.has_buses;
-    }
-
-    doubtful_moved : (device : ℕ) → is_doubtful plant old (lost_by plant old roots changes) device ≡ true → is_doubtful plant old (lost_between plant old new roots) device ≡ true
-    doubtful_moved device doubt =
-        let less = live plant old (lost_by plant old roots changes) in
-        let more = live plant old (lost_between plant old new roots) in
-        let found = any_place (is_fed_by plant old device) less doubt in
-        let lives = any_passes_from_place (λ other. other == found.1) less found.0 found.1 found.2 (eq-eqb found.1 found.1 refl) in
-        let there = any_place (λ other. other == found.1) more ((live_is_least plant old (lost_by plant old roots changes)).least (is_live plant old (lost_between plant old new roots)) closed found.1 lives) in
-        any_passes_from_place (is_fed_by plant old device) more there.0 there.1 there.2
-        (subst (λ dest. is_fed_by plant old device dest ≡ true) (sym (eqb-true there.1 found.1 there.3)) found.3)
-
-    affected_moved : (device : ℕ) → is_affected plant old new roots (lost_by plant old roots changes) device ≡ true → is_moved_by plant old new roots device ≡ true
-    affected_moved device affected =
-        let newly = is_device_on plant new roots device && not (is_device_on plant old roots device) in
-        elim (or_cases (is_doubtful plant old (lost_by plant old roots changes) device) newly affected) [
-          | inl doubt ↦ or_left (is_doubtful plant old (lost_between plant old new roots) device) newly (doubtful_moved device doubt)
-          | inr on ↦ or_right (is_doubtful plant old (lost_between plant old new roots) device) newly on
-        ]
-
-    -- the bound by what changes name is within the one by what moved
-    pub named_within : ((dest : ℕ) → Contains (named_by changes) dest → dest < destinations_of plant) → named_bound plant old new roots changes ≤ read_bound plant old new roots
-    named_within below =
-        let devices = weigh_within (device_weight plant) (is_affected plant old new roots (lost_by plant old roots changes)) (is_moved_by plant old new roots) affected_moved in
-        let touched = touched_weigh plant (destinations_of plant) changes (has_moved old new) moves.once (λ dest has. (below dest has, moves.each dest has)) in
-        omega (arith, devices, touched)
+    -- what changes touch is no more than what moved and what that switches
+    pub touched_moved : ((dest : ℕ) → Contains (named_by changes) dest → dest < destinations_of plant) → length (touched_by plant changes) ≤ moved_and_switched plant old new
+    touched_moved below = touched_weigh plant (destinations_of plant) changes (has_moved old new) moves.once (λ dest has. (below dest has, moves.each dest has))

@@ -92,11 +92,11 @@ module _ (plant : PlantData) (is : IsPlant plant) (old new : Crosspoints) (roots
   -- what isn't touched stands, and its switch does
   module _ (dest : ℕ) (free : Contains (touched_by plant changes) dest → ⊥) where
     stands : get new dest ≡ get old dest
-    stands = move.moved dest (λ named. free (named_touched plant changes dest dest named (itself plant dest)))
+    stands = move.moved.only dest (λ named. free (named_touched plant changes dest dest named (itself plant dest)))
 
     switch_stands : (place : ℕ) (bus : Bus) → slice_get plant.buses place ≡ Some bus → bus.dest ≡ dest → (switch : ℕ) → bus.switch ≡ Some switch → get new switch ≡ get old switch
     switch_stands place bus at here switch switched =
-        move.moved switch (λ named.
+        move.moved.only switch (λ named.
         free (named_touched plant changes switch dest named
         (Contains-append_right (switch ∷ []) (switched_at plant switch) dest
         (subst (λ d. Contains (switched_at plant switch) d) here (is_switched plant place bus switch at switched)))))

@@ -12,7 +12,7 @@ use Rattle.tally.specs.Tally.{Origins}
 use Rattle.tally.specs.Marks.{Marks, marks_code}
 use Rattle.tally.specs.MarkLaws.{AreSettled}
 use Rattle.tally.specs.Lost.{AreRoots}
-use Rattle.tally.specs.Update.{MovedOnly}
+use Rattle.tally.specs.Update.{AreMoves}
 
 -- The marks, the roots, two sets of devices for the time of an update, and the local sources that the last update turned on
 -- or off, for so many of which there is room.
@@ -54,11 +54,11 @@ pub record IsKeptFor (plant : PlantData) (points : Crosspoints) (roots : List �
   pub sure : kept.doubted ≡ empty
   pub many : sources_of plant ≤ kept.room
 
--- A tally was kept for what stood, and since then only what changes name has moved.
+-- A tally was kept for what stood, and since then these changes have moved what they name, and nothing else has moved.
 pub record IsUpdate (plant : PlantData) (old new : Crosspoints) (roots : List ℕ)
     (changes : List Change) (kept : Kept) : Type 0 where
   pub before : IsKeptFor plant old roots kept
-  pub moved : MovedOnly old new changes
+  pub moved : AreMoves old new changes
 
 -- These are the local sources that are seen now and weren't, or were seen and aren't, each once, in the order of their
 -- numbers.

@@ -8,8 +8,8 @@ pub mod Touched
 pub mod Lost
 pub mod Weight
 pub mod Relit
+pub mod Moved
 pub mod Update
 pub mod Kept
-pub mod Moved
 pub mod Doubt
 pub mod Reads

@@ -1,13 +1,11 @@
 -- What moved between what stood and what stands, whoever names it.
-use Rattle.std.specs.Prelude.{◌≡◌, ℕ, nat_eq, ◌==◌, Bool, true, false, not, ◌&&◌, ◌||◌, List, Contains, filter}
+use Rattle.std.specs.Prelude.{ℕ, nat_eq, ◌==◌, Bool, false, not, ◌&&◌, ◌||◌, List, filter}
 use Rattle.std.specs.List.{list_any}
 use Rattle.std.specs.Option.{option_map_or, option_eq}
 use Rattle.plant_config.specs.declared.records.Bus.{Bus}
-use Rattle.plant_config.specs.declared.records.Change.{Change}
 use Rattle.plant_config.specs.Plant.{PlantData}
-use Rattle.crosspoint_state.specs.Crosspoints.{Crosspoints, source_of, NamesOnce}
+use Rattle.crosspoint_state.specs.Crosspoints.{Crosspoints, source_of}
 use Rattle.mixer_effects.specs.Live.{live}
-use Rattle.tally.specs.Touched.{named_by}
 
 -- whether a destination carries another source than it did, or was parked, or is
 abbrev pub has_moved : Crosspoints → Crosspoints → ℕ → Bool
@@ -25,8 +23,3 @@ is_disturbed plant old new dest = has_moved old new dest
 -- the destinations that were live, and that moved or are buses whose switch did
 abbrev pub lost_between : PlantData → Crosspoints → Crosspoints → List ℕ → List ℕ
 lost_between plant old new roots = filter (is_disturbed plant old new) (live plant old roots)
-
--- Each destination that changes name has moved, and none is named twice.
-pub record AreMoves (old new : Crosspoints) (changes : List Change) : Type 0 where
-  pub each : (dest : ℕ) → Contains (named_by changes) dest → has_moved old new dest ≡ true
-  pub once : NamesOnce changes

@@ -1,45 +1,28 @@
 -- How much an update may read.
-use Rattle.std.specs.Prelude.{ℕ, ◌+◌, ◌*◌, ◌≤◌, Bool, ◌&&◌, List, filter, length}
+use Rattle.std.specs.Prelude.{ℕ, ◌+◌, ◌*◌, ◌≤◌, Bool, ◌&&◌, List, length}
 use Rattle.std.specs.List.{list_any, range_with_len}
-use Rattle.plant_config.specs.declared.records.Change.{Change}
 use Rattle.plant_config.specs.Plant.{PlantData, destinations_of}
 use Rattle.crosspoint_state.specs.Crosspoints.{Crosspoints}
 use Rattle.mixer_effects.specs.Buses.{buses_at}
-use Rattle.mixer_effects.specs.Live.{is_fed_by, is_live}
-use Rattle.tally.specs.Touched.{with_switched, touched_by}
-use Rattle.tally.specs.Moved.{has_moved, lost_between}
+use Rattle.mixer_effects.specs.Live.{is_fed_by}
+use Rattle.tally.specs.Touched.{with_switched}
+use Rattle.tally.specs.Moved.{has_moved}
 use Rattle.tally.specs.Doubt.{is_affected}
 use Rattle.tally.specs.Weight.{weights, weigh, device_weight}
 
--- the destinations that were live and that changes name, or whose switch they name
-abbrev pub lost_by : PlantData → Crosspoints → List ℕ → List Change → List ℕ
-lost_by plant old roots changes = filter (is_live plant old roots) (touched_by plant changes)
-
--- The most that an update reads, whatever changes name: 15 times the devices that are affected where all that they name is
--- lost, and their buses, and 9 times what they name and what this switches.
-abbrev pub named_bound : PlantData → Crosspoints → Crosspoints → List ℕ → List Change → ℕ
-named_bound plant old new roots changes =
-    15 * weigh (device_weight plant)
-    (is_affected plant old new roots (lost_by plant old roots changes))
-    + 9 * length (touched_by plant changes)
-
--- whether a device is affected by what moved
-abbrev pub is_moved_by : PlantData → Crosspoints → Crosspoints → List ℕ → ℕ → Bool
-is_moved_by plant old new roots = is_affected plant old new roots (lost_between plant old new roots)
-
--- how many devices are affected by what moved
+-- how many devices are affected
 abbrev pub affected_devices : PlantData → Crosspoints → Crosspoints → List ℕ → ℕ
-affected_devices plant old new roots = weigh (λ _. 1) (is_moved_by plant old new roots)
+affected_devices plant old new roots = weigh (λ _. 1) (is_affected plant old new roots)
 
 -- how many buses these have
 abbrev pub affected_buses : PlantData → Crosspoints → Crosspoints → List ℕ → ℕ
 affected_buses plant old new roots =
-    weigh (λ device. length (buses_at plant device)) (is_moved_by plant old new roots)
+    weigh (λ device. length (buses_at plant device)) (is_affected plant old new roots)
 
 -- whether a destination carries what one of these puts out
 abbrev pub is_fed_by_affected : PlantData → Crosspoints → Crosspoints → List ℕ → ℕ → Bool
 is_fed_by_affected plant old new roots dest =
-    list_any (λ device. is_moved_by plant old new roots device && is_fed_by plant new device dest)
+    list_any (λ device. is_affected plant old new roots device && is_fed_by plant new device dest)
     (range_with_len 0 (length plant.devices))
 
 -- how many destinations do
@@ -52,11 +35,11 @@ abbrev pub moved_and_switched : PlantData → Crosspoints → Crosspoints → �
 moved_and_switched plant old new =
     weights (λ dest. length (with_switched plant dest)) (has_moved old new) (destinations_of plant)
 
--- The most that an update reads where each change has moved what it names: 15 times the affected devices and their buses,
--- and 9 times what moved and what this switches.
+-- The most that an update reads: 15 times the affected devices and their buses, and 9 times what moved and what this
+-- switches.
 abbrev pub read_bound : PlantData → Crosspoints → Crosspoints → List ℕ → ℕ
 read_bound plant old new roots =
-    15 * weigh (device_weight plant) (is_moved_by plant old new roots)
+    15 * weigh (device_weight plant) (is_affected plant old new roots)
     + 9 * moved_and_switched plant old new
 
 -- That is at most 16 for each affected device, for each bus of one, for each destination that carries what one puts out, for

@@ -9,7 +9,7 @@ ghost use Rattle.mixer_effects.specs.Wiring.{IsWiringOf};
 ghost use Rattle.tally.specs.MarksInside.{StayTurned};
 ghost use Rattle.tally.specs.MarkLaws.{AreSettled};
 ghost use Rattle.tally.specs.Update.{IsMove};
-ghost use Rattle.tally.specs.Reads.{named_bound};
+ghost use Rattle.tally.specs.Reads.{read_bound};
 
 use crate::doubt::spread_doubt;
 use crate::losing::lose_touched;
@@ -46,7 +46,7 @@ pub(crate) fn settle<L: Ledger>(
     ensures counted { (old : carried.Crosspoints) (list : List ℕ)
         → IsMove graph.now.plant old graph.now.crosspoints list roots.now changes.now marks.old
         → steps.new ≤ steps.old
-        + named_bound graph.now.plant old graph.now.crosspoints list changes.now }
+        + read_bound graph.now.plant old graph.now.crosspoints list }
     ensures idle { waiting.new ≡ empty }
     ensures sure { doubted.new ≡ empty }
 {

@@ -9,8 +9,7 @@ ghost use Rattle.crosspoint_state.specs.Taps.{AreTapsOf};
 ghost use Rattle.mixer_effects.specs.Live.{is_live, is_seen};
 ghost use Rattle.mixer_effects.specs.Wiring.{IsWiringOf};
 ghost use Rattle.tally.specs.Tally.{roots_of};
-ghost use Rattle.tally.specs.Moved.{AreMoves};
-ghost use Rattle.tally.specs.Reads.{named_bound, read_bound};
+ghost use Rattle.tally.specs.Reads.{read_bound};
 ghost use Rattle.tally.specs.Kept.{IsKeptFor, IsUpdate, AreFlipped};
 
 use crate::marks::Marks;
@@ -24,8 +23,8 @@ use std::marker::{Brand, Model};
 use std::sync::ledger::{Blank, Ledger};
 use tap_lists::Steps;
 
-/// Which destinations of a plant are live for some roots, and which sources are seen there. An update looks at what changes name
-/// and at what this reaches, and reads no more of the plant than a bound says.
+/// Which destinations of a plant are live for some roots, and which sources are seen there. An update looks at what moved and
+/// at what this reaches, and reads no more of the plant than a bound says.
 #[derive(Debug, Drop)]
 pub struct Tally {
     /// What is live, and what is on by it.
@@ -80,7 +79,8 @@ impl Tally {
         })
     }
 
-    /// Follows changes that were made: at most what they name has moved since the tally was made or last updated.
+    /// Follows changes that were made: each has moved what it names since the tally was made or last updated, and nothing else
+    /// has moved.
     pub fn update<L: Ledger>(
         &mut self,
         graph: &Graph<'_, L>,
@@ -100,11 +100,6 @@ impl Tally {
             → AreFlipped graph.now.plant old graph.now.crosspoints roots self.new.flipped }
         ensures counted { (old : carried.Crosspoints) (roots : List ℕ)
             → IsUpdate graph.now.plant old graph.now.crosspoints roots changes.now self.old
-            → steps.new ≤ steps.old
-            + named_bound graph.now.plant old graph.now.crosspoints roots changes.now }
-        ensures moved { (old : carried.Crosspoints) (roots : List ℕ)
-            → IsUpdate graph.now.plant old graph.now.crosspoints roots changes.now self.old
-            → AreMoves old graph.now.crosspoints changes.now
             → steps.new ≤ steps.old
             + read_bound graph.now.plant old graph.now.crosspoints roots }
     {

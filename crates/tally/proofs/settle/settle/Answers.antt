@@ -1,6 +1,8 @@
 use Rattle.std.proofs.Common.{arith}
+use Rattle.plant_config.specs.IsPlant.{IsDest}
 use Rattle.tally.specs.Touched.{touched_by}
 use Rattle.tally.proofs.SettleLemmas.{first_devices, relit_devices, lighting_begun, settled_again}
+use Rattle.tally.proofs.MovedLemmas.{each_named, touched_moved}
 use Rattle.tally.proofs.BoundLemmas.{doubt_weighs, relit_weighs}
 use Rattle.tally.proofs.settle.settle.Goals as goal
 
@@ -37,4 +39,6 @@ returns-clause-counted g c = λ old list move.
     let settled = settled_again c.args.graph.now.plant c.requires.wired.is_plant old c.args.graph.now.crosspoints list c.args.roots.now c.args.changes.now c.args.marks.now c.lose_touched.new.marks c.spread_doubt.new.marks c.args.waiting.now c.args.doubted.now c.lose_touched.new.waiting c.spread_doubt.new.waiting c.spread_doubt.new.doubted move c.requires.idle c.requires.sure c.lose_touched.ensures.lost c.spread_doubt.ensures.spread c.spread_doubt.ensures.all c.relight_touched.new.marks c.relight_waiting.new.marks c.relight_touched.new.waiting c.relight_waiting.new.waiting c.relight_touched.ensures.relit c.relight_waiting.ensures.relit c.relight_waiting.ensures.all in
     let doubt = doubt_weighs c.args.graph.now.plant c.requires.wired.is_plant old c.args.graph.now.crosspoints list c.args.roots.now c.args.changes.now c.args.marks.now c.lose_touched.new.marks c.spread_doubt.new.marks c.args.waiting.now c.args.doubted.now c.lose_touched.new.waiting c.spread_doubt.new.waiting c.spread_doubt.new.doubted move c.requires.idle c.requires.sure c.lose_touched.ensures.lost c.spread_doubt.ensures.spread c.spread_doubt.ensures.all c.relight_touched.new.marks c.relight_waiting.new.marks c.relight_touched.new.waiting c.relight_waiting.new.waiting c.relight_touched.ensures.relit c.relight_waiting.ensures.relit settled in
     let lit = relit_weighs c.args.graph.now.plant c.requires.wired.is_plant old c.args.graph.now.crosspoints list c.args.roots.now c.args.changes.now c.args.marks.now c.lose_touched.new.marks c.spread_doubt.new.marks c.args.waiting.now c.args.doubted.now c.lose_touched.new.waiting c.spread_doubt.new.waiting c.spread_doubt.new.doubted move c.requires.idle c.requires.sure c.lose_touched.ensures.lost c.spread_doubt.ensures.spread c.spread_doubt.ensures.all c.relight_touched.new.marks c.relight_waiting.new.marks c.relight_touched.new.waiting c.relight_waiting.new.waiting c.relight_touched.ensures.relit c.relight_waiting.ensures.relit settled in
-    omega (arith, doubt, lit, c.lose_touched.ensures.counted, c.spread_doubt.ensures.counted, c.relight_touched.ensures.counted, c.relight_waiting.ensures.counted)
+    let plant = c.args.graph.now.plant in
+    let few = touched_moved plant old c.args.graph.now.crosspoints list c.args.changes.now move.moved (each_named (IsDest plant) c.args.changes.now c.requires.dests) in
+    omega (arith, doubt, lit, few, c.lose_touched.ensures.counted, c.spread_doubt.ensures.counted, c.relight_touched.ensures.counted, c.relight_waiting.ensures.counted)

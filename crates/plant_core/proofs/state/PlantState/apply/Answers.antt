@@ -5,7 +5,7 @@ use Rattle.plant_core.specs.declared.tables.Tables.{Tables}
 use Rattle.plant_core.specs.State.{IsChangeOf}
 use Rattle.plant_core.specs.StateInside.{state_of}
 use Rattle.plant_core.specs.DueInside.{HaveTurned, FollowValues}
-use Rattle.plant_core.proofs.Changes.{once-one}
+use Rattle.plant_core.proofs.Changes.{once-one, busy-one}
 use Rattle.plant_core.proofs.StepValidity.{IsValid-one}
 use Rattle.plant_core.proofs.TurnLemmas.{kept_followed}
 use Rattle.plant_core.proofs.state.PlantState.apply.Goals as goal
@@ -29,6 +29,7 @@ invariant_of-self c =
 pub make-requires : goal.make-requires
 make-requires c =
     let is = rw (← c.self.view_is) at c.requires.change in
+    let busy = rw (← c.self.view_is) at c.requires.busy in
     let enough = rw (← c.self.view_is) at c.requires.enough in
     record {
       plant = c.self.invariant.valid.is_plant;
@@ -37,6 +38,7 @@ make-requires c =
       ties = c.self.invariant.valid.ties;
       tables = rw c.deref_mut.ensures.value c.self.invariant.beside;
       changes = rw c.from_ref-changes.ensures.value (All-push (IsChangeOf c.self.inside.plant) [] c.args.change.now (All-nil (IsChangeOf c.self.inside.plant)) is);
+      busy = rw c.from_ref-changes.ensures.value (busy-one c.self.inside.crosspoints.entries c.args.change.now busy);
       once = rw c.from_ref-changes.ensures.value (once-one c.args.change.now);
       enough = rw c.from_ref-changes.ensures.value enough;
     }

@@ -1,4 +1,4 @@
-use Rattle.plant_core.proofs.Changes.{moved-applied}
+use Rattle.plant_core.proofs.Changes.{moves-applied}
 use Rattle.plant_core.proofs.tables.Tables.make.Goals as goal
 
 pub commit-requires : goal.commit-requires
@@ -19,7 +19,7 @@ follow-requires c = record {
   before = record {
     old = c.args.points.now.entries;
     before = c.requires.tables.tallied;
-    moved = moved-applied c.args.plant.now c.args.points.now.entries _ c.args.changes.now c.commit.ensures.made;
+    moved = moves-applied c.args.plant.now c.args.points.now.entries _ c.args.changes.now c.requires.once c.requires.busy c.commit.ensures.made;
   };
 }
 
@@ -33,4 +33,4 @@ returns-clause-tables c = record {
 
 pub returns-clause-turned : goal.returns-clause-turned
 returns-clause-turned c =
-    c.follow.ensures.turned c.args.points.now.entries c.requires.tables.tallied (moved-applied c.args.plant.now c.args.points.now.entries _ c.args.changes.now c.commit.ensures.made)
+    c.follow.ensures.turned c.args.points.now.entries c.requires.tables.tallied (moves-applied c.args.plant.now c.args.points.now.entries _ c.args.changes.now c.requires.once c.requires.busy c.commit.ensures.made)

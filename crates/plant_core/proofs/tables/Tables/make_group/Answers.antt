@@ -4,11 +4,10 @@ use Rattle.std.proofs.lemmas.List.Elements.{All-filter}
 use Rattle.plant_config.specs.declared.records.Change.{Change}
 use Rattle.plant_config.specs.IsPlant.{IsDest}
 use Rattle.crosspoint_state.specs.Crosspoints.{Crosspoints, is_idle}
-use Rattle.tally.specs.Update.{MovedOnly}
+use Rattle.tally.specs.Update.{AreMoves}
 use Rattle.plant_core.specs.StateInside.{busy_of}
 use Rattle.plant_core.specs.DueInside.{HaveTurned}
-use Rattle.plant_core.proofs.Changes.{moved-applied}
-use Rattle.plant_core.proofs.BusyLemmas.{applied_busy}
+use Rattle.plant_core.proofs.BusyLemmas.{busy_moves}
 use Rattle.plant_core.proofs.tables.Tables.make_group.Goals as goal
 
 pub take-requires : goal.take-requires
@@ -40,8 +39,8 @@ follow-requires c =
         old = old;
         before = c.requires.tables.tallied;
         moved =
-            subst (λ (list : List Change). MovedOnly old c.commit.new.points.entries list) (sym listed)
-            (moved-applied plant old _ busy (c.commit.ensures.made ∙ applied_busy plant old c.args.entries.now));
+            subst (λ (list : List Change). AreMoves old c.commit.new.points.entries list) (sym listed)
+            (busy_moves plant old _ c.args.entries.now c.requires.group.distinct c.commit.ensures.made);
       };
     }
 
@@ -59,8 +58,8 @@ returns-clause-turned c =
     let old : Crosspoints = c.args.points.now.entries in
     let busy : List Change = busy_of old c.args.entries.now in
     let listed : c.as_slice.result.now ≡ busy = c.as_slice.ensures ∙ c.take.ensures in
-    let moved : MovedOnly old c.commit.new.points.entries c.as_slice.result.now =
-    subst (λ (list : List Change). MovedOnly old c.commit.new.points.entries list) (sym listed)
-    (moved-applied plant old _ busy (c.commit.ensures.made ∙ applied_busy plant old c.args.entries.now)) in
+    let moved : AreMoves old c.commit.new.points.entries c.as_slice.result.now =
+    subst (λ (list : List Change). AreMoves old c.commit.new.points.entries list) (sym listed)
+    (busy_moves plant old _ c.args.entries.now c.requires.group.distinct c.commit.ensures.made) in
     subst (λ (list : List Change). HaveTurned plant old c.commit.new.points.entries list c.follow.new.self) c.as_slice.ensures
     (c.follow.ensures.turned old c.requires.tables.tallied moved)

@@ -37,7 +37,7 @@ returns-clause-turned g c old stood moved =
     let air = rw (c.new-graph.ensures.plant, c.new-graph.ensures.crosspoints) at c.update.ensures.flipped in
     let preview = rw (c.new-graph.ensures.plant, c.new-graph.ensures.crosspoints) at c.update-2.ensures.flipped in
     record {
-      moved = moved;
+      moved = moved.only;
       air = air old c.args.plant.now.air (record { before = stood.air; moved = moved });
       preview = preview old c.args.plant.now.preview (record { before = stood.preview; moved = moved });
     }

@@ -1,10 +1,8 @@
 use Rattle.std.proofs.Common.{sym, subst, arith}
-use Rattle.plant_config.specs.IsPlant.{IsDest}
 use Rattle.tally.specs.Marks.{is_lit}
 use Rattle.tally.specs.Kept.{AreFlipped}
 use Rattle.tally.proofs.RootlessLemmas.{rootless_settled, rootless_flips}
 use Rattle.tally.proofs.KeptLemmas.{turned_none, turned_below, same_settled, flipped_are}
-use Rattle.tally.proofs.MovedLemmas.{each_named, named_within}
 use Rattle.tally.proofs.tally.Tally.update.Goals as goal
 
 pub settle-requires-clause-moved : goal.settle-requires-clause-moved
@@ -48,14 +46,6 @@ pub returns-clause-counted : goal.returns-clause-counted
 returns-clause-counted g c = λ old roots stood.
     let update = rw (← c.self.view_is) at stood in
     c.settle.ensures.counted old roots (record { rooted = update.before.rooted; settled = update.before.settled; moved = update.moved })
-
-pub returns-clause-moved : goal.returns-clause-moved
-returns-clause-moved g c = λ old roots stood moves.
-    let update = rw (← c.self.view_is) at stood in
-    let counted = c.settle.ensures.counted old roots (record { rooted = update.before.rooted; settled = update.before.settled; moved = update.moved }) in
-    let plant = c.args.graph.now.plant in
-    let within = named_within plant old c.args.graph.now.crosspoints roots c.args.changes.now moves (each_named (IsDest plant) c.args.changes.now c.requires.dests) in
-    omega (arith, counted, within)
 
 pub returns-then-is_empty-clause-kept : goal.returns-then-is_empty-clause-kept
 returns-then-is_empty-clause-kept g c = λ old roots stood.
