@@ -14,7 +14,7 @@ use history_lock::{Machine, OutBox};
 use plant_config::{PanelNo, Plant};
 use plant_core::{Answer, PlantState, Request};
 pub(crate) use rows::WIDEST;
-use rows::{BENCH, EXTENDED, KEPT, LAST, POOL, PROTECTING, SALVOS, TRUNK, WIDE};
+use rows::{BENCH, EXTENDED, KEPT, POOL, PROTECTING, SALVOS, TRUNK, WIDE};
 use std::alloc::{AllocError, Global};
 use std::process::Abort;
 use std::test::Fail;
@@ -207,7 +207,7 @@ enum Work {
     QuietPolls,
     /// A day on a pool that keeps ties.
     Day,
-    /// Two connects in turn, two million times.
+    /// Rows of the last numbers, and two connects in turn, a hundred thousand times.
     Turns,
 }
 
@@ -221,7 +221,7 @@ fn work_on(rt: &impl Abort, state: &mut PlantState, out: &mut OutBox<Answer>, wo
         Work::Polls => displays::are_counted(rt, state, out),
         Work::QuietPolls => displays::are_quiet(rt, state, out, 500_000),
         Work::Day => day::passes(rt, state, out, 4_000),
-        Work::Turns => long_runs::take_turns(rt, state, out, 2_000_000),
+        Work::Turns => long_runs::take_turns(rt, state, out, 100_000),
     }
 }
 
@@ -244,13 +244,12 @@ fn is_worked(rt: &impl Abort, alloc: Global, text: Option<&str>, work: Work) -> 
 }
 
 // The plants by their texts, none for the bench plant, and what is answered on each from its start.
-const TABLES: [(Option<&str>, &[Row]); 7] = [
+const TABLES: [(Option<&str>, &[Row]); 6] = [
     (None, &BENCH),
     (None, &PROTECTING),
     (None, &SALVOS),
     (Some(POOL), &TRUNK),
     (Some(WIDE), &EXTENDED),
-    (Some(WIDEST), &LAST),
     (Some(STUDIO), &KEPT),
 ];
 

@@ -24,11 +24,11 @@ fn destinations_by_name_and_by_page(rt: HostRuntime) -> Result<(), Fail> {
     Ok(is_paged(&rt, rt.alloc(), &names)?)
 }
 
-// Names far behind in the widest level are found, millions of times.
+// The last name of the widest level is found, half a million times.
 fn are_found(rt: &impl Abort, names: &Names) {
-    for _turn in 0..4_000_000_u32 {
-        let found = names.find_source(0, 0, b"S32767");
-        assert!(rt; found == Some(SourceId::of(32_767)));
+    for _turn in 0..500_000_u32 {
+        let found = names.find_source(0, 0, b"S65534");
+        assert!(rt; found == Some(SourceId::of(65_534)));
     }
     assert!(rt; names.find_source(0, 0, b"S65535") == None);
     assert!(rt; names.find_dest(0, 0, b"D65535") == Some(DestId::of(65_535)));

@@ -1,14 +1,9 @@
-//! The limits of what is read, each with a row at it and a row past it.
+//! Limits of what is read, each with a row at it and a row past it. Those of whole scripts and streams are checked over the built
+//! program, where 64 MiB take no time.
 
 use super::{NOTHING, REPLAY, ends_so};
 use std::alloc::{AllocError, Global};
 use std::test::Fail;
-
-// 64 MiB
-const LONGEST_SCRIPT: usize = 67_108_864;
-
-// 64 MiB
-const LONGEST_STREAM: usize = 67_108_864;
 
 const LONGEST_LINE: usize = 65_536;
 
@@ -24,8 +19,6 @@ const INTERROGATE: &[u8] = b"> 0 10020100000504F61003";
 
 const CHECK: &[&str] = &["check", "script"];
 
-const MONITOR: &[&str] = &["monitor", "script"];
-
 // Words, the front of their file, and the byte that it is filled up with to a length; and then the status and the output.
 type Row = (
     &'static [&'static str],
@@ -36,17 +29,7 @@ type Row = (
     &'static str,
 );
 
-const ROWS: [Row; 8] = [
-    // One line that is skipped.
-    (REPLAY, b"", b'#', LONGEST_SCRIPT, 0, ""),
-    (
-        REPLAY,
-        b"",
-        b'#',
-        LONGEST_SCRIPT + 1,
-        5,
-        "script too long\n",
-    ),
+const ROWS: [Row; 4] = [
     // The rest of the line is spaces, which are dropped.
     (
         REPLAY,
@@ -81,9 +64,6 @@ const ROWS: [Row; 8] = [
         4,
         "plant refused: too long\n",
     ),
-    // Noise, which has no line.
-    (MONITOR, b"", 0, LONGEST_STREAM, 0, ""),
-    (MONITOR, b"", 0, LONGEST_STREAM + 1, 5, "stream too long\n"),
 ];
 
 // These bytes and as many of another one as make them so long.

@@ -180,10 +180,11 @@ level = [{ matrix = 0, level = 0, sources = 2000, destinations = 3000 }]
 panel = [{ device = 1, port = 9001 }, { device = 2, port = 9002 }]
 "#;
 
-/// The widest level, and two panels.
+/// The widest level, of which a destination is on air, and two panels.
 pub(crate) const WIDEST: &str = r#"
 title = "Widest"
 level = [{ matrix = 0, level = 0, sources = 65535, destinations = 65536 }]
+air = [{ matrix = 0, destination = 0 }]
 panel = [{ device = 1, port = 9001 }, { device = 2, port = 9002 }]
 "#;
 
