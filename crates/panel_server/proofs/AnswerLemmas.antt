@@ -1,5 +1,5 @@
 -- What a lock answers to a poll of a screen.
-use Rattle.std.proofs.Common.{◌≡◌, ℕ, ◌<◌, ◌≤◌, Bool, List, [], ◌∷◌, ◌++◌, length, All, sym, subst, arith}
+use Rattle.std.proofs.Common.{◌≡◌, ℕ, ◌<◌, ◌≤◌, Bool, true, List, [], ◌∷◌, ◌++◌, length, All, refl, sym, ap, ◌∙◌, subst, arith}
 use Rattle.std.specs.List.{flat_map}
 use Rattle.std.proofs.lemmas.List.{length-append}
 use Rattle.history_lock.specs.Calls.{SeesAnswers, asked_by}
@@ -14,6 +14,7 @@ use Rattle.plant_core.specs.State.{State, IsValid, start, Fits as Takes}
 use Rattle.plant_core.specs.Short.{StaysShort}
 use Rattle.plant_core.specs.Step.{step}
 use Rattle.plant_core.specs.declared.answer.Answer.{Answer}
+use Rattle.plant_core.specs.declared.answer.Answer.TheVariants.{Say, Dumped, Lamp, Finished}
 use Rattle.plant_core.specs.declared.request.Request.{Request}
 use Rattle.plant_core.specs.declared.request.Request.TheVariants.{DisplayPoll}
 use Rattle.plant_core.proofs.AnswerLemmas.{All-sayable}
@@ -24,7 +25,11 @@ use Rattle.plant_core.proofs.Validity.{IsValid-start}
 use Rattle.panel_session.specs.DisplayPacket.{AreLamps, packet_of, shown_by}
 use Rattle.panel_session.specs.Entry.{PlantEntry}
 use Rattle.panel_session.specs.Served.{PlantSeat}
+use Rattle.panel_session.specs.TraceLine.{display_reply, told_bytes, told_line, trace_line, entry_text, line_end}
 use Rattle.panel_session.proofs.LampLemmas.{display_poll-lamps}
+use Rattle.panel_session.proofs.TraceLemmas.{told_some}
+use Rattle.panel_server.specs.Driven.{has_lamps}
+use Rattle.panel_server.specs.DrivenInside.{packet_bytes}
 
 -- what is behind a front of a legal history is legal there
 pub legal_behind : (first : State) (front later : List PlantEntry) → IsLegal step Takes first (front ++ later) → IsLegal step Takes (run step first front) later
@@ -93,3 +98,25 @@ unfolding packet_text
 packet_some plant screen answers =
     let counted : List ℕ = counted_text screen (messages_text (flat_map (shown_by plant) answers)) in
     omega (arith, length-append (word (length counted)) counted)
+
+-- So there are bytes of one where there are lamps,
+pub packet_bytes_some : (plant : PlantData) (screen : ℕ) (answers : List Answer) → has_lamps answers ≡ true → 0 < length (packet_bytes plant screen answers)
+packet_bytes_some plant screen [] lit = absurd cc
+packet_bytes_some plant screen (Finished ∷ others) lit = absurd cc
+packet_bytes_some plant screen (Lamp display value ∷ others) lit = packet_some plant screen (Lamp display value ∷ others)
+packet_bytes_some plant screen (Say message ∷ others) lit = packet_some plant screen (Say message ∷ others)
+packet_bytes_some plant screen (Dumped matrix level dest source ∷ others) lit = packet_some plant screen (Dumped matrix level dest source ∷ others)
+
+-- and where there are some, they are what the line of the poll tells.
+reply_bytes : (plant : PlantData) (screen : ℕ) (answers : List Answer) → (packet_bytes plant screen answers ≡ [] → ⊥) → told_bytes (packet_bytes plant screen answers) ≡ display_reply plant screen answers
+reply_bytes plant screen [] some = absurd (some refl)
+reply_bytes plant screen (Finished ∷ others) some = absurd (some refl)
+reply_bytes plant screen (Lamp display value ∷ others) some = told_some (packet_of plant screen (Lamp display value ∷ others)) some
+reply_bytes plant screen (Say message ∷ others) some = told_some (packet_of plant screen (Say message ∷ others)) some
+reply_bytes plant screen (Dumped matrix level dest source ∷ others) some = told_some (packet_of plant screen (Dumped matrix level dest source ∷ others)) some
+
+pub line_of_packet : (plant : PlantData) (position screen : ℕ) (refresh : Bool) (answers : List Answer) (packet : List ℕ) → packet ≡ packet_bytes plant screen answers → (packet ≡ [] → ⊥)
+    → told_line position (DisplayPoll screen refresh) packet ≡ trace_line plant position (DisplayPoll screen refresh) answers
+line_of_packet plant position screen refresh answers packet is some =
+    ap (λ (reply : List ℕ). entry_text position (DisplayPoll screen refresh) reply ++ line_end ∷ [])
+    (ap told_bytes is ∙ reply_bytes plant screen answers (λ none. some (is ∙ none)))

@@ -9,9 +9,10 @@ use Rattle.plant_core.specs.Answer.{room_of}
 use Rattle.plant_core.specs.State.{start, Fits as Takes}
 use Rattle.plant_core.specs.Step.{step}
 use Rattle.plant_core.specs.declared.answer.Answer.{Answer}
+use Rattle.plant_core.specs.declared.answer.Answer.TheVariants.{Finished}
 use Rattle.plant_core.specs.declared.request.Request.{Request}
 use Rattle.plant_core.specs.declared.request.Request.TheVariants.{DisplayPoll}
-use Rattle.panel_session.specs.DisplayPacket.{longest_packet}
+use Rattle.panel_session.specs.DisplayPacket.{longest_packet, packet_of}
 use Rattle.panel_session.specs.Entry.{PlantEntry}
 use Rattle.panel_session.specs.Served.{PlantSeat, mark_after, own_lines}
 use Rattle.panel_session.specs.ServedInside.{SeesMore}
@@ -29,6 +30,12 @@ pub record HasRoomFor (plant : PlantData) (room : PollRoom) : Type 0 where
   pub answers : room.answers.places ≡ room_of plant
   pub line : longest_trace_line ≤ vec_capacity room.line
   pub packet : longest_packet ≤ vec_capacity room.packet
+
+-- the bytes of the packet by which the displays of a screen are told these answers, none if these aren't lamps
+abbrev pub packet_bytes : PlantData → ℕ → List Answer → List ℕ
+packet_bytes plant screen [] = []
+packet_bytes plant screen (Finished ∷ others) = []
+packet_bytes plant screen (answer ∷ others) = packet_of plant screen (answer ∷ others)
 
 -- what is outside of the worker: its seat, its port, and what its trace shows
 pub record Outside (P : Type 0) : Type 0 where

@@ -1,24 +1,23 @@
 //! One poll of a screen.
 
-ghost use Rattle.std.specs.Prelude.{◌≡◌, ℕ, ◌≤◌, All, Bool, length, not, vec_capacity};
+ghost use Rattle.std.specs.Prelude.{◌≡◌, ℕ, ◌<◌, ◌≤◌, All, Bool, true, length, not};
+ghost use Rattle.std.specs.Prelude.{vec_len, vec_capacity};
 ghost use Rattle.std.specs.Prelude.{IfErr, IfOk, OnErr};
 ghost use Rattle.std.specs.Bool.{OnFalse, OnTrue};
 ghost use Rattle.ctl_io.specs.Faults.{count_after};
 ghost use Rattle.ctl_io.specs.Sink.{appended, AppendsPart};
 ghost use Rattle.ctl_net.specs.Net.{TakesAll};
 ghost use Rattle.plant_config.specs.IsPlant.{IsPlant};
+ghost use Rattle.plant_config.specs.Plant.{PlantData};
 ghost use Rattle.plant_core.specs.Answer.{IsSayable};
 ghost use Rattle.plant_core.specs.Displays.{lamp_limit};
 ghost use Rattle.plant_core.specs.State.{FitsPlant};
-ghost use Rattle.plant_core.specs.declared.request.Request.{Request};
 ghost use Rattle.plant_core.specs.declared.request.Request.TheVariants.{DisplayPoll};
 ghost use Rattle.panel_session.specs.DisplayPacket.{AreLamps, longest_packet};
-ghost use Rattle.panel_session.specs.MostAnswers.{most_answers};
 ghost use Rattle.panel_session.specs.TraceLine.{longest_trace_line, trace_limit, trace_line};
-ghost use Rattle.panel_session.specs.TraceLine.{MayReply, MayTrace};
-ghost use Rattle.panel_server.specs.Driven.{ends_by_trace};
+ghost use Rattle.panel_server.specs.Driven.{ends_by_trace, has_lamps};
 ghost use Rattle.panel_server.specs.DrivenInside.{EndsPolling, HasPolled, HasRoomFor};
-ghost use Rattle.panel_server.specs.DrivenInside.{TellsLamps, outside, polled_by};
+ghost use Rattle.panel_server.specs.DrivenInside.{TellsLamps, outside, packet_bytes, polled_by};
 ghost use Rattle.panel_server.specs.Seats.{IsSeatOf};
 
 use crate::displays::DriverEnd;
@@ -118,67 +117,109 @@ pub(crate) fn poll_screen<W: Wait, P: DisplayPort, K: Sink>(
         return Err(DriverEnd::Full);
     };
     let told = answers.items();
-    if !trace_poll(plant, position, &request, told, lines, line, trace) {
+    spell(plant, screen, told, packet);
+    if !trace_poll(
+        plant, position, screen, refresh, told, packet, lines, line, trace,
+    ) {
         return Err(DriverEnd::TraceFault);
     }
-    Ok(tell(plant, screen, told, packet, port))
+    Ok(tell(told, packet, port))
 }
 
-// Writes the line of a poll's entry. False where that failed.
+// Spells the packet of the lamps that a poll was answered with, no bytes if these aren't such.
+fn spell(plant: &Plant, screen: u16, answers: &[Answer], packet: &mut Vec<u8>)
+    requires lamps { AreLamps plant.now answers.now }
+    requires few { length answers.now ≤ lamp_limit }
+    requires room { longest_packet ≤ vec_capacity packet.old }
+    ensures packet { packet.new.items ≡ packet_bytes plant.now screen answers.now }
+    ensures most { vec_len packet.new ≤ longest_packet }
+    ensures room { vec_capacity packet.new ≡ vec_capacity packet.old }
+{
+    packet.clear();
+    match answers {
+        [] | [Answer::Finished, ..] => {}
+        [_, ..] => display_packet(plant, screen, answers, packet),
+    }
+}
+
+// Writes the line of a poll's entry, with the packet as it was spelled. False where that failed.
 fn trace_poll<K: Sink>(
     plant: &Plant,
     position: u64,
-    request: &Request,
+    screen: u16,
+    refresh: bool,
     answers: &[Answer],
+    packet: &[u8],
     lines: &mut TraceLines,
     line: &mut Vec<u8>,
     trace: &mut K,
 ) -> bool
     requires position { position ≤ trace_limit }
-    requires request { MayTrace request.now }
     requires sayable { All IsSayable answers.now }
-    requires few { length answers.now ≤ most_answers }
-    requires reply { MayReply plant.now request.now answers.now }
+    requires few { length answers.now ≤ lamp_limit }
+    requires lamps { AreLamps plant.now answers.now }
+    requires packet { packet.now ≡ packet_bytes plant.now screen answers.now }
+    requires most { length packet.now ≤ longest_packet }
     requires room { longest_trace_line ≤ vec_capacity line.old }
     ensures all { OnTrue result (K.written trace.new ≡ appended (K.written trace.old)
-        (trace_line plant.now position request.now answers.now)) }
+        (trace_line plant.now position (DisplayPoll screen refresh) answers.now)) }
     ensures part { OnFalse result (AppendsPart
-        (trace_line plant.now position request.now answers.now)
+        (trace_line plant.now position (DisplayPoll screen refresh) answers.now)
         (K.written trace.old) (K.written trace.new)) }
     ensures count { K.faults trace.new ≡ count_after (not result) (K.faults trace.old) }
     ensures room { vec_capacity line.new ≡ vec_capacity line.old }
     ensures name { K.name trace.new ≡ K.name trace.old }
 {
-    line.clear();
-    lines.append(plant, position, request, answers, line);
+    put_line(
+        plant, position, screen, refresh, answers, packet, lines, line,
+    );
     write_all(trace, line)
 }
 
-// Sends the packet of the lamps that a poll was answered with, if these are such.
-fn tell<P: DisplayPort>(
+// Puts the line of a poll's entry in place of what there was. Bytes of a packet aren't spelled again.
+fn put_line(
     plant: &Plant,
+    position: u64,
     screen: u16,
+    refresh: bool,
     answers: &[Answer],
-    packet: &mut Vec<u8>,
-    port: &mut P,
-) -> Polled
-    requires lamps { AreLamps plant.now answers.now }
+    packet: &[u8],
+    lines: &mut TraceLines,
+    line: &mut Vec<u8>,
+)
+    requires position { position ≤ trace_limit }
+    requires sayable { All IsSayable answers.now }
     requires few { length answers.now ≤ lamp_limit }
+    requires lamps { AreLamps plant.now answers.now }
+    requires packet { packet.now ≡ packet_bytes plant.now screen answers.now }
+    requires most { length packet.now ≤ longest_packet }
+    requires room { longest_trace_line ≤ vec_capacity line.old }
+    ensures line { line.new.items
+        ≡ trace_line plant.now position (DisplayPoll screen refresh) answers.now }
+    ensures room { vec_capacity line.new ≡ vec_capacity line.old }
+{
+    let request = Request::DisplayPoll { screen, refresh };
+    line.clear();
+    if packet.is_empty() {
+        lines.append(plant, position, &request, answers, line);
+    } else {
+        lines.append_told(position, &request, packet, line);
+    }
+}
+
+// Sends the packet of the lamps that a poll was answered with, if these are such.
+fn tell<P: DisplayPort>(answers: &[Answer], packet: &[u8], port: &mut P) -> Polled
     requires takes { TakesAll P.takes }
-    requires room { longest_packet ≤ vec_capacity packet.old }
-    ensures told { (seat : ℕ) (refresh : Bool)
-        → TellsLamps P.was_sent P.faults plant.now (polled_by seat screen refresh answers.now)
+    requires some { has_lamps answers.now ≡ true → 0 < length packet.now }
+    ensures told { (plant : PlantData) (seat screen : ℕ) (refresh : Bool)
+        → packet.now ≡ packet_bytes plant screen answers.now
+        → TellsLamps P.was_sent P.faults plant (polled_by seat screen refresh answers.now)
         result port.old port.new }
     ensures opening { P.opening port.new ≡ P.opening port.old }
-    ensures room { vec_capacity packet.new ≡ vec_capacity packet.old }
 {
     match answers {
         [] => Polled::Quiet,
         [Answer::Finished, ..] => Polled::Last,
-        [_, ..] => {
-            packet.clear();
-            display_packet(plant, screen, answers, packet);
-            Polled::Lit(port.send(packet))
-        }
+        [_, ..] => Polled::Lit(port.send(packet)),
     }
 }

@@ -1,8 +1,10 @@
 -- How the parts of a trace's line are appended.
-use Rattle.std.proofs.Common.{◌≡◌, ℕ, ◌+◌, ◌≤◌, List, [], ◌∷◌, ◌++◌, length, sym, ap, ◌∙◌, length-append, arith}
+use Rattle.std.proofs.Common.{◌≡◌, ℕ, ◌+◌, ◌≤◌, List, [], ◌∷◌, ◌++◌, length, refl, sym, ap, ◌∙◌, length-append, arith}
 use Rattle.std.proofs.lemmas.List.{append-nil, append_assoc}
 use Rattle.std.specs.List.{flat_map}
+use Rattle.hex.specs.Hex.{encode_upper}
 use Rattle.panel_session.specs.Text.{Output, with_frame, with_frames}
+use Rattle.panel_session.specs.TraceLine.{told_bytes}
 
 -- two parts, one behind the other
 then : (out first second middle last : List ℕ) → middle ≡ out ++ first → last ≡ middle ++ second → last ≡ out ++ (first ++ second)
@@ -32,3 +34,8 @@ frames-bytes (sent ∷ frames) output =
 
 pub longer : (out more new : List ℕ) → new ≡ out ++ more → length new ≡ length out + length more
 longer out more new is = ap (length {A = ℕ}) is ∙ length-append out more
+
+-- bytes, where there are some, are told in hexadecimal
+pub told_some : (bytes : List ℕ) → (bytes ≡ [] → ⊥) → told_bytes bytes ≡ encode_upper bytes
+told_some [] some = absurd (some refl)
+told_some (byte ∷ bytes) some = refl

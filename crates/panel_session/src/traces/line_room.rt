@@ -1,6 +1,6 @@
 //! The room that one line of a trace is written in.
 
-ghost use Rattle.std.specs.Prelude.{◌≡◌, ◌*◌, ◌≤◌, length, vec_capacity};
+ghost use Rattle.std.specs.Prelude.{◌≡◌, ◌+◌, ◌*◌, ◌≤◌, ◌++◌, length, vec_len, vec_capacity};
 ghost use Rattle.panel_session.specs.DisplayPacket.{longest_packet};
 ghost use Rattle.panel_session.specs.TraceInside.{most_reply};
 ghost use Rattle.panel_session.specs.TraceLine.{told_line, longest_trace_line, MaySpell};
@@ -70,6 +70,25 @@ fn put_line(position: u64, request: &Request, sent: &[u8], spelled: &mut Vec<u8>
     ensures spelled { vec_capacity spelled.new ≡ vec_capacity spelled.old }
 {
     out.clear();
+    append_line(position, request, sent, spelled, out);
+}
+
+// Appends the line of an entry at this position, by the bytes that its answers send.
+pub(crate) fn append_line(
+    position: u64,
+    request: &Request,
+    sent: &[u8],
+    spelled: &mut Vec<u8>,
+    out: &mut Vec<u8>,
+)
+    requires request { MaySpell request.now }
+    requires few { 2 * length sent.now ≤ most_reply }
+    requires spelled { longest_packet ≤ vec_capacity spelled.old }
+    requires room { vec_len out.old + longest_trace_line ≤ vec_capacity out.old }
+    ensures line { out.new.items ≡ out.old.items ++ told_line position request.now sent.now }
+    ensures room { vec_capacity out.new ≡ vec_capacity out.old }
+    ensures spelled { vec_capacity spelled.new ≡ vec_capacity spelled.old }
+{
     append_decimal(position, out);
     append(out, b" ");
     append_request(request, spelled, out);

@@ -10,13 +10,14 @@ ghost use Rattle.panel_session.specs.MostAnswers.{most_answers};
 ghost use Rattle.panel_session.specs.OutgoingKept.{answer_bytes};
 ghost use Rattle.panel_session.specs.Text.{frames_of};
 ghost use Rattle.panel_session.specs.TraceLine.{trace_limit, trace_line, longest_trace_line};
-ghost use Rattle.panel_session.specs.TraceLine.{reply_text, told_bytes};
+ghost use Rattle.panel_session.specs.TraceLine.{reply_text, told_bytes, told_line};
 ghost use Rattle.panel_session.specs.TraceLine.{display_reply, MaySpell, MayTrace, MayReply};
 ghost use Rattle.panel_session.specs.TraceInside.{most_reply};
 
 use crate::packet::display_packet;
 use crate::sending::outgoing::Outgoing;
 use crate::sending::spell::append;
+use crate::traces::line_room::append_line;
 use crate::traces::request_line::append_request;
 use line_text::{append_decimal, append_hex};
 use plant_config::Plant;
@@ -114,6 +115,20 @@ impl TraceLines {
         append(out, b" = ");
         put_reply(plant, request, answers, outgoing, spelled, out);
         out.push_reserved(b'\n');
+    }
+
+    /// The same of an entry whose answers were spelled before: by the bytes that they send, at most 1,158, as many as the longest
+    /// packet has.
+    pub fn append_told(&mut self, position: u64, request: &Request, sent: &[u8], out: &mut Vec<u8>)
+        requires position { position ≤ trace_limit }
+        requires request { MayTrace request.now }
+        requires few { length sent.now ≤ longest_packet }
+        requires room { vec_len out.old + longest_trace_line ≤ vec_capacity out.old }
+        ensures line { out.new.items
+            ≡ out.old.items ++ told_line position request.now sent.now }
+        ensures room { vec_capacity out.new ≡ vec_capacity out.old }
+    {
+        append_line(position, request, sent, &mut self.spelled, out);
     }
 
     /// Appends the reply of an entry alone, as its line tells it. It needs 65,537 spare bytes, and takes no memory.

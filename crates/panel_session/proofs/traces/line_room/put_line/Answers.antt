@@ -1,12 +1,7 @@
-use Rattle.std.proofs.Common.{ℕ, List, [], ◌∷◌, ◌++◌, codes, ap, ◌∙◌}
-use Rattle.std.specs.Fmt.{decimal}
-use Rattle.panel_session.specs.TraceLine.{request_text, told_bytes, told_line, line_end}
-use Rattle.panel_session.proofs.TraceLemmas.{line-appended}
+use Rattle.std.proofs.Common.{ℕ, List, ◌++◌, ap, ◌∙◌}
+use Rattle.panel_session.specs.TraceLine.{told_line}
 use Rattle.panel_session.proofs.traces.line_room.put_line.Goals as goal
 
 pub returns-clause-line : goal.returns-clause-line
 returns-clause-line c =
-    line-appended c.clear.new.self.items (decimal c.args.position) (codes " ") (request_text c.args.request.now) (codes " = ")
-    (told_bytes c.args.sent.now) (line_end ∷ []) _ _ _ _ _ _
-    c.append_decimal.ensures.number c.append.ensures.bytes c.append_request.ensures.text c.append-2.ensures.bytes c.append_bytes.ensures.text c.push_reserved.ensures.items
-    ∙ ap (λ (front : List ℕ). front ++ told_line c.args.position c.args.request.now c.args.sent.now) c.clear.ensures.items
+    c.append_line.ensures.line ∙ ap (λ (front : List ℕ). front ++ told_line c.args.position c.args.request.now c.args.sent.now) c.clear.ensures.items
