@@ -1,12 +1,13 @@
 //! How much an update of a tally reads.
 
-ghost use Rattle.std.specs.Prelude.{◌≡◌, ◌≢◌, ◌+◌, ◌<◌, ◌≤◌, ℕ, None, false, slice_get};
+ghost use Rattle.std.specs.Prelude.{◌≡◌, ◌≢◌, ◌+◌, ◌<◌, ◌≤◌, ℕ, None, true, false, slice_get};
 ghost use Rattle.std.specs.FinMap.{empty, get};
 ghost use Rattle.plant_config.specs.IsPlant.{IsPlant, IsDest};
 ghost use Rattle.crosspoint_state.specs.Taps.{AreTapsOf, ArePointsOf};
 ghost use Rattle.mixer_effects.specs.Buses.{switched_at};
 ghost use Rattle.mixer_effects.specs.Live.{is_live};
 ghost use Rattle.mixer_effects.specs.Wiring.{IsWiringOf};
+ghost use Rattle.tally.specs.Moved.{has_moved};
 ghost use Rattle.tally.specs.Kept.{IsKeptFor};
 
 use crate::of_plant_core::STUDIO;
@@ -35,6 +36,7 @@ fn follow<L: Ledger>(
     requires wired { IsWiringOf plant.now graph.now.wiring }
     requires tapped { AreTapsOf plant.now graph.now.crosspoints graph.now.taps }
     requires dest { IsDest plant.now change.now.dest }
+    requires moved { has_moved empty graph.now.crosspoints change.now.dest ≡ true }
     requires alone { (other : ℕ) → other ≢ change.now.dest
         → get graph.now.crosspoints other ≡ None }
     requires off { is_live plant.now empty plant.now.air change.now.dest ≡ false }
