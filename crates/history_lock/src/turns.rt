@@ -55,7 +55,7 @@ pub fn queue<M: Machine, R: Wait>(
         × IsQueued place.old.me ticket place.new.me) }
     ensures none { IfNone result (IsFull place.old.me place.new.me) }
 {
-    for _ in 0..TRIES {
+    for _ in 0..tries() {
         let serving = top.peek(0);
         if serving >= LIMIT {
             break;
@@ -71,8 +71,12 @@ pub fn queue<M: Machine, R: Wait>(
 /// The most entries of a history.
 pub const LIMIT: u64 = 1 << 62;
 
-// How often a caller looks for its turn before it takes a ticket in order.
-const TRIES: u32 = 64;
+// How often a caller tries for the turn that is on before it takes a ticket in order.
+fn tries() -> u32
+    ensures { result ≡ 64 }
+{
+    64
+}
 
 /// Waits until the seat's turn comes.
 pub fn take_turn<M: Machine, R: Wait>(
