@@ -173,6 +173,7 @@ module _ (plant : PlantData) (script : List ℕ) (made : Bor (List ℕ)) (read m
           later = [];
           place = sym (append-nil has.replay.actions);
           all = λ zero. refl;
+          whole = λ zero. has.appends;
           cut = λ other. absurd (other refl);
           given = just_texts shown.written shown.faults (packets_in plant has.replay.actions) none has.sends;
         },
@@ -199,12 +200,13 @@ module _ (plant : PlantData) (script : List ℕ) (made : Bor (List ℕ)) (read m
               later = has.later;
               place = has.place;
               all = λ zero. absurd (omega (arith, zero));
-              cut = λ other. has.appends;
+              whole = λ zero. absurd (omega (arith, zero));
+              cut = λ other. has.cut;
               given = just_texts shown.written shown.faults (packets_in plant has.front) none has.sends;
             },
           );
         });
-        comes = subst (λ (text : List ℕ). AppendsPart text before after) (sym lines) (longer-part (lines_in plant has.front) (lines_in plant has.later) before after has.appends);
+        comes = subst (λ (text : List ℕ). AppendsPart text before after) (sym lines) (longer-part (lines_in plant has.front) (lines_in plant has.later) before after has.cut.appends);
         faults = well_counted made.now read made_then now shown makes takes none;
       }
 
@@ -227,12 +229,13 @@ module _ (plant : PlantData) (script : List ℕ) (made : Bor (List ℕ)) (read m
             place = has.place;
             stops = begins;
             lines = refl;
+            wrote = inr (refl, has.cut);
             given = its_items shown.written shown.faults (packets_in plant has.front) has.sends;
           },
         );
       })),
     );
-    comes = longer-part (lines_in plant has.front) (file_fault made.now) before after has.appends;
+    comes = longer-part (lines_in plant has.front) (file_fault made.now) before after has.cut.appends;
     faults = once_counted made.now read made_then now shown makes takes (faulty shown.faults one);
   }
 
@@ -255,6 +258,7 @@ module _ (plant : PlantData) (script : List ℕ) (made : Bor (List ℕ)) (read m
             place = has.place;
             stops = (has.failed, has.later, refl, has.has_packet);
             lines = refl;
+            wrote = inl ([], has.appends ∙ ap (appended before) (sym (append-nil (lines_in plant has.front))));
             given = its_items shown.written shown.faults (packets_in plant has.front) has.sends;
           },
         );

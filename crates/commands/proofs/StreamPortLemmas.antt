@@ -105,7 +105,7 @@ module _ {K : Type 0} (name written : K → Option (List ℕ)) (faults : K → �
       front = streamed.front;
       later = streamed.later;
       place = streamed.place;
-      appends = streamed.appends;
+      cut = streamed.cut;
       sends = shows_packets port port_then file _ given streamed.sends;
       stops = subst (λ (count : ℕ). PortStops plant streamed.later count (faults (sink_of port_then.port))) new streamed.stops;
     }

@@ -1,10 +1,10 @@
 -- What works that are done one after the other send.
-use Rattle.std.proofs.Common.{◌≡◌, ℕ, List, [], ◌∷◌, ◌++◌, refl, sym, ◌∙◌, ap, subst, append_assoc, append-nil}
+use Rattle.std.proofs.Common.{◌≡◌, ℕ, ◌≤◌, List, [], ◌∷◌, ◌++◌, length, refl, sym, ◌∙◌, ap, subst, append_assoc, append-nil, arith}
 use Rattle.ctl_io.specs.Faults.{one_more}
 use Rattle.plant_config.specs.Plant.{PlantData}
 use Rattle.record_replay.specs.Script.{Work}
 use Rattle.record_replay.specs.Replay.{ReplayState}
-use Rattle.record_replay.specs.PortInside.{SendsAll, SendsUntil, packets_at, AllSent}
+use Rattle.record_replay.specs.PortInside.{SendsAll, SendsUntil, packets_at, AllSent, SentTo}
 use Rattle.record_replay.specs.ReplayerInside.{DoesWork}
 use Rattle.record_replay.specs.declared.replayer.Replayer.{Replayer}
 
@@ -26,6 +26,51 @@ AllSent-append plant (work ∷ works) later stand mid last text rest packets oth
   ap (λ (text : List ℕ). text ++ rest) done.6 ∙ append_assoc done.1 done.2 rest,
   ap (λ (packets : List (List ℕ)). packets ++ others) done.7 ∙ append_assoc (packets_at plant stand.state work) done.3 others,
 )
+
+-- Works that are done as a front and a last one are done one after the other.
+pub sent_all : (plant : PlantData) (works : List Work) (stand : ReplayState) (earlier output : List ℕ) (packets : List (List ℕ)) (last : ReplayState) → SentTo plant works stand earlier output packets last → AllSent plant works stand output packets last
+sent_all plant works stand earlier output packets last sent =
+    let Does : List Work → Type 0 = λ works. AllSent plant works stand output packets last in
+    let Says : List ℕ → Type 0 = λ output. AllSent plant (sent.first ++ sent.final) stand output packets last in
+    let Gives : List (List ℕ) → Type 0 = λ packets. AllSent plant (sent.first ++ sent.final) stand (earlier ++ sent.more) packets last in
+    subst Does (sym sent.works_are)
+    (subst Says (sym sent.output_is)
+    (subst Gives (sym sent.packets_are) (AllSent-append plant sent.first sent.final stand sent.mid last earlier sent.more sent.first_packets sent.more_packets sent.first_sent sent.final_sent)))
+
+-- No works are done,
+pub sent_nothing : (plant : PlantData) (stand : ReplayState) → SentTo plant [] stand [] [] [] stand
+sent_nothing plant stand = record {
+  first = [];
+  final = [];
+  works_are = refl;
+  one = omega arith;
+  mid = stand;
+  more = [];
+  first_packets = [];
+  more_packets = [];
+  first_sent = (refl, refl, refl);
+  final_sent = (refl, refl, refl);
+  output_is = refl;
+  packets_are = refl;
+}
+
+-- and one behind others.
+pub sent_one : (plant : PlantData) (works final : List Work) (stand mid last : ReplayState) (earlier output more : List ℕ) (packets others : List (List ℕ)) → length final ≤ 1 → SentTo plant works stand earlier output packets mid → AllSent plant final mid more others last
+    → SentTo plant (works ++ final) stand output (output ++ more) (packets ++ others) last
+sent_one plant works final stand mid last earlier output more packets others one sent done = record {
+  first = works;
+  final = final;
+  works_are = refl;
+  one = one;
+  mid = mid;
+  more = more;
+  first_packets = packets;
+  more_packets = others;
+  first_sent = sent_all plant works stand earlier output packets mid sent;
+  final_sent = done;
+  output_is = refl;
+  packets_are = refl;
+}
 
 -- A port that stays as it is was sent nothing.
 pub sends_none : {P : Type 0} (WasSent : P → List (List ℕ) → Type 0) (faults : P → ℕ) (port : P) → SendsAll WasSent faults [] port port

@@ -11,8 +11,9 @@ pub Puts-none : {K : Type 0} (written : K → Option (List ℕ)) (faults : K →
     → Puts written faults [] output output
 Puts-none written faults output = record {
   same_sink = refl;
-  puts = λ before count text h. subst
-      (λ (all : List ℕ). HasPut written faults before count all output) (sym (append-nil text)) h;
+  puts = λ before count begun text h. subst
+      (λ (all : List ℕ). HasPut written faults before count begun all output)
+      (sym (append-nil text)) h;
 }
 
 -- bytes that are put one after the other
@@ -21,9 +22,9 @@ pub Puts-more : {K : Type 0} (written : K → Option (List ℕ)) (faults : K →
     → Puts written faults b next last → Puts written faults (a ++ b) first last
 Puts-more written faults a b first next last h k = record {
   same_sink = k.same_sink ∙ h.same_sink;
-  puts = λ before count text p. subst
-      (λ (all : List ℕ). HasPut written faults before count all last) (append_assoc text a b)
-      (k.puts before count (text ++ a) (h.puts before count text p));
+  puts = λ before count begun text p. subst
+      (λ (all : List ℕ). HasPut written faults before count begun all last) (append_assoc text a b)
+      (k.puts before count begun (text ++ a) (h.puts before count begun text p));
 }
 
 -- the hexadecimal of bytes one after the other

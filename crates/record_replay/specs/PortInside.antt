@@ -1,5 +1,5 @@
 -- What was put into an output and sent to a port.
-use Rattle.std.specs.Prelude.{◌≡◌, ◌≢◌, ℕ, Bool, false, List, [], ◌∷◌, ◌++◌}
+use Rattle.std.specs.Prelude.{◌≡◌, ◌≢◌, ℕ, ◌≤◌, Bool, false, List, [], ◌∷◌, ◌++◌, length}
 use Rattle.ctl_io.specs.Faults.{one_more}
 use Rattle.plant_config.specs.Plant.{PlantData}
 use Rattle.plant_core.specs.State.{State}
@@ -39,6 +39,22 @@ AllSent plant (work ∷ works) stand output packets last =
     × AllSent plant works next rest later last
     × (output ≡ line ++ rest)
     × (packets ≡ packets_at plant stand.state work ++ later)
+
+-- So they lead there, and all but the last of them, or all, have this output before.
+pub record SentTo (plant : PlantData) (works : List Work) (stand : ReplayState)
+    (earlier output : List ℕ) (packets : List (List ℕ)) (last : ReplayState) : Type 0 where
+  pub first : List Work
+  pub final : List Work
+  pub works_are : works ≡ first ++ final
+  pub one : length final ≤ 1
+  pub mid : ReplayState
+  pub more : List ℕ
+  pub first_packets : List (List ℕ)
+  pub more_packets : List (List ℕ)
+  pub first_sent : AllSent plant first stand earlier first_packets mid
+  pub final_sent : AllSent plant final mid more more_packets last
+  pub output_is : output ≡ earlier ++ more
+  pub packets_are : packets ≡ first_packets ++ more_packets
 
 -- No works are left, unless the output failed.
 abbrev pub LeavesNone : Bool → ReplayState → List Work → Type 0

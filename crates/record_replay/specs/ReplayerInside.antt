@@ -12,7 +12,7 @@ use Rattle.panel_session.specs.Turns.{bytes_read}
 use Rattle.record_replay.specs.declared.replayer.Replayer.{Replayer}
 use Rattle.record_replay.specs.Script.{Work, Read, Leave, Show, lines, worked, LinesSpell}
 use Rattle.record_replay.specs.Replay.{ReplayState, Advances}
-use Rattle.record_replay.specs.PortInside.{packets_at, AllSent, LeavesPacket}
+use Rattle.record_replay.specs.PortInside.{packets_at, AllSent, SentTo, LeavesPacket}
 use Rattle.record_replay.specs.StandInside.{IsSettled}
 
 -- The session at the place of each panel stands for what the panel's session has done.
@@ -116,26 +116,28 @@ LineHasPacket plant line before =
     (stand : ReplayState) (used : ℕ) (works : List Work) → StandsAt plant before stand used
     → LinesSpell plant (worked (line ∷ [])) works → LeavesPacket plant stand works
 
--- Some of the works of a script were done, with this text and these packets, and this is left of the script, whose lines spell
--- the others.
+-- Some of the works of a script were done, with this text and these packets, and this text before the last of them. This is left
+-- of the script, whose lines spell the others.
 pub record IsOnTheWay (plant : PlantData) (works : List Work) (stand : ReplayState) (all : ℕ)
-    (rest : List ℕ) (now : Replayer) (IsPut : List ℕ → List (List ℕ) → Type 0) : Type 0 where
+    (rest : List ℕ) (now : Replayer) (IsPut : List ℕ → List ℕ → List (List ℕ) → Type 0)
+    : Type 0 where
   pub done : List Work
   pub left : List Work
   pub works_are : works ≡ done ++ left
   pub spelled : LinesSpell plant (worked (lines rest)) left
   pub next : ReplayState
+  pub earlier : List ℕ
   pub text : List ℕ
   pub packets : List (List ℕ)
-  pub put : IsPut text packets
-  pub all_sent : AllSent plant done stand text packets next
+  pub put : IsPut earlier text packets
+  pub sent : SentTo plant done stand earlier text packets next
   pub used : ℕ
   pub stands : StandsAt plant now next used
   pub within : used + length rest ≤ all
 
 -- So it is from wherever the replayer may have stood.
 abbrev pub PlaysOn : PlantData → List ℕ → List ℕ → Replayer → Replayer
-    → (List ℕ → List (List ℕ) → Type 0) → Type 0
+    → (List ℕ → List ℕ → List (List ℕ) → Type 0) → Type 0
 PlaysOn plant script rest before now IsPut =
     (stand : ReplayState) (used : ℕ) (works : List Work) → StandsAt plant before stand used
     → used + length script < 2 ^ 63
@@ -144,21 +146,21 @@ PlaysOn plant script rest before now IsPut =
 
 -- The works of a script were done, all of them or a front, behind which the others may still be done.
 pub record HasDoneScript (plant : PlantData) (works : List Work) (stand : ReplayState)
-    (Leaves : ReplayState → List Work → Type 0) (text : List ℕ) (packets : List (List ℕ))
-    : Type 0 where
+    (Leaves : ReplayState → List Work → Type 0) (earlier text : List ℕ)
+    (packets : List (List ℕ)) : Type 0 where
   pub done : List Work
   pub left : List Work
   pub works_are : works ≡ done ++ left
   pub next : ReplayState
-  pub all_sent : AllSent plant done stand text packets next
+  pub sent : SentTo plant done stand earlier text packets next
   pub settled : IsSettled plant next
   pub leaves : Leaves next left
 
 abbrev pub DoesScript : PlantData → List ℕ → Replayer → (ReplayState → List Work → Type 0)
-    → (List ℕ → List (List ℕ) → Type 0) → Type 0
+    → (List ℕ → List ℕ → List (List ℕ) → Type 0) → Type 0
 DoesScript plant script before Leaves IsPut =
     (stand : ReplayState) (used : ℕ) (works : List Work) → StandsAt plant before stand used
     → used + length script < 2 ^ 63
     → LinesSpell plant (worked (lines script)) works
-    → (text : List ℕ) × (packets : List (List ℕ)) × IsPut text packets
-    × HasDoneScript plant works stand Leaves text packets
+    → (earlier text : List ℕ) × (packets : List (List ℕ)) × IsPut earlier text packets
+    × HasDoneScript plant works stand Leaves earlier text packets

@@ -1,5 +1,5 @@
 -- What a replay sends to a port of the displays.
-use Rattle.std.specs.Prelude.{◌≡◌, ◌≢◌, ◌⊎◌, ℕ, ◌≤◌, true, Bool, false, List, [], ◌∷◌, ◌++◌, length, Option, Result, Ok, Err}
+use Rattle.std.specs.Prelude.{◌≡◌, ◌≢◌, ◌⊎◌, ℕ, ◌+◌, ◌≤◌, true, Bool, false, List, [], ◌∷◌, ◌++◌, length, Option, Result, Ok, Err}
 use Rattle.std.specs.List.{flat_map}
 use Rattle.ctl_io.specs.Faults.{one_more}
 use Rattle.ctl_io.specs.Sink.{appended, AppendsPart}
@@ -72,8 +72,24 @@ PortStops plant left count_before count_now =
     (count_now ≡ count_before)
     ⊎ ((count_now ≡ one_more count_before) × BeginWithPacket plant left)
 
+-- the most bytes of lines that wait to be written at once, 64 KiB
+abbrev pub most_waiting : ℕ
+most_waiting = 65536
+
+-- A write of the lines of these actions failed: a shorter front of them was given to a sink. No action came after the fault: before
+-- the last of these, all lines were given but at most what may wait.
+pub record StopsShort (plant : PlantData) (actions : List Action) (before now : Option (List ℕ))
+    : Type 0 where
+  pub appends : AppendsPart (lines_in plant actions) before now
+  pub earlier : List Action
+  pub last : List Action
+  pub actions_are : actions ≡ earlier ++ last
+  pub one : length last ≤ 1
+  pub waited : length (lines_in plant earlier) ≤ appends.count + most_waiting
+
 -- A port was sent the packets of the first actions of the script's history, and a sink was given a shorter front of their
--- lines: no line came before its packet. Where the port failed too, by its counts of faults, it did at the next action.
+-- lines: no line came before its packet, and nothing was done or sent after the write that failed. Where the port failed too,
+-- by its counts of faults, it did at the next action.
 pub record HasStreamedFront (plant : PlantData) (script : List ℕ) (before now : Option (List ℕ))
     (Sends : List (List ℕ) → Type 0) (count_before count_now : ℕ) : Type 0 where
   pub output : List ℕ
@@ -81,7 +97,7 @@ pub record HasStreamedFront (plant : PlantData) (script : List ℕ) (before now 
   pub front : List Action
   pub later : List Action
   pub place : replay.actions ≡ front ++ later
-  pub appends : AppendsPart (lines_in plant front) before now
+  pub cut : StopsShort plant front before now
   pub sends : Sends (packets_in plant front)
   pub stops : PortStops plant later count_before count_now
 

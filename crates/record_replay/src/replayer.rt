@@ -5,7 +5,7 @@ ghost use Rattle.std.specs.Prelude.{MatchOption};
 ghost use Rattle.std.specs.Bool.{OnTrue, OnFalse};
 ghost use Rattle.plant_config.specs.IsPlant.{IsPlant};
 ghost use Rattle.plant_config.specs.Screens.{has_screen};
-ghost use Rattle.record_replay.specs.OutputInside.{Puts};
+ghost use Rattle.record_replay.specs.OutputInside.{Puts, PutsLines};
 ghost use Rattle.record_replay.specs.Script.{Work, Read, Leave, Show, lines, worked, LinesSpell};
 ghost use Rattle.record_replay.specs.Replay.{begun};
 ghost use Rattle.record_replay.specs.Streamed.{TakesLamps};
@@ -83,11 +83,11 @@ impl<'p> Replayer<'p> {
         ensures same_sink { out.new.out.ghost_name ≡ out.old.out.ghost_name }
         ensures does { OnTrue result (DoesScript self.old.plant.now script.now self.old
             (LeavesNone out.new.failed)
-            (λ text packets. Puts K.written K.faults text out.old out.new
+            (λ earlier text packets. PutsLines K.written K.faults earlier text out.old out.new
             × SendsAll P.was_sent P.faults packets port.old port.new)) }
         ensures stops { OnFalse result (DoesScript self.old.plant.now script.now self.old
             (LeavesPacket self.old.plant.now)
-            (λ text packets. Puts K.written K.faults text out.old out.new
+            (λ earlier text packets. PutsLines K.written K.faults earlier text out.old out.new
             × SendsUntil P.was_sent P.faults packets port.old port.new)) }
     {
         let mut rest = script;

@@ -40,7 +40,8 @@ impl Room {
 
     // The bytes.
     pub(crate) fn bytes(&self) -> &[u8]
-        ensures { result.now ≡ self.now }
+        ensures value { result.now ≡ self.now }
+        ensures most { length result.now ≤ 65536 }
     {
         &self.bytes[..self.used]
     }

@@ -1,12 +1,12 @@
-use Rattle.std.proofs.Common.{rules, ℕ, List, [], length, sym, ◌∙◌, subst}
+use Rattle.std.proofs.Common.{◌≡◌, rules, ℕ, false, List, [], length, sym, ◌∙◌, subst}
 use Rattle.std.proofs.lemmas.List.{nil_from_length, append-nil}
 use Rattle.plant_config.specs.Plant.{PlantData}
 use Rattle.record_replay.specs.OutputInside.{Puts}
-use Rattle.record_replay.specs.OutputLaws.{Puts-none, Puts-more}
 use Rattle.record_replay.specs.Streamed.{TakesLamps}
 use Rattle.record_replay.specs.PortInside.{SendsAll, SendsUntil, LeavesNone}
 use Rattle.record_replay.specs.ReplayerInside.{MayDo, DoesLine, LineHasPacket}
 use Rattle.record_replay.specs.Script.{Work, lines, worked, LinesSpell}
+use Rattle.record_replay.proofs.OutputLemmas.{lines_none, lines_more, lines_stay}
 use Rattle.record_replay.proofs.SentLemmas.{sends_none, sends_more, sends_until}
 use Rattle.record_replay.proofs.WorkScriptLemmas.{begins, rest_may, goes_on, script_done, leaves_none, script_stops}
 use Rattle.record_replay.proofs.replayer.Replayer.work.Goals as goal
@@ -14,7 +14,7 @@ use Rattle.record_replay.proofs.replayer.Replayer.work.Goals as goal
 pub loop-out-init : goal.loop-out-init
 loop-out-init g c =
     begins c.args.self.now.plant.now c.args.script.now c.args.self.now _
-    (Puts-none g.K.Drain.written g.K.Drain.faults c.args.out.now, sends_none g.P.DisplayPort.was_sent g.P.DisplayPort.faults c.args.port.now)
+    (lines_none g.K.Drain.written g.K.Drain.faults c.args.out.now, sends_none g.P.DisplayPort.was_sent g.P.DisplayPort.faults c.args.port.now)
 
 pub work_first-requires-clause-names : goal.work_first-requires-clause-names
 work_first-requires-clause-names g c =
@@ -54,9 +54,8 @@ returns-in_default-clause-stops g c =
     let way = c.loop-out.invariant may.stand may.used c.requires.spelled.0 may.stands may.within c.requires.spelled.1 in
     let stop = c.in_default.ensures in
     script_stops c.args.self.now.plant.now c.args.script.now c.loop-out.rest.now stop.0 stop.1 c.args.self.now c.loop-out.self _ _
-    (λ text packets far. (
-      subst (λ (all : List ℕ). Puts g.K.Drain.written g.K.Drain.faults all c.args.out.now c.work_first.new.out) (append-nil text)
-          (Puts-more g.K.Drain.written g.K.Drain.faults text [] c.args.out.now c.loop-out.out c.work_first.new.out far.0 stop.4),
+    (λ earlier text packets far. (
+      lines_stay g.K.Drain.written g.K.Drain.faults earlier text c.args.out.now c.loop-out.out c.work_first.new.out far.0 stop.4,
       subst (λ (all : List (List ℕ)). SendsUntil g.P.DisplayPort.was_sent g.P.DisplayPort.faults all c.args.port.now c.work_first.new.port) (append-nil packets)
           (sends_until g.P.DisplayPort.was_sent g.P.DisplayPort.faults packets [] c.args.port.now c.loop-out.port c.work_first.new.port far.1 stop.5),
     ))
@@ -67,11 +66,12 @@ loop-out-preserved g c =
     let may = c.requires.may in
     let way = c.loop-out.invariant may.stand may.used c.requires.spelled.0 may.stands may.within c.requires.spelled.1 in
     let done = c.in-Some.ensures in
+    let unfailed : c.loop-out.out.failed ≡ false = let failed = c.failed.ensures in let on = c.if-not-failed.true in cc in
     let Put : List ℕ → List (List ℕ) → Type 0 = λ text packets. Puts g.K.Drain.written g.K.Drain.faults text c.loop-out.out c.work_first.new.out
     × SendsAll g.P.DisplayPort.was_sent g.P.DisplayPort.faults packets c.loop-out.port c.work_first.new.port in
     goes_on c.args.self.now.plant.now c.args.script.now c.loop-out.rest.now done.0 c.in-Some.behind.now c.args.self.now c.loop-out.self c.work_first.new.self _ Put _
-    (λ text more packets others far here. (
-      Puts-more g.K.Drain.written g.K.Drain.faults text more c.args.out.now c.loop-out.out c.work_first.new.out far.0 here.0,
+    (λ earlier text more packets others far here. (
+      lines_more g.K.Drain.written g.K.Drain.faults earlier text more c.args.out.now c.loop-out.out c.work_first.new.out unfailed far.0 here.0,
       sends_more g.P.DisplayPort.was_sent g.P.DisplayPort.faults packets others c.args.port.now c.loop-out.port c.work_first.new.port far.1 here.1,
     ))
     done.1.lines_are done.1.within c.loop-out.invariant (subst (λ (plant : PlantData). DoesLine plant done.0 c.loop-out.self c.work_first.new.self Put) way.stands.plant_is done.2)
