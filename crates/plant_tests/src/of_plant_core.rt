@@ -209,6 +209,8 @@ enum Work {
     Day,
     /// Rows of the last numbers, and two connects in turn, a hundred thousand times.
     Turns,
+    /// A source that all destinations but one carry goes on air and off, fifty thousand times.
+    Flips,
 }
 
 fn work_on(rt: &impl Abort, state: &mut PlantState, out: &mut OutBox<Answer>, work: Work)
@@ -221,7 +223,8 @@ fn work_on(rt: &impl Abort, state: &mut PlantState, out: &mut OutBox<Answer>, wo
         Work::Polls => displays::are_counted(rt, state, out),
         Work::QuietPolls => displays::are_quiet(rt, state, out, 500_000),
         Work::Day => day::passes(rt, state, out, 4_000),
-        Work::Turns => long_runs::take_turns(rt, state, out, 100_000),
+        Work::Turns => long_runs::go_wide(rt, state, out),
+        Work::Flips => long_runs::flip(rt, state, out),
     }
 }
 

@@ -137,7 +137,7 @@ const ROWS: [Row; 7] = [
 ];
 
 // A poll of screen 0.
-fn shows(refresh: bool) -> Request {
+pub(super) fn shows(refresh: bool) -> Request {
     Request::DisplayPoll { screen: 0, refresh }
 }
 
@@ -169,7 +169,7 @@ fn is_lamp(answer: &Answer, shown: &Shown) -> bool {
 }
 
 // Whether these are the lamps of displays that are shown this, and no more.
-fn are_lamps(answers: &[Answer], wanted: &[Shown]) -> bool {
+pub(super) fn are_lamps(answers: &[Answer], wanted: &[Shown]) -> bool {
     for (answer, shown) in answers.iter().zip(wanted) {
         if !is_lamp(answer, shown) {
             return false;
