@@ -25,13 +25,13 @@ pub fn read_service<'a>(words: &'a [String]) -> Option<Service<'a>>
         return None;
     };
     match first.as_str() {
-        "serve" => read_behind(others),
+        "serve" => read_arguments(others),
         _ => None,
     }
 }
 
 // The service that the words behind `serve` ask for.
-fn read_behind<'a>(words: &'a [String]) -> Option<Service<'a>>
+fn read_arguments<'a>(words: &'a [String]) -> Option<Service<'a>>
     ensures found { IfSome result
         (λ service. AskService (codes "serve" ∷ texts words.now) (service_of service)) }
     ensures only { (service : Asked) → AskService (codes "serve" ∷ texts words.now) service

@@ -41,7 +41,7 @@ use Rattle.plant_core.specs.Wide.{is_short_dest, is_short_source, tally_of, conn
 use Rattle.plant_core.specs.Short.{IsShortDest, IsShortSource, IsShortChange, StaysShort}
 use Rattle.plant_core.specs.Connects.{says, says_nothing, change_of, connected}
 use Rattle.plant_core.specs.Protecting.{owner_told, with_owners, protected, unprotected}
-use Rattle.plant_core.specs.Salvos.{stored_in, gone, message_place, no_place, told_place, entry_told, entry_answer}
+use Rattle.plant_core.specs.Salvos.{stored_in, gone, message_place, no_place, dest_place, entry_told, entry_answer}
 use Rattle.plant_core.specs.Step.{step, dest_of, dest_count, dumped_at, told_source, told_owner, notice_of}
 use Rattle.plant_core.proofs.Validity.{device-within}
 use Rattle.plant_core.proofs.DumpedLemmas.{dumped-IsSource, dumped-narrow}
@@ -66,8 +66,8 @@ standing-IsExtSource state at is = of_dest (dest_at state.plant at.matrix at.lev
     of_dest None = tt
     of_dest (Some dest) = number-IsExtSource state.plant (source_of state.crosspoints dest) is
 
-told_place-IsExtPoint : (plant : PlantData) (dest : ℕ) → IsPlant plant → IsExtPoint (told_place plant dest)
-told_place-IsExtPoint plant dest is = of_site (site_of dest_numbers plant dest) refl
+dest_place-IsExtPoint : (plant : PlantData) (dest : ℕ) → IsPlant plant → IsExtPoint (dest_place plant dest)
+dest_place-IsExtPoint plant dest is = of_site (site_of dest_numbers plant dest) refl
   where
     point : Site → places.Point
     point site = record { matrix = site.matrix; level = site.level; dest = site.number }
@@ -86,8 +86,8 @@ short-IsSource plant source short = by (option_and_then (source_number_of plant)
     by None short = tt
     by (Some number) short = short
 
-short-IsPoint : (plant : PlantData) (dest : ℕ) → IsPlant plant → IsShortDest plant dest → IsPoint (told_place plant dest)
-short-IsPoint plant dest is short = by (point_of plant dest) short (told_place-IsExtPoint plant dest is)
+short-IsPoint : (plant : PlantData) (dest : ℕ) → IsPlant plant → IsShortDest plant dest → IsPoint (dest_place plant dest)
+short-IsPoint plant dest is short = by (point_of plant dest) short (dest_place-IsExtPoint plant dest is)
   where
     by : (place : Option places.Point) → IfSome place (λ place. place.dest < 1024) → IsExtPoint (unwrap_or (option_map message_place place) no_place) → IsPoint (unwrap_or (option_map message_place place) no_place)
     by None short within = record { matrix = omega arith; level = omega arith; dest = omega arith }
@@ -158,12 +158,12 @@ All-one answer is = All-push IsSayable [] answer (All-nil IsSayable) is
 sayable-notice : (state : State) (panel : ℕ) (notice : Option (ℕ × Sort)) → next (board_of state.boards panel) ≡ notice → IsValid state → StaysShort state → All IsSayable (notice_of state notice)
 sayable-notice state panel None is valid short = All-nil IsSayable
 sayable-notice state panel (Some (dest, Source)) is valid short =
-    let at : Point = told_place state.plant dest in
-    All-one (told_source state at) (InRange-connected_of at (standing state at) (told_place-IsExtPoint state.plant dest valid.is_plant) (standing-IsExtSource state at valid.is_plant))
+    let at : Point = dest_place state.plant dest in
+    All-one (told_source state at) (InRange-connected_of at (standing state at) (dest_place-IsExtPoint state.plant dest valid.is_plant) (standing-IsExtSource state at valid.is_plant))
 sayable-notice state panel (Some (dest, Protect)) is valid short =
     let stands : has state.boards panel dest Protect ≡ true = (next-IsNext (board_of state.boards panel) dest Protect is).stood in
-    All-one (told_owner (told_place state.plant dest) (finite.get state.owners dest))
-    (sayable-owner (told_place state.plant dest) (finite.get state.owners dest) (short-IsPoint state.plant dest valid.is_plant (short.notices panel dest stands)) (owner-of state dest valid))
+    All-one (told_owner (dest_place state.plant dest) (finite.get state.owners dest))
+    (sayable-owner (dest_place state.plant dest) (finite.get state.owners dest) (short-IsPoint state.plant dest valid.is_plant (short.notices panel dest stands)) (owner-of state dest valid))
 
 sayable-connected : (state : State) (panel : ℕ) (made refused : Message) (change : Option Change) → InRange made → InRange refused → All IsSayable (connected state panel made refused change).answers
 sayable-connected state panel made refused None told kept = All-one (Say refused) kept

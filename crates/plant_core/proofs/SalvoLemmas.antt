@@ -23,7 +23,7 @@ use Rattle.plant_core.specs.declared.answer.Answer.{Answer}
 use Rattle.plant_core.specs.declared.answer.Answer.TheVariants.{Say}
 use Rattle.plant_core.specs.State.{State, IsValid, device_of, is_master}
 use Rattle.plant_core.specs.Connects.{says, says_nothing, change_of, are_permitted}
-use Rattle.plant_core.specs.Salvos.{stored_in, emptied, all_changed, gone, message_place, no_place, told_place, validity_at, entry_told}
+use Rattle.plant_core.specs.Salvos.{stored_in, emptied, all_changed, gone, message_place, no_place, dest_place, validity_at, entry_told}
 use Rattle.plant_core.specs.Step.{step}
 use Rattle.plant_core.specs.SalvoLaws.{IsTakenWhole, HasForeign, HasTies, OtherGroupsStay, IsGone, IsCleared, IsStoredNow}
 use Rattle.plant_core.proofs.Validity.{change_of-is}
@@ -142,8 +142,8 @@ store-not state panel item salvo at source full = go (change_of state.plant at s
     go (Some change) h full = stored-by state at source salvo change false h full
 
 -- the place of a destination that a place has is that place
-pub told_place-at : (plant : PlantData) (at : Point) (dest : ℕ) → IsPlant plant → dest_at plant at.matrix at.level at.dest ≡ Some dest → told_place plant dest ≡ at
-told_place-at plant at dest is found =
+pub dest_place-at : (plant : PlantData) (at : Point) (dest : ℕ) → IsPlant plant → dest_at plant at.matrix at.level at.dest ≡ Some dest → dest_place plant dest ≡ at
+dest_place-at plant at dest is found =
     ap (λ (o : Option places.Point). unwrap_or (option_map message_place o) no_place) (dest_at-point_of plant at.matrix at.level at.dest dest is found)
 
 -- entries
@@ -151,7 +151,7 @@ pub entry-told : (state : State) (panel item salvo index : ℕ) (at : Point) (so
     (step state (Told panel item (EntryAsk salvo index))).answers ≡ Say (Entry at source salvo index (validity_at (group_of state.groups salvo) index)) ∷ []
 entry-told state panel item salvo index at source change valid here asks =
     let parts = change_of-is state.plant at source change asks in
-    let place = told_place-at state.plant at change.dest valid.is_plant parts.0 in
+    let place = dest_place-at state.plant at change.dest valid.is_plant parts.0 in
     let number = wanted-number state.plant at source change.source valid.is_plant parts.1 in
     ap (λ (o : Option Change). Say (entry_told state.plant (group_of state.groups salvo) salvo index o) ∷ []) here
     ∙ (λ i. Say (Entry (place i) (number i) salvo index (validity_at (group_of state.groups salvo) index)) ∷ [])

@@ -20,7 +20,7 @@ use Rattle.change_boards.proofs.OneNotice.{next-IsNext, with_take-Takes}
 use Rattle.change_boards.proofs.NextLemmas.{next-None}
 use Rattle.plant_core.specs.declared.request.Request.TheVariants.{Poll}
 use Rattle.plant_core.specs.State.{State, IsValid}
-use Rattle.plant_core.specs.Salvos.{message_place, no_place, told_place}
+use Rattle.plant_core.specs.Salvos.{message_place, no_place, dest_place}
 use Rattle.plant_core.specs.Step.{step, dest_of, told_owner, told_for, notice_of}
 use Rattle.plant_core.specs.NoticeLaws.{Tells, PollTells}
 use Rattle.plant_core.proofs.Noticed.{past_none}
@@ -37,8 +37,8 @@ empty_has board dest Source is = ap (λ dests. contains dests dest) is.source �
 empty_has board dest Protect is = ap (λ dests. contains dests dest) is.protect ∙ contains-empty nat_cmp dest
 
 -- a destination's place has it
-pub told_place-is : (plant : PlantData) (dest : ℕ) → IsPlant plant → dest < destinations_of plant → dest_at plant (told_place plant dest).matrix (told_place plant dest).level (told_place plant dest).dest ≡ Some dest
-told_place-is plant dest is below = go (site_of dest_numbers plant dest) refl (IsSome-site_of dest_numbers plant (dests_are plant is) dest below)
+pub dest_place-is : (plant : PlantData) (dest : ℕ) → IsPlant plant → dest < destinations_of plant → dest_at plant (dest_place plant dest).matrix (dest_place plant dest).level (dest_place plant dest).dest ≡ Some dest
+dest_place-is plant dest is below = go (site_of dest_numbers plant dest) refl (IsSome-site_of dest_numbers plant (dests_are plant is) dest below)
   where
     point : Site → places.Point
     point site = record { matrix = site.matrix; level = site.level; dest = site.number }
@@ -46,7 +46,7 @@ told_place-is plant dest is below = go (site_of dest_numbers plant dest) refl (I
     place : Option Site → Point
     place site = unwrap_or (option_map message_place (option_map point site)) no_place
 
-    go : (site : Option Site) → site_of dest_numbers plant dest ≡ site → IsSome site → dest_at plant (told_place plant dest).matrix (told_place plant dest).level (told_place plant dest).dest ≡ Some dest
+    go : (site : Option Site) → site_of dest_numbers plant dest ≡ site → IsSome site → dest_at plant (dest_place plant dest).matrix (dest_place plant dest).level (dest_place plant dest).dest ≡ Some dest
     go None h some = cc
     go (Some site) h some =
         subst (λ (p : Point). dest_at plant p.matrix p.level p.dest ≡ Some dest) (sym (ap place h)) (site_of-number_at dest_numbers plant (dests_are plant is) dest site h)
@@ -72,16 +72,16 @@ next-below state panel None valid is = tt
 next-below state panel (Some (dest, sort)) valid is = valid.boards.below panel dest sort (next-IsNext (board_of state.boards panel) dest sort (sym is)).stood
 
 -- what a notice tells is what stands at the destination's place, or its owner
-notice-tells : (state : State) (dest : ℕ) (sort : Sort) → dest_of state (told_place state.plant dest) ≡ Some dest → Tells state (told_place state.plant dest) sort (told_for state dest sort)
+notice-tells : (state : State) (dest : ℕ) (sort : Sort) → dest_of state (dest_place state.plant dest) ≡ Some dest → Tells state (dest_place state.plant dest) sort (told_for state dest sort)
 notice-tells state dest Source place = refl
 notice-tells state dest Protect place =
-    ap (told_owner (told_place state.plant dest)) (sym (ap (option_and_then (finite.get state.owners)) place))
+    ap (told_owner (dest_place state.plant dest)) (sym (ap (option_and_then (finite.get state.owners)) place))
 
 pub told_next : (state : State) (panel dest : ℕ) (sort : Sort) (item turn : ℕ) → IsValid state → IsNextOf state panel dest sort → PollTells state panel item turn dest sort
 told_next state panel dest sort item turn valid is =
-    let place = told_place-is state.plant dest valid.is_plant is.below in
+    let place = dest_place-is state.plant dest valid.is_plant is.below in
     record {
-      at = told_place state.plant dest;
+      at = dest_place state.plant dest;
       place = place;
       told = told_for state dest sort;
       answer = ap (notice_of state) is.next_is;

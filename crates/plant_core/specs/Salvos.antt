@@ -68,8 +68,8 @@ abbrev pub no_place : Point
 no_place = record { matrix = 0; level = 0; dest = 0 }
 
 -- a destination's place as messages have it
-abbrev pub told_place : PlantData → ℕ → Point
-told_place plant dest = unwrap_or (option_map message_place (point_of plant dest)) no_place
+abbrev pub dest_place : PlantData → ℕ → Point
+dest_place plant dest = unwrap_or (option_map message_place (point_of plant dest)) no_place
 
 -- whether more entries follow the one of an index
 abbrev pub validity_at : Group → ℕ → Validity
@@ -79,7 +79,7 @@ validity_at group index = if nat_lt (index + 1) (length group) then More else La
 abbrev pub entry_told : PlantData → Group → ℕ → ℕ → Option Change → Message
 entry_told plant group salvo index None = Entry no_place (Some 0) salvo index NoEntry
 entry_told plant group salvo index (Some entry) =
-    Entry (told_place plant entry.dest) (option_and_then (source_number_of plant) entry.source)
+    Entry (dest_place plant entry.dest) (option_and_then (source_number_of plant) entry.source)
     salvo index (validity_at group index)
 
 abbrev pub entry_answer : State → ℕ → ℕ → Message

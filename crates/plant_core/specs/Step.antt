@@ -22,7 +22,7 @@ use Rattle.plant_core.specs.Connects.{says, says_nothing, change_of, connected}
 use Rattle.plant_core.specs.Wide.{is_wide, tally_of, connected_of}
 use Rattle.plant_core.specs.Protecting.{owner_told, protected, unprotected}
 use Rattle.plant_core.specs.Displays.{display_polled}
-use Rattle.plant_core.specs.Salvos.{stored_in, gone, entry_answer, told_place}
+use Rattle.plant_core.specs.Salvos.{stored_in, gone, entry_answer, dest_place}
 
 -- how many destinations of a level are dumped: none where the plant has no such level, or it is wide
 abbrev pub dest_count : PlantData → ℕ → ℕ → ℕ
@@ -76,8 +76,8 @@ told_owner at None = Say (owner_told ProtectDisconnected at None)
 
 -- What a panel is told for a notice: which source stands at the destination by now, or which device protects it.
 abbrev pub told_for : State → ℕ → Sort → Answer
-told_for state dest Source = told_source state (told_place state.plant dest)
-told_for state dest Protect = told_owner (told_place state.plant dest) (get state.owners dest)
+told_for state dest Source = told_source state (dest_place state.plant dest)
+told_for state dest Protect = told_owner (dest_place state.plant dest) (get state.owners dest)
 
 abbrev pub notice_of : State → Option (ℕ × Sort) → List Answer
 notice_of state None = []

@@ -50,7 +50,7 @@ impl PlantState {
         requires { dest < destinations_of self.now.plant }
         ensures { result ≡ told_for self.now dest sort }
     {
-        let at = self.told_place(dest);
+        let at = self.dest_place(dest);
         Answer::Say(match sort {
             Sort::Source => connected_of(at, self.standing(at)),
             Sort::Protect => match self.owner(dest) {

@@ -10,7 +10,7 @@ pub enum Request {
     /// A panel sent this message, as the item of this number of its session.
     Told {
         panel: PanelNo,
-        at: u64,
+        item: u64,
         message: Message,
     },
     /// A panel may be told of a change, after so many items of its session, in the turn of this number.

@@ -3,7 +3,7 @@
 ghost use Rattle.std.specs.Prelude.{◌≡◌, ◌<◌, true, false, IfSome, IfOk, IfErr};
 ghost use Rattle.std.specs.Option.{option_and_then};
 ghost use Rattle.swp08_messages.specs.declared.message.Message.TheVariants.{Go, GoDone};
-ghost use Rattle.plant_config.specs.Plant.{destinations_of, sources_of};
+ghost use Rattle.plant_config.specs.Plant.{sources_of};
 ghost use Rattle.plant_config.specs.Sites.{source_number_of};
 ghost use Rattle.crosspoint_state.specs.Applied.{are_enough};
 ghost use Rattle.tie_pools.specs.Reserve.{are_enough_for};
@@ -16,16 +16,15 @@ ghost use Rattle.plant_core.specs.State.{IsValid, IsChangeOf, device_of, is_mast
 ghost use Rattle.plant_core.specs.Short.{IsShortChange};
 ghost use Rattle.plant_core.specs.Connects.{are_permitted, change_of};
 ghost use Rattle.plant_core.specs.Salvos.{stored_in, emptied, all_changed, entry_answer};
-ghost use Rattle.plant_core.specs.Salvos.{told_place, validity_at};
+ghost use Rattle.plant_core.specs.Salvos.{validity_at};
 ghost use Rattle.plant_core.specs.Step.{answered};
 ghost use Rattle.plant_core.specs.AnswerInside.{SaysJust, SaysAtMost};
 
 use crate::connect::are_permitted;
 use crate::due::follow_changes;
 use crate::notify::notify_moved;
-use crate::place::message_place;
 use crate::state::PlantState;
-use plant_config::{Change, DestId, PanelNo, SourceId};
+use plant_config::{Change, PanelNo, SourceId};
 use salvo_groups::Store;
 use swp08_messages::{GoStatus, Message, Point, Validity};
 use tie_pools::{Exhausted, Planned};
@@ -169,8 +168,8 @@ impl PlantState {
     {
         match self.groups.entry(salvo, u32::from(index)) {
             Some(entry) => Message::Entry {
-                at: self.told_place(entry.dest),
-                source: self.number_of(entry.source),
+                at: self.dest_place(entry.dest),
+                source: self.entry_source_number(entry.source),
                 salvo,
                 index,
                 validity: self.validity(salvo, index),
@@ -198,18 +197,10 @@ impl PlantState {
     }
 
     // The number, in its level, of the source that an entry gives.
-    fn number_of(&self, source: Option<SourceId>) -> Option<u16>
+    fn entry_source_number(&self, source: Option<SourceId>) -> Option<u16>
         requires { IfSome source (λ source. source < sources_of self.now.plant) }
         ensures { result ≡ option_and_then (source_number_of self.now.plant) source }
     {
         Some(self.plant.source_number(source?))
-    }
-
-    // A destination's place as messages have it.
-    pub(crate) fn told_place(&self, dest: DestId) -> Point
-        requires { dest < destinations_of self.now.plant }
-        ensures { result ≡ told_place self.now.plant dest }
-    {
-        message_place(self.plant.point(dest))
     }
 }

@@ -18,7 +18,7 @@ ghost use Rattle.plant_core.specs.AnswerInside.{AsksOther, SaysAtMost};
 use crate::answer::{Answer, put};
 use crate::place::place_of;
 use crate::request::Request;
-use crate::tables::{Beside, Tables};
+use crate::tables::{Indexes, Tables};
 use crate::wide::{is_wide, tells_source};
 use change_boards::{Notices, Shown};
 use crosspoint_state::Crosspoints;
@@ -88,7 +88,7 @@ impl PlantState {
         let groups = Groups::new(alloc)?;
         let protects = Protects::new(alloc, destinations)?;
         let crosspoints = Crosspoints::new(alloc, plant)?;
-        let beside = Beside::new(alloc, plant)?;
+        let indexes = Indexes::new(alloc, plant)?;
         let plant = plant.copy(alloc)?;
         Ok(PlantState {
             plant,
@@ -97,8 +97,8 @@ impl PlantState {
             groups,
             notices,
             shown,
-            tables: beside.tables,
-            due: beside.due,
+            tables: indexes.tables,
+            due: indexes.due,
         })
     }
 

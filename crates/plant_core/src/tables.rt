@@ -36,25 +36,25 @@ pub(crate) struct Tables {
 
 /// What is kept beside a state: its tables, and which displays are due.
 #[derive(Debug, Drop)]
-pub(crate) struct Beside {
+pub(crate) struct Indexes {
     pub(crate) tables: Box<Tables>,
     pub(crate) due: Box<DueDisplays>,
 }
 
-impl Beside {
+impl Indexes {
     // What is kept for a plant of which all destinations are parked: all displays are due.
-    pub(crate) fn new(alloc: Global, plant: &Plant) -> Result<Beside, AllocError>
+    pub(crate) fn new(alloc: Global, plant: &Plant) -> Result<Indexes, AllocError>
         requires { IsPlant plant.now }
         ensures tables { IfOk result
-            (λ beside. AreTablesOf plant.now empty beside.tables.value) }
-        ensures due { IfOk result (λ beside. AreDueOf plant.now beside.due.value) }
-        ensures all { IfOk result (λ beside.
+            (λ indexes. AreTablesOf plant.now empty indexes.tables.value) }
+        ensures due { IfOk result (λ indexes. AreDueOf plant.now indexes.due.value) }
+        ensures all { IfOk result (λ indexes.
             (display : ℕ) → display < length plant.now.displays
-            → is_due plant.now beside.due.value display ≡ true) }
+            → is_due plant.now indexes.due.value display ≡ true) }
     {
         let tables = Box::new(alloc, Tables::new(alloc, plant)?)?;
         let due = Box::new(alloc, DueDisplays::new(alloc, plant, &tables.screens)?)?;
-        Ok(Beside { tables, due })
+        Ok(Indexes { tables, due })
     }
 }
 

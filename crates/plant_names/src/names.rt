@@ -77,7 +77,7 @@ impl Names {
     }
 
     // The names of the lowest level of a matrix, where the plant has the matrix.
-    fn lowest(&self, matrix: u8) -> Option<&LevelNames>
+    fn lowest_level_names(&self, matrix: u8) -> Option<&LevelNames>
         ensures names { option_copied result
             ≡ option_map (named self.now) (lowest_level self.now matrix) }
         ensures limits { IfSome result (λ names. IsNamed names.now) }
@@ -159,7 +159,7 @@ impl Names {
         ensures room { vec_capacity out.new ≡ vec_capacity out.old }
         ensures most { vec_len out.new ≤ vec_len out.old + max_page_len }
     {
-        let Some(names) = self.lowest(matrix) else {
+        let Some(names) = self.lowest_level_names(matrix) else {
             return Paged::Nothing;
         };
         let head = PageHead {

@@ -95,7 +95,7 @@ fn request_of(panel: u32, at: Point, act: Act) -> Request {
     };
     Request::Told {
         panel,
-        at: 7,
+        item: 7,
         message,
     }
 }

@@ -247,7 +247,7 @@ fn read_any(bytes: &[u8]) -> Result<Message, ReadFault>
     let [command, behind @ ..] = bytes else {
         return Err(ReadFault::WrongLength(0, 1));
     };
-    let Some(message) = read_behind(*command, behind) else {
+    let Some(message) = read_unchecked(*command, behind) else {
         return Err(ReadFault::UnknownCommand(*command));
     };
     match message.fault(behind) {
@@ -258,7 +258,7 @@ fn read_any(bytes: &[u8]) -> Result<Message, ReadFault>
 
 // The message of a command by the bytes behind it as they come, a missing one taken as 0: they are then held to its row.
 // `None` where no message has the command.
-fn read_behind(command: u8, behind: &[u8]) -> Option<Message>
+fn read_unchecked(command: u8, behind: &[u8]) -> Option<Message>
     ensures { result ≡ message_of command behind.now }
 {
     crosspoints::read(command, behind)

@@ -46,10 +46,10 @@ fn take_told<'t>(plant: &Plant, text: &'t [u8]) -> Option<(Request, &'t [u8])>
         → IsSomeAnd result (λ found. (found.0 ≡ requests.Told panel item message)
         × (found.1.now ≡ behind)) }
 {
-    let Some((panel, item)) = take_panel(plant, text) else {
+    let Some((panel, numbered)) = take_panel(plant, text) else {
         return None;
     };
-    let Some((at, told)) = take_number(item) else {
+    let Some((item, told)) = take_number(numbered) else {
         return None;
     };
     let Some((message, rest)) = take_message(told) else {
@@ -58,7 +58,7 @@ fn take_told<'t>(plant: &Plant, text: &'t [u8]) -> Option<(Request, &'t [u8])>
     Some((
         Request::Told {
             panel: PanelNo::of(panel),
-            at,
+            item,
             message,
         },
         rest,

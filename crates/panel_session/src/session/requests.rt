@@ -15,7 +15,7 @@ impl Session<'_> {
     {
         Request::Told {
             panel: self.panel,
-            at: self.items.wrapping_sub(1),
+            item: self.items.wrapping_sub(1),
             message,
         }
     }

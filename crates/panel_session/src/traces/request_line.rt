@@ -25,7 +25,11 @@ pub(crate) fn append_request(request: &Request, spelled: &mut Vec<u8>, out: &mut
     ensures spelled { vec_capacity spelled.new ≡ vec_capacity spelled.old }
 {
     match *request {
-        Request::Told { panel, at, message } => append_told(panel, at, message, spelled, out),
+        Request::Told {
+            panel,
+            item,
+            message,
+        } => append_told(panel, item, message, spelled, out),
         Request::Poll { panel, at, turn } => append_poll(panel, at, turn, out),
         Request::Leave { panel } => append_leave(panel, out),
         Request::DisplayPoll { screen, refresh } => append_show(screen, refresh, out),

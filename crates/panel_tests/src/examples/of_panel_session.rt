@@ -31,7 +31,7 @@ fn an_interrogate_is_told(
     assert!(rt; session.outgoing() == b"\x10\x06".as_slice());
     let told = Request::Told {
         panel: PanelNo::of(0),
-        at: 0,
+        item: 0,
         message: Message::Interrogate { at },
     };
     assert!(rt; session.act(&[]) == (0, Act::Ask(told)));
@@ -93,7 +93,7 @@ fn an_entry_has_its_line(rt: HostRuntime) -> Result<(), Fail> {
     };
     let told = Request::Told {
         panel: PanelNo::of(0),
-        at: 0,
+        item: 0,
         message: Message::Interrogate { at },
     };
     let tally = Answer::Say(Message::Tally { at, source: None });

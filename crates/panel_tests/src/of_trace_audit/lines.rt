@@ -48,7 +48,7 @@ fn are_read(rt: &impl Abort, plant: &Plant) {
     let panel = PanelNo::of(1);
     let told = Request::Told {
         panel,
-        at: LIMIT,
+        item: LIMIT,
         message: CONNECT,
     };
     let line = b"0 told 1 4611686018427387904 0200000503 = 1002040000050305EF1003";

@@ -41,7 +41,7 @@ fn is_heard(rt: &impl Abort, alloc: Global, state: &mut PlantState) -> Result<()
 
     let connect = Request::Told {
         panel: PanelNo::of(1),
-        at: 0,
+        item: 0,
         message: Message::Connect { at, source },
     };
     is_answered(rt, state, &mut out, &connect, &[Answer::Say(made)]);

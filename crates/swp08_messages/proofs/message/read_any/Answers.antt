@@ -6,7 +6,7 @@ use Rattle.swp08_messages.proofs.ReadingLemmas.{one_message}
 use Rattle.swp08_messages.proofs.RefusedLemmas.{not_both, one_fault}
 use Rattle.swp08_messages.proofs.FaultLemmas.{data_ok, data_err, data_unknown, head}
 use Rattle.swp08_messages.proofs.message.read_any.Goals as goal
-use Rattle.swp08_messages.proofs.message.read_any.Goals.{In-None, In-Some-fault, In_default-read_behind}
+use Rattle.swp08_messages.proofs.message.read_any.Goals.{In-None, In-Some-fault, In_default-read_unchecked}
 
 -- DATA of which no byte is wrong spells what was read.
 spells : (c : In-None) → Spells c.args.bytes.now c.in-Some.message
@@ -39,16 +39,16 @@ pub returns-in-Some-fault-clause-only_err : goal.returns-in-Some-fault-clause-on
 returns-in-Some-fault-clause-only_err c = λ fault other. ap (λ f. Err f) (one_fault c.args.bytes.now _ fault (refused c) other)
 
 -- DATA that no message's command begins is refused.
-unknown : (c : In_default-read_behind) → HasUnknownCommand c.args.bytes.now (head c.args.bytes.now)
-unknown c = data_unknown c.args.bytes.now c.in-len1-up.len_at_least (sym c.in_default-read_behind.ensures)
+unknown : (c : In_default-read_unchecked) → HasUnknownCommand c.args.bytes.now (head c.args.bytes.now)
+unknown c = data_unknown c.args.bytes.now c.in-len1-up.len_at_least (sym c.in_default-read_unchecked.ensures)
 
-pub returns-in_default-read_behind-clause-read : goal.returns-in_default-read_behind-clause-read
-returns-in_default-read_behind-clause-read c = unknown c
+pub returns-in_default-read_unchecked-clause-read : goal.returns-in_default-read_unchecked-clause-read
+returns-in_default-read_unchecked-clause-read c = unknown c
 
-pub returns-in_default-read_behind-clause-only_ok : goal.returns-in_default-read_behind-clause-only_ok
-returns-in_default-read_behind-clause-only_ok c = λ message spells.
+pub returns-in_default-read_unchecked-clause-only_ok : goal.returns-in_default-read_unchecked-clause-only_ok
+returns-in_default-read_unchecked-clause-only_ok c = λ message spells.
     absurd (not_both c.args.bytes.now message (UnknownCommand (head c.args.bytes.now)) spells (unknown c))
 
-pub returns-in_default-read_behind-clause-only_err : goal.returns-in_default-read_behind-clause-only_err
-returns-in_default-read_behind-clause-only_err c = λ fault other.
+pub returns-in_default-read_unchecked-clause-only_err : goal.returns-in_default-read_unchecked-clause-only_err
+returns-in_default-read_unchecked-clause-only_err c = λ fault other.
     ap (λ f. Err f) (one_fault c.args.bytes.now (UnknownCommand (head c.args.bytes.now)) fault (unknown c) other)

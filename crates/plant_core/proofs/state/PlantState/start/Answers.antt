@@ -13,6 +13,6 @@ invariant_of-result c = record {
     crosspoints = rw c.in_ok-plant.ensures.equal c.in_ok-crosspoints.ensures.kept;
     protects = c.in_ok-protects.ensures.room ∙ c.destination_count-destinations.ensures.count ∙ ap destinations_of (sym c.in_ok-plant.ensures.equal);
   };
-  beside = rw (c.in_ok-crosspoints.ensures.parked, c.in_ok-plant.ensures.equal) c.in_ok-beside.ensures.tables;
-  due = rw c.in_ok-plant.ensures.equal (kept_start c.args.plant.now _ _ _ c.in_ok-beside.ensures.due c.in_ok-beside.ensures.all);
+  beside = rw (c.in_ok-crosspoints.ensures.parked, c.in_ok-plant.ensures.equal) c.in_ok-indexes.ensures.tables;
+  due = rw c.in_ok-plant.ensures.equal (kept_start c.args.plant.now _ _ _ c.in_ok-indexes.ensures.due c.in_ok-indexes.ensures.all);
 }

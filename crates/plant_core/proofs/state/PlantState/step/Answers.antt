@@ -16,7 +16,7 @@ sayable_items state request items valid short fits are = subst (All IsSayable) (
 
 pub returns-in-Told-clause-count : goal.returns-in-Told-clause-count
 returns-in-Told-clause-count c =
-    let told : Request = Told c.in-Told.panel c.in-Told.at c.in-Told.message in
+    let told : Request = Told c.in-Told.panel c.in-Told.item c.in-Told.message in
     let fits = subst (Fits c.args.self.now) c.in-Told.is c.requires.fits in
     subst (λ (request : Request). IsAnswerCount c.args.self.now.plant request (length c.answer.new.out.items)) (sym c.in-Told.is)
     (subst (λ (items : List Answer). IsAnswerCount c.args.self.now.plant told (length items)) (sym c.answer.ensures.answers) (answer_count c.args.self.now told fits))
@@ -24,7 +24,7 @@ returns-in-Told-clause-count c =
 pub returns-in-Told-clause-sayable : goal.returns-in-Told-clause-sayable
 returns-in-Told-clause-sayable c =
     let fits = subst (Fits c.args.self.now) c.in-Told.is c.requires.fits in
-    sayable_items c.args.self.now (Told c.in-Told.panel c.in-Told.at c.in-Told.message) _ c.answer.ensures.valid c.is_kept.ensures.short fits c.answer.ensures.answers
+    sayable_items c.args.self.now (Told c.in-Told.panel c.in-Told.item c.in-Told.message) _ c.answer.ensures.valid c.is_kept.ensures.short fits c.answer.ensures.answers
 
 pub returns-in-Some-clause-sayable : goal.returns-in-Some-clause-sayable
 returns-in-Some-clause-sayable c =

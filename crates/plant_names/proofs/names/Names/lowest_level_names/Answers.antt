@@ -4,7 +4,7 @@ use Rattle.std.proofs.lemmas.Option.{get_or_from_slice_get}
 use Rattle.plant_names.specs.Pages.{lowest_level}
 use Rattle.plant_names.specs.NamesInside.{named}
 use Rattle.plant_names.proofs.LevelLemmas.{lowest_level-none, level_among-lowest}
-use Rattle.plant_names.proofs.names.Names.lowest.Goals as goal
+use Rattle.plant_names.proofs.names.Names.lowest_level_names.Goals as goal
 
 pub returns-then-matrix-ge16-clause-names : goal.returns-then-matrix-ge16-clause-names
 returns-then-matrix-ge16-clause-names c =
