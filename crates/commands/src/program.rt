@@ -1,6 +1,5 @@
 //! The top call.
 
-ghost use Rattle.panel_server.specs.PlantServed.{net_shows};
 ghost use Rattle.commands.specs.World.{world};
 ghost use Rattle.command_words.specs.Words.{texts};
 ghost use Rattle.commands.specs.Run.{EndsUnworded};
@@ -37,8 +36,7 @@ pub fn run<R: Threads + Wait + Sync, F: Files, N: Net, G: Gate, K: Sink>(
     ensures { ProgramEnds N.P.was_sent N.P.faults (texts words.now)
         (world F.held F.custody F.faults K.written K.faults files.old out.old)
         (world F.held F.custody F.faults K.written K.faults files.new out.new)
-        (net_shows N.openings N.acceptors N.ports N.open_faults N.close_faults net.old)
-        (net_shows N.openings N.acceptors N.ports N.open_faults N.close_faults net.new)
+        (N.shows net.old) (N.shows net.new)
         result }
 {
     if let Some(drill) = read_drill(words) {

@@ -2,7 +2,6 @@
 
 ghost use Rattle.std.specs.Prelude.{◌≡◌, None, Some, IfErr, IfOk, OnErr};
 ghost use Rattle.ctl_io.specs.Faults.{count_after};
-ghost use Rattle.panel_server.specs.PlantServed.{net_shows};
 ghost use Rattle.commands.specs.declared.stop.Stop.TheVariants.{NoMemory};
 ghost use Rattle.commands.specs.World.{Snapshot, snapshot_of};
 ghost use Rattle.command_words.specs.Words.{texts};
@@ -47,8 +46,7 @@ pub(crate) fn work_service<'a, R: Threads + Wait + Sync, F: Files, N: Net, G: Ga
         (ServiceEnds N.P.was_sent N.P.faults (service_of service.now)
         (snapshot_of F.held F.custody F.faults files.old)
         (snapshot_of F.held F.custody F.faults files.new)
-        (net_shows N.openings N.acceptors N.ports N.open_faults N.close_faults net.old)
-        (net_shows N.openings N.acceptors N.ports N.open_faults N.close_faults net.new))
+        (N.shows net.old) (N.shows net.new))
         (K.written out.old) (K.written out.new) }
     ensures output_count { K.faults out.new
         ≡ count_after (stopped_by_output result) (K.faults out.old) }
@@ -77,15 +75,13 @@ fn serve_plant<'a, R: Threads + Wait + Sync, F: Files, N: Net, G: Gate>(
         (prefix_of prefix.entry)
         (snapshot_of F.held F.custody F.faults files.old)
         (snapshot_of F.held F.custody F.faults files.new)
-        (net_shows N.openings N.acceptors N.ports N.open_faults N.close_faults net.old)
-        (net_shows N.openings N.acceptors N.ports N.open_faults N.close_faults net.new)
+        (N.shows net.old) (N.shows net.new)
         (answered_end (texts outcome.names.items) outcome.answer)) }
     ensures stopped { IfErr result (λ stop. StopsUnserved stop
         (PlantServiceEnds N.P.was_sent N.P.faults plant.now (prefix_of prefix.entry)
         (snapshot_of F.held F.custody F.faults files.old)
         (snapshot_of F.held F.custody F.faults files.new)
-        (net_shows N.openings N.acceptors N.ports N.open_faults N.close_faults net.old)
-        (net_shows N.openings N.acceptors N.ports N.open_faults N.close_faults net.new))) }
+        (N.shows net.old) (N.shows net.new))) }
 {
     let Ok(names) = Names::new(alloc, plant) else {
         return Err(Stop::NoMemory);
@@ -112,15 +108,13 @@ fn serve_traced<'a, R: Threads + Wait + Sync, F: Files, N: Net, G: Gate>(
         (Some prefix.now)
         (snapshot_of F.held F.custody F.faults files.old)
         (snapshot_of F.held F.custody F.faults files.new)
-        (net_shows N.openings N.acceptors N.ports N.open_faults N.close_faults net.old)
-        (net_shows N.openings N.acceptors N.ports N.open_faults N.close_faults net.new)
+        (N.shows net.old) (N.shows net.new)
         (answered_end (texts outcome.names.items) outcome.answer)) }
     ensures stopped { IfErr result (λ stop. StopsUnserved stop
         (PlantServiceEnds N.P.was_sent N.P.faults plant.now (Some prefix.now)
         (snapshot_of F.held F.custody F.faults files.old)
         (snapshot_of F.held F.custody F.faults files.new)
-        (net_shows N.openings N.acceptors N.ports N.open_faults N.close_faults net.old)
-        (net_shows N.openings N.acceptors N.ports N.open_faults N.close_faults net.new))) }
+        (N.shows net.old) (N.shows net.new))) }
 {
     let Ok(mut trace_names) = trace_names(alloc, prefix, plant.panels().len()) else {
         return Err(Stop::NoMemory);
@@ -152,13 +146,11 @@ fn serve_untraced<'a, R: Threads + Wait + Sync, N: Net, G: Gate>(
     requires names { names.now ≡ plant.now }
     ensures served { (files : Snapshot) → IfOk result (λ outcome. EndsServed N.P.was_sent
         N.P.faults plant.now None files files
-        (net_shows N.openings N.acceptors N.ports N.open_faults N.close_faults net.old)
-        (net_shows N.openings N.acceptors N.ports N.open_faults N.close_faults net.new)
+        (N.shows net.old) (N.shows net.new)
         (answered_end (texts outcome.names.items) outcome.answer)) }
     ensures no_memory { IfErr result (λ stop. stop ≡ NoMemory) }
     ensures untouched { OnErr result
-        (net_shows N.openings N.acceptors N.ports N.open_faults N.close_faults net.new
-        ≡ net_shows N.openings N.acceptors N.ports N.open_faults N.close_faults net.old) }
+        (N.shows net.new ≡ N.shows net.old) }
 {
     let Ok(traces) = vec![in alloc; Dropped; plant.panels().len() + 1] else {
         return Err(Stop::NoMemory);

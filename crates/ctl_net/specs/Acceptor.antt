@@ -7,6 +7,7 @@ use Rattle.ctl_io.specs.Sink.{IsUnwritten}
 use Rattle.ctl_net.specs.Link.{IsUnread}
 use Rattle.ctl_net.specs.declared.acceptor.Next.{Next}
 use Rattle.ctl_net.specs.declared.acceptor.Next.TheVariants.{One, NoMore, Failed}
+use Rattle.ctl_net.specs.declared.opening.Opening.{Opening}
 
 -- what a link shows when it is given back: what was written, its count of failed writes, and its read half
 pub record LinkEnd : Type 0 where
@@ -20,6 +21,15 @@ link_end written write_faults read_half = record {
   write_faults = write_faults;
   read_half = read_half;
 }
+
+-- What an acceptor shows: the opening that made it, or none, if no net opened it; how many sessions are left; the links that it
+-- handed out and took back; how often the next link couldn't be handed out, and how often a link with faults was given back.
+pub record AcceptorData : Type 0 where
+  pub opening : Option Opening
+  pub sessions : ℕ
+  pub links : Custody LinkEnd
+  pub next_faults : ℕ
+  pub done_faults : ℕ
 
 -- whether a read or a write of a link failed
 abbrev pub is_faulty_link : ℕ → ReadHalf → Bool

@@ -4,7 +4,7 @@ use Rattle.std.specs.List.{AllByRecursion}
 use Rattle.ctl_io.specs.Calls.{Calls, next_fails, called, uncalled}
 use Rattle.ctl_io.specs.Custody.{Custody}
 use Rattle.ctl_io.specs.Faults.{count_after}
-use Rattle.ctl_net.specs.Acceptor.{LinkEnd, link_end, is_faulty_link, next_failed}
+use Rattle.ctl_net.specs.Acceptor.{AcceptorData, LinkEnd, link_end, is_faulty_link, next_failed}
 use Rattle.ctl_net.specs.MemLink.{LinkState, IsNewLink, read_half_of}
 use Rattle.ctl_net.specs.declared.acceptor.Next.{Next}
 use Rattle.ctl_net.specs.declared.acceptor.Next.TheVariants as next
@@ -85,6 +85,16 @@ after_done link acceptor = record acceptor {
 -- the custody of its links
 abbrev pub links_of : AcceptorState → Custody LinkEnd
 links_of acceptor = record { out = acceptor.out; back = Some (map end_of acceptor.back) }
+
+-- what it shows
+abbrev pub shown_acceptor : AcceptorState → AcceptorData
+shown_acceptor acceptor = record {
+  opening = acceptor.opening;
+  sessions = acceptor.sessions;
+  links = links_of acceptor;
+  next_faults = acceptor.calls.faults;
+  done_faults = acceptor.done_faults;
+}
 
 -- No call was made of the links.
 abbrev pub AreNewLinks : List LinkState → Type 0

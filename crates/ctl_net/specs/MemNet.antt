@@ -5,9 +5,9 @@ use Rattle.std.specs.Option.{option_map, option_map_or}
 use Rattle.ctl_io.specs.Calls.{Calls, next_fails, called, uncalled}
 use Rattle.ctl_io.specs.Custody.{Custody}
 use Rattle.ctl_io.specs.Faults.{count_after, is_faulty}
-use Rattle.ctl_net.specs.MemAcceptor.{AcceptorState, IsNewAcceptor, links_of, opened_as}
+use Rattle.ctl_net.specs.MemAcceptor.{AcceptorState, IsNewAcceptor, opened_as, shown_acceptor}
 use Rattle.ctl_net.specs.MemPort.{PortState, IsNewPort, opened_to}
-use Rattle.ctl_net.specs.Net.{AcceptorEnd, PortEnd, acceptor_end, port_end, is_refused, ends_faulty}
+use Rattle.ctl_net.specs.Net.{AcceptorEnd, NetData, PortEnd, acceptor_end, port_end, is_refused, ends_faulty}
 use Rattle.ctl_net.specs.declared.memory.closed_acceptor.ClosedAcceptor.{ClosedAcceptor}
 use Rattle.ctl_net.specs.declared.opening.Opening.{Opening}
 
@@ -118,8 +118,7 @@ after_close_port port net = record net {
 
 -- what an acceptor that was given back showed
 abbrev pub closed_end : ClosedAcceptor → AcceptorEnd
-closed_end closed = acceptor_end closed.panel closed.acceptor.opening closed.acceptor.sessions
-    (links_of closed.acceptor) closed.acceptor.calls.faults closed.acceptor.done_faults
+closed_end closed = acceptor_end closed.panel (shown_acceptor closed.acceptor)
 
 -- what a port that was given back showed
 abbrev pub closed_port : PortState → PortEnd PortState
@@ -132,6 +131,16 @@ acceptors_of net =
 
 abbrev pub ports_of : NetState → Custody (PortEnd PortState)
 ports_of net = record { out = net.ports_out; back = Some (map closed_port net.ports_back) }
+
+-- what it shows
+abbrev pub shown_net : NetState → NetData PortState
+shown_net net = record {
+  openings = Some net.openings;
+  acceptors = acceptors_of net;
+  ports = ports_of net;
+  open_faults = net.calls.faults;
+  close_faults = net.close_faults;
+}
 
 -- No call was made of the acceptors.
 abbrev pub AreNewAcceptors : List AcceptorState → Type 0

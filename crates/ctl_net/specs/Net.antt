@@ -3,7 +3,7 @@ use Rattle.std.specs.Prelude.{◌≡◌, ℕ, Bool, true, false, ◌||◌, List,
 use Rattle.std.specs.Option.{option_map}
 use Rattle.ctl_io.specs.Custody.{Custody, lent}
 use Rattle.ctl_io.specs.Faults.{is_faulty}
-use Rattle.ctl_net.specs.Acceptor.{LinkEnd}
+use Rattle.ctl_net.specs.Acceptor.{AcceptorData, LinkEnd}
 use Rattle.ctl_net.specs.Port.{IsSomePacket}
 use Rattle.ctl_net.specs.declared.opening.Opening.{Opening}
 
@@ -17,14 +17,14 @@ pub record AcceptorEnd : Type 0 where
   pub next_faults : ℕ
   pub done_faults : ℕ
 
-abbrev pub acceptor_end : ℕ → Option Opening → ℕ → Custody LinkEnd → ℕ → ℕ → AcceptorEnd
-acceptor_end panel opening sessions links next_faults done_faults = record {
+abbrev pub acceptor_end : ℕ → AcceptorData → AcceptorEnd
+acceptor_end panel acceptor = record {
   panel = panel;
-  opening = opening;
-  sessions = sessions;
-  links = links;
-  next_faults = next_faults;
-  done_faults = done_faults;
+  opening = acceptor.opening;
+  sessions = acceptor.sessions;
+  links = acceptor.links;
+  next_faults = acceptor.next_faults;
+  done_faults = acceptor.done_faults;
 }
 
 -- What a display port shows when it is given back: the opening that made it, and itself.
@@ -34,6 +34,15 @@ pub record PortEnd (P : Type 0) : Type 0 where
 
 abbrev pub port_end : {P : Type 0} → Option Opening → P → PortEnd P
 port_end opening port = record { opening = opening; port = port }
+
+-- What a net shows: the openings that handed something out, in order; its acceptors and its ports that are out and that came
+-- back; and its counts of openings that were refused and of objects that came back with faults.
+pub record NetData (P : Type 0) : Type 0 where
+  pub openings : Option (List Opening)
+  pub acceptors : Custody AcceptorEnd
+  pub ports : Custody (PortEnd P)
+  pub open_faults : ℕ
+  pub close_faults : ℕ
 
 -- whether an acceptor with these counts of faults met one
 abbrev pub ends_faulty : ℕ → ℕ → Bool

@@ -2,8 +2,8 @@
 use Rattle.std.proofs.Common.{◌≡◌, ℕ, suc, ◌+◌, ◌<◌, List, [], ◌∷◌, length, map, slice_get, slice_index_or, Option, Some, IfSome, All, refl, ap, ◌∙◌, subst, arith}
 use Rattle.std.specs.List.{AllZip}
 use Rattle.std.proofs.lemmas.List.Elements.{All-nil, All-cons, All-head, All-tail}
-use Rattle.ctl_io.specs.Custody.{Custody, SinkEnd}
-use Rattle.ctl_net.specs.Acceptor.{LinkEnd}
+use Rattle.ctl_io.specs.Custody.{SinkEnd}
+use Rattle.ctl_net.specs.Acceptor.{AcceptorData}
 use Rattle.ctl_net.specs.Net.{IsFreshPort, PortEnd, TakesAll}
 use Rattle.ctl_net.specs.declared.opening.Opening.{Opening}
 use Rattle.ctl_net.specs.declared.opening.Opening.TheVariants.{Display}
@@ -48,35 +48,35 @@ new_all plant lock count seats new long =
     here ∙ ap (λ (n : ℕ). Some (seat_at n)) at)
 
 -- The acceptors, of which the first is of the panel of this number, are the panels' own.
-abbrev pub AreOwnFrom : {A : Type 0} → (A → Option Opening) → PlantData → ℕ → List A → Type 0
-AreOwnFrom opening_of plant number [] = Unit {0}
-AreOwnFrom opening_of plant number (acceptor ∷ later) =
-    (opening_of acceptor ≡ slice_get (acceptor_openings plant.server 0 plant.panels) number) × AreOwnFrom opening_of plant (number + 1) later
+abbrev pub AreOwnFrom : {A : Type 0} → (A → AcceptorData) → PlantData → ℕ → List A → Type 0
+AreOwnFrom shows plant number [] = Unit {0}
+AreOwnFrom shows plant number (acceptor ∷ later) =
+    ((shows acceptor).opening ≡ slice_get (acceptor_openings plant.server 0 plant.panels) number) × AreOwnFrom shows plant (number + 1) later
 
-pub own_from : {A : Type 0} (opening_of : A → Option Opening) (plant : PlantData) (number : ℕ) (acceptors : List A)
-    → ((k : ℕ) (acceptor : A) → slice_get acceptors k ≡ Some acceptor → opening_of acceptor ≡ slice_get (acceptor_openings plant.server 0 plant.panels) (number + k))
-    → AreOwnFrom opening_of plant number acceptors
-own_from opening_of plant number [] each = tt
-own_from {A} opening_of plant number (acceptor ∷ later) each =
+pub own_from : {A : Type 0} (shows : A → AcceptorData) (plant : PlantData) (number : ℕ) (acceptors : List A)
+    → ((k : ℕ) (acceptor : A) → slice_get acceptors k ≡ Some acceptor → (shows acceptor).opening ≡ slice_get (acceptor_openings plant.server 0 plant.panels) (number + k))
+    → AreOwnFrom shows plant number acceptors
+own_from shows plant number [] each = tt
+own_from {A} shows plant number (acceptor ∷ later) each =
     let all : List Opening = acceptor_openings plant.server 0 plant.panels in
     let here : number + 0 ≡ number = omega arith in (
       each 0 acceptor refl ∙ ap (λ (n : ℕ). slice_get all n) here,
-      own_from opening_of plant (number + 1) later (λ k other at.
+      own_from shows plant (number + 1) later (λ k other at.
           let next : number + suc k ≡ number + 1 + k = omega arith in
           each (suc k) other at ∙ ap (λ (n : ℕ). slice_get all n) next),
     )
 
-pub own_all : {A : Type 0} (opening_of : A → Option Opening) (plant : PlantData) (acceptors : List A) → AreOwn opening_of plant acceptors → AreOwnFrom opening_of plant 0 acceptors
-own_all opening_of plant acceptors own =
-    own_from opening_of plant 0 acceptors (λ k acceptor at.
+pub own_all : {A : Type 0} (shows : A → AcceptorData) (plant : PlantData) (acceptors : List A) → AreOwn shows plant acceptors → AreOwnFrom shows plant 0 acceptors
+own_all shows plant acceptors own =
+    own_from shows plant 0 acceptors (λ k acceptor at.
     let all : List Opening = acceptor_openings plant.server 0 plant.panels in
     let same : k ≡ 0 + k = omega arith in
     own k acceptor at ∙ ap (λ (n : ℕ). slice_get all n) same)
 
-pub ends_long : {A : Type 0} (opening_of : A → Option Opening) (sessions_of : A → ℕ) (links : A → Custody LinkEnd) (next_faults done_faults : A → ℕ) (number : ℕ) (acceptors : List A)
-    → length (ends_from opening_of sessions_of links next_faults done_faults number acceptors) ≡ length acceptors
-ends_long opening_of sessions_of links next_faults done_faults number [] = refl
-ends_long opening_of sessions_of links next_faults done_faults number (acceptor ∷ later) = ap (λ (n : ℕ). suc n) (ends_long opening_of sessions_of links next_faults done_faults (number + 1) later)
+pub ends_long : {A : Type 0} (acceptor_shows : A → AcceptorData) (number : ℕ) (acceptors : List A)
+    → length (ends_from acceptor_shows number acceptors) ≡ length acceptors
+ends_long acceptor_shows number [] = refl
+ends_long acceptor_shows number (acceptor ∷ later) = ap (λ (n : ℕ). suc n) (ends_long acceptor_shows (number + 1) later)
 
 -- what is so of each that is shown
 pub all_shown : {W X : Type 0} (shows : W → X) (Is : X → Type 0) (workers : List W) → All Is (map shows workers) → All (λ worker. Is (shows worker)) workers
@@ -84,14 +84,14 @@ all_shown shows Is [] all = All-nil (λ worker. Is (shows worker))
 all_shown shows Is (worker ∷ later) all =
     All-cons (λ worker. Is (shows worker)) worker later (All-head Is (shows worker) (map shows later) all) (all_shown shows Is later (All-tail Is (shows worker) (map shows later) all))
 
-module _ {A P : Type 0} (opening_of : A → Option Opening) (sessions_of : A → ℕ) (links : A → Custody LinkEnd) (next_faults done_faults : A → ℕ) (WasSent : P → List (List ℕ) → Type 0) (faults : P → ℕ)
+module _ {A P : Type 0} (acceptor_shows : A → AcceptorData) (WasSent : P → List (List ℕ) → Type 0) (faults : P → ℕ)
     (plant : PlantData) (lock : LockData State) where
   -- what was opened makes a new crew
   pub new_crew : (number : ℕ) (sessions : List Session) (seats : List PlantSeat) (acceptors : List A) (traces : List SinkEnd) (port : PortEnd P)
-      → AreSessions plant number sessions → AreNewFrom plant lock number seats → All (IsFreshFor sessions_of links next_faults done_faults plant.server) acceptors → AreOwnFrom opening_of plant number acceptors
+      → AreSessions plant number sessions → AreNewFrom plant lock number seats → All (IsFreshFor acceptor_shows plant.server) acceptors → AreOwnFrom acceptor_shows plant number acceptors
       → IsFreshPort (WasSent port.port) (faults port.port) → port.opening ≡ Some (Display plant.server.display)
       → length sessions ≡ length acceptors → length seats ≡ length acceptors + 1 → length traces ≡ length acceptors + 1 → number + length acceptors ≡ length plant.panels
-      → IsNewCrew WasSent faults plant lock number (crew number sessions seats (ends_from opening_of sessions_of links next_faults done_faults number acceptors) traces port)
+      → IsNewCrew WasSent faults plant lock number (crew number sessions seats (ends_from acceptor_shows number acceptors) traces port)
   new_crew number [] [] acceptors traces port stand new fresh own fresh_port own_port a b c d = absurd (omega (arith, b))
   new_crew number [] (seat ∷ seats) [] [] port stand new fresh own fresh_port own_port a b c d = absurd (omega (arith, c))
   new_crew number [] (seat ∷ seats) [] (trace ∷ traces) port stand new fresh own fresh_port own_port a b c d = record { last = omega (arith, d); seat_is = new.0; fresh = fresh_port; own = own_port }
@@ -100,7 +100,7 @@ module _ {A P : Type 0} (opening_of : A → Option Opening) (sessions_of : A →
   new_crew number (session ∷ sessions) (seat ∷ seats) [] traces port stand new fresh own fresh_port own_port a b c d = absurd (omega (arith, a))
   new_crew number (session ∷ sessions) (seat ∷ seats) (acceptor ∷ acceptors) [] port stand new fresh own fresh_port own_port a b c d = absurd (omega (arith, c))
   new_crew number (session ∷ sessions) (seat ∷ seats) (acceptor ∷ acceptors) (trace ∷ traces) port stand new fresh own fresh_port own_port a b c d =
-      let Fresh : A → Type 0 = IsFreshFor sessions_of links next_faults done_faults plant.server in
+      let Fresh : A → Type 0 = IsFreshFor acceptor_shows plant.server in
       let first = All-head Fresh acceptor acceptors fresh in (
         record { number_is = refl; stands = stand.0; seat_is = new.0; fresh = first.fresh; most = first.most; own = own.0 },
         new_crew (number + 1) sessions seats acceptors traces port stand.1 new.1 (All-tail Fresh acceptor acceptors fresh) own.1 fresh_port own_port (omega (arith, a)) (omega (arith, b)) (omega (arith, c)) (omega (arith, d)),

@@ -6,6 +6,7 @@ use Rattle.std.proofs.lemmas.List.{append_assoc, append-nil, length-append}
 use Rattle.std.proofs.lemmas.List.Elements.{All-cons, All-head, All-tail}
 use Rattle.ctl_io.specs.Custody.{Custody, lent, returned}
 use Rattle.ctl_io.specs.Faults.{count_after}
+use Rattle.ctl_net.specs.Acceptor.{AcceptorData}
 use Rattle.ctl_net.specs.Net.{AcceptorEnd, IsFreshAcceptor, PortEnd, ends_faulty, is_refused, opened, opening_lent}
 use Rattle.ctl_net.specs.declared.opening.Opening.{Opening}
 use Rattle.ctl_net.specs.declared.opening.Opening.TheVariants.{Acceptor, Display}
@@ -245,29 +246,29 @@ opening_at server from (suc number) (panel ∷ panels) other below =
     opening_at server (from + 1) number panels other (omega (arith, below))
     ∙ ap (λ (n : ℕ). Some (Acceptor n server.listen (slice_index_or panels number other).port server.sessions server.idle_ms)) at
 
-module _ {A : Type 0} (opening : A → Option Opening) (plant : PlantData) where
+module _ {A : Type 0} (shows : A → AcceptorData) (plant : PlantData) where
   -- none is there yet
-  pub own_none : (acceptors : List A) → acceptors ≡ [] → AreOwn opening plant acceptors
+  pub own_none : (acceptors : List A) → acceptors ≡ [] → AreOwn shows plant acceptors
   own_none acceptors none = λ k acceptor at.
       let Of : List A → Type 0 = λ acceptors. slice_get acceptors k ≡ Some acceptor in
       let never : None ≡ Some acceptor = subst Of none at in
       absurd cc
 
   -- one more
-  pub own_push : (acceptors : List A) (acceptor : A) → AreOwn opening plant acceptors → opening acceptor ≡ slice_get (acceptor_openings plant.server 0 plant.panels) (length acceptors)
-      → AreOwn opening plant (acceptors ++ acceptor ∷ [])
+  pub own_push : (acceptors : List A) (acceptor : A) → AreOwn shows plant acceptors → (shows acceptor).opening ≡ slice_get (acceptor_openings plant.server 0 plant.panels) (length acceptors)
+      → AreOwn shows plant (acceptors ++ acceptor ∷ [])
   own_push acceptors acceptor own is = λ k other at.
       let all : List Opening = acceptor_openings plant.server 0 plant.panels in
       elim (at_one_more acceptors acceptor other k at) [
         | (inl before) ↦ own k other before
-        | (inr last) ↦ ap opening (sym last.1) ∙ is ∙ ap (λ (n : ℕ). slice_get all n) (sym last.0)
+        | (inr last) ↦ ap (λ (acceptor : A). (shows acceptor).opening) (sym last.1) ∙ is ∙ ap (λ (n : ℕ). slice_get all n) (sym last.0)
       ]
 
   -- the same by what was asked of the net for it
   pub own_step : (server : Server) (panels : List Panel) (number told : ℕ) (other : Panel) (acceptors : List A) (acceptor : A) → server ≡ plant.server → panels ≡ plant.panels
       → number < length panels → told ≡ number → length acceptors ≡ number
-      → opening acceptor ≡ Some (Acceptor told server.listen (slice_index_or panels number other).port server.sessions server.idle_ms)
-      → AreOwn opening plant acceptors → AreOwn opening plant (acceptors ++ acceptor ∷ [])
+      → (shows acceptor).opening ≡ Some (Acceptor told server.listen (slice_index_or panels number other).port server.sessions server.idle_ms)
+      → AreOwn shows plant acceptors → AreOwn shows plant (acceptors ++ acceptor ∷ [])
   own_step server panels number told other acceptors acceptor server_is panels_are below told_is counted is own =
       let all : List Opening = acceptor_openings plant.server 0 plant.panels in
       let at : 0 + number ≡ told = omega (arith, told_is) in
@@ -280,8 +281,8 @@ module _ {A : Type 0} (opening : A → Option Opening) (plant : PlantData) where
       ∙ ap (λ (n : ℕ). slice_get all n) (sym counted))
 
   -- the last one, and those before it
-  pub own_front : (acceptors : List A) (acceptor : A) → AreOwn opening plant (acceptors ++ acceptor ∷ []) → AreOwn opening plant acceptors
+  pub own_front : (acceptors : List A) (acceptor : A) → AreOwn shows plant (acceptors ++ acceptor ∷ []) → AreOwn shows plant acceptors
   own_front acceptors acceptor own = λ k other at. own k other (at_front acceptors acceptor k other at)
 
-  pub own_last : (acceptors : List A) (acceptor : A) → AreOwn opening plant (acceptors ++ acceptor ∷ []) → opening acceptor ≡ slice_get (acceptor_openings plant.server 0 plant.panels) (length acceptors)
+  pub own_last : (acceptors : List A) (acceptor : A) → AreOwn shows plant (acceptors ++ acceptor ∷ []) → (shows acceptor).opening ≡ slice_get (acceptor_openings plant.server 0 plant.panels) (length acceptors)
   own_last acceptors acceptor own = own (length acceptors) acceptor (at_last acceptors acceptor)

@@ -3,8 +3,8 @@ use Rattle.std.proofs.Common.{◌≡◌, ℕ, ◌+◌, ◌<◌, ◌≤◌, ◌^�
 use Rattle.std.specs.List.{AllZip}
 use Rattle.std.proofs.lemmas.List.{length-map, take_at}
 use Rattle.std.proofs.lemmas.Simd.{map-map}
-use Rattle.ctl_io.specs.Custody.{Custody, SinkEnd}
-use Rattle.ctl_net.specs.Acceptor.{LinkEnd}
+use Rattle.ctl_io.specs.Custody.{SinkEnd}
+use Rattle.ctl_net.specs.Acceptor.{AcceptorData}
 use Rattle.ctl_net.specs.Net.{IsFreshPort, TakesAll, port_end}
 use Rattle.ctl_net.specs.declared.opening.Opening.{Opening}
 use Rattle.ctl_net.specs.declared.opening.Opening.TheVariants.{Display}
@@ -27,22 +27,22 @@ use Rattle.panel_server.proofs.KeptLemmas.{AreSeatsFrom, all_of, crew_long, crew
 use Rattle.panel_server.proofs.ManLemmas.{all_shown, ends_long, may_all, new_all, new_crew, own_all, zip_of}
 use Rattle.panel_server.proofs.ServedLemmas.{IsClosed, crew_served, seats_in}
 
-module _ {A P K : Type 0} (opening_of : A → Option Opening) (sessions_of : A → ℕ) (links : A → Custody LinkEnd) (next_faults done_faults : A → ℕ) (port_opening : P → Option Opening) (name written : K → Option (List ℕ)) (sink_faults : K → ℕ)
+module _ {A P K : Type 0} (acceptor_shows : A → AcceptorData) (port_opening : P → Option Opening) (name written : K → Option (List ℕ)) (sink_faults : K → ℕ)
     (WasSent : P → List (List ℕ) → Type 0) (faults : P → ℕ) (plant : PlantData) (room : ServeRoom A P K) (port : P) (traces : List K) (made : List (Worker A P K)) where
   abbrev shows : Worker A P K → WorkerData P
-  shows worker = worker_shows opening_of sessions_of links next_faults done_faults port_opening name written sink_faults worker
+  shows worker = worker_shows acceptor_shows port_opening name written sink_faults worker
 
   abbrev sink : K → SinkEnd
   sink trace = sink_shows name written sink_faults trace
 
   -- These workers were made of what was opened.
   pub record IsManned : Type 0 where
-    pub opened : IsOpenedFor opening_of sessions_of links next_faults done_faults plant room
+    pub opened : IsOpenedFor acceptor_shows plant room
     pub traces_count : length traces ≡ length plant.panels + 1
     pub port_new : IsFreshPort (WasSent port) (faults port)
     pub port_own : port_opening port ≡ Some (Display plant.server.display)
-    pub made_is : map (worker_shows opening_of sessions_of links next_faults done_faults port_opening name written sink_faults) made
-        ≡ crew 0 room.sessions.items room.seats.items (ends_from opening_of sessions_of links next_faults done_faults 0 room.lists.acceptors.items) (map (sink_shows name written sink_faults) traces) (port_end (port_opening port) port)
+    pub made_is : map (worker_shows acceptor_shows port_opening name written sink_faults) made
+        ≡ crew 0 room.sessions.items room.seats.items (ends_from acceptor_shows 0 room.lists.acceptors.items) (map (sink_shows name written sink_faults) traces) (port_end (port_opening port) port)
 
   new_of : IsManned → IsNewCrew WasSent faults plant room.lock 0 (map shows made)
   new_of manned =
@@ -50,17 +50,17 @@ module _ {A P K : Type 0} (opening_of : A → Option Opening) (sessions_of : A �
       let panels = length plant.panels in
       let long : length (map sink traces) ≡ length traces = length-map traces sink in
       subst (λ (all : List (WorkerData P)). IsNewCrew WasSent faults plant room.lock 0 all) (sym manned.made_is)
-      (new_crew opening_of sessions_of links next_faults done_faults WasSent faults plant room.lock 0 room.sessions.items room.seats.items room.lists.acceptors.items (map sink traces) (port_end (port_opening port) port)
-      opened.new_sessions (new_all plant room.lock (panels + 1) room.seats.items opened.seats opened.seat_count) opened.acceptors (own_all opening_of plant room.lists.acceptors.items opened.own) manned.port_new manned.port_own
+      (new_crew acceptor_shows WasSent faults plant room.lock 0 room.sessions.items room.seats.items room.lists.acceptors.items (map sink traces) (port_end (port_opening port) port)
+      opened.new_sessions (new_all plant room.lock (panels + 1) room.seats.items opened.seats opened.seat_count) opened.acceptors (own_all acceptor_shows plant room.lists.acceptors.items opened.own) manned.port_new manned.port_own
       (omega (arith, opened.session_count, opened.acceptor_count)) (omega (arith, opened.seat_count, opened.acceptor_count))
       (omega (arith, manned.traces_count, opened.acceptor_count, long)) (omega (arith, opened.acceptor_count)))
 
   -- each may begin
   pub may_of : (takes : List ℕ → Type 0) → IsManned → TakesAll takes
-      → All (λ worker. MayWork takes plant room.lock (worker_shows opening_of sessions_of links next_faults done_faults port_opening name written sink_faults worker)) made
+      → All (λ worker. MayWork takes plant room.lock (worker_shows acceptor_shows port_opening name written sink_faults worker)) made
   may_of takes manned all =
       all_shown shows (MayWork takes plant room.lock) made
-      (may_all opening_of sessions_of links next_faults done_faults WasSent faults plant room.lock takes manned.opened.is_plant all 0 (map shows made) (new_of manned))
+      (may_all acceptor_shows WasSent faults plant room.lock takes manned.opened.is_plant all 0 (map shows made) (new_of manned))
 
   pub long_of : IsManned → length made ≡ length plant.panels + 1
   long_of manned =
@@ -72,8 +72,8 @@ module _ {A P K : Type 0} (opening_of : A → Option Opening) (sessions_of : A �
   sinks_were manned =
       let opened = manned.opened in
       let long : length (map sink traces) ≡ length traces = length-map traces sink in
-      let acceptors = ends_from opening_of sessions_of links next_faults done_faults 0 room.lists.acceptors.items in
-      let ends : length acceptors ≡ length room.lists.acceptors.items = ends_long opening_of sessions_of links next_faults done_faults 0 room.lists.acceptors.items in
+      let acceptors = ends_from acceptor_shows 0 room.lists.acceptors.items in
+      let ends : length acceptors ≡ length room.lists.acceptors.items = ends_long acceptor_shows 0 room.lists.acceptors.items in
       ap (λ (all : List (WorkerData P)). map trace_sink_of all) manned.made_is
       ∙ crew_sinks 0 room.sessions.items room.seats.items acceptors (map sink traces) (port_end (port_opening port) port) (omega (arith, ends, opened.session_count, opened.acceptor_count))
       (omega (arith, ends, opened.seat_count, opened.acceptor_count)) (omega (arith, ends, long, manned.traces_count, opened.acceptor_count))
@@ -83,14 +83,14 @@ module _ {A P K : Type 0} (opening_of : A → Option Opening) (sessions_of : A �
     pub manned : IsManned
     pub long : length worked ≡ length made
     pub did : (k : ℕ) (other : Worker A P K) → k < length made
-        → HasDoneWork WasSent faults plant (worker_shows opening_of sessions_of links next_faults done_faults port_opening name written sink_faults (slice_index_or made k other))
-        (worker_shows opening_of sessions_of links next_faults done_faults port_opening name written sink_faults (slice_index_or worked k other))
+        → HasDoneWork WasSent faults plant (worker_shows acceptor_shows port_opening name written sink_faults (slice_index_or made k other))
+        (worker_shows acceptor_shows port_opening name written sink_faults (slice_index_or worked k other))
 
   -- so it is of a vector, whose workers worked as a slice
   pub worked_of : (len : ℕ) (slice end : List (Worker A P K)) → IsManned → slice ≡ made → length slice ≡ len → length end ≡ length slice
       → ((k : ℕ) (other : Worker A P K) → k < length slice
-      → HasDoneWork WasSent faults plant (worker_shows opening_of sessions_of links next_faults done_faults port_opening name written sink_faults (slice_index_or slice k other))
-      (worker_shows opening_of sessions_of links next_faults done_faults port_opening name written sink_faults (slice_index_or end k other)))
+      → HasDoneWork WasSent faults plant (worker_shows acceptor_shows port_opening name written sink_faults (slice_index_or slice k other))
+      (worker_shows acceptor_shows port_opening name written sink_faults (slice_index_or end k other)))
       → HaveWorked (take len (end ++ drop (length end) made))
   worked_of len slice end manned is long same did =
       let One = Worker A P K in
@@ -107,20 +107,20 @@ module _ {A P K : Type 0} (opening_of : A → Option Opening) (sessions_of : A �
 
   -- each counted few
   pub few_of : (worked : List (Worker A P K)) → HaveWorked worked
-      → All (λ worker. CountsFew (worker_shows opening_of sessions_of links next_faults done_faults port_opening name written sink_faults worker)) worked
+      → All (λ worker. CountsFew (worker_shows acceptor_shows port_opening name written sink_faults worker)) worked
   few_of worked have =
       all_shown shows CountsFew worked (all_few WasSent faults plant room.lock have.manned.opened.is_plant 0 (map shows made) (map shows worked) (new_of have.manned) (zip worked have))
 
   -- what they have may be given back
   pub give_of : (worked : List (Worker A P K)) → HaveWorked worked → (net : NetData P) → length plant.panels ≤ net.acceptors.out → 0 < net.ports.out
-      → MayGiveAll faults (map (worker_shows opening_of sessions_of links next_faults done_faults port_opening name written sink_faults) worked) net
+      → MayGiveAll faults (map (worker_shows acceptor_shows port_opening name written sink_faults) worked) net
   give_of worked have net out port_out =
       may_give WasSent faults plant room.lock 0 (map shows made) (map shows worked) (new_of have.manned) (zip worked have) net (omega (arith, out)) port_out
 
   -- They gave their seats back.
   pub record AreBack (worked : List (Worker A P K)) (back : List PlantSeat) : Type 0 where
     pub have : HaveWorked worked
-    pub seats : back ≡ room.lists.seats.items ++ map (λ worker. seat_of (worker_shows opening_of sessions_of links next_faults done_faults port_opening name written sink_faults worker)) worked
+    pub seats : back ≡ room.lists.seats.items ++ map (λ worker. seat_of (worker_shows acceptor_shows port_opening name written sink_faults worker)) worked
 
   back_is : (worked : List (Worker A P K)) (back : List PlantSeat) → AreBack worked back → back ≡ map seat_of (map shows worked)
   back_is worked back are =
@@ -152,7 +152,7 @@ module _ {A P K : Type 0} (opening_of : A → Option Opening) (sessions_of : A �
   pub record AreClosed (worked : List (Worker A P K)) (back : List PlantSeat) (entries : ℕ) (past : List PlantEntry) (sums : Sums) : Type 0 where
     pub are : AreBack worked back
     pub closed : IsClosed room.lock back entries past
-    pub sums_are : sums ≡ sums_from 0 (map (worker_shows opening_of sessions_of links next_faults done_faults port_opening name written sink_faults) worked) no_sums
+    pub sums_are : sums ≡ sums_from 0 (map (worker_shows acceptor_shows port_opening name written sink_faults) worked) no_sums
 
   closed_of : (worked : List (Worker A P K)) (back : List PlantSeat) (entries : ℕ) (past : List PlantEntry) (sums : Sums) → AreClosed worked back entries past sums
       → IsClosed room.lock (map seat_of (map shows worked)) entries past
@@ -178,7 +178,7 @@ module _ {A P K : Type 0} (opening_of : A → Option Opening) (sessions_of : A �
   pub record AreTold (worked : List (Worker A P K)) (back : List PlantSeat) (entries : ℕ) (past : List PlantEntry) (sums : Sums) (traces_then : List K) : Type 0 where
     pub closed : AreClosed worked back entries past sums
     pub sinks : map (sink_shows name written sink_faults) traces_then
-        ≡ map (sink_shows name written sink_faults) room.lists.traces.items ++ map (λ worker. trace_sink_of (worker_shows opening_of sessions_of links next_faults done_faults port_opening name written sink_faults worker)) worked
+        ≡ map (sink_shows name written sink_faults) room.lists.traces.items ++ map (λ worker. trace_sink_of (worker_shows acceptor_shows port_opening name written sink_faults worker)) worked
 
   sinks_are : (worked : List (Worker A P K)) (back : List PlantSeat) (entries : ℕ) (past : List PlantEntry) (sums : Sums) (traces_then : List K) → AreTold worked back entries past sums traces_then
       → map sink traces_then ≡ map trace_sink_of (map shows worked)
@@ -189,7 +189,7 @@ module _ {A P K : Type 0} (opening_of : A → Option Opening) (sessions_of : A �
   -- So the plant was served, and each trace has its name.
   pub served_of : (worked : List (Worker A P K)) (back : List PlantSeat) (entries : ℕ) (past : List PlantEntry) (sums : Sums) (traces_then : List K) (net net_then : NetData P)
       → AreTold worked back entries past sums traces_then
-      → net_then ≡ after_all faults (map (worker_shows opening_of sessions_of links next_faults done_faults port_opening name written sink_faults) worked) (with_port plant.server (opened_acceptors plant (length plant.panels) net))
+      → net_then ≡ after_all faults (map (worker_shows acceptor_shows port_opening name written sink_faults) worked) (with_port plant.server (opened_acceptors plant (length plant.panels) net))
       → ServedSo WasSent faults plant net net_then (map (trace_shows written sink_faults) traces) (map (trace_shows written sink_faults) traces_then) (told sums entries past)
   served_of worked back entries past sums traces_then net net_then are net_is =
       let closed = are.closed in

@@ -4,7 +4,7 @@ use Rattle.std.proofs.lemmas.Bool.{false≢true}
 use Rattle.ctl_io.specs.Custody.{Custody, lent, returned}
 use Rattle.ctl_io.specs.Faults.{count_after}
 use Rattle.ctl_net.specs.Acceptor.{LinkEnd, IsFresh, is_faulty_link}
-use Rattle.ctl_net.specs.Net.{AcceptorEnd, acceptor_end}
+use Rattle.ctl_net.specs.Net.{AcceptorEnd}
 use Rattle.ctl_net.specs.declared.opening.Opening.{Opening}
 use Rattle.plant_config.specs.Plant.{PlantData}
 use Rattle.panel_session.specs.declared.serve.SessionEnd.{SessionEnd}
@@ -26,15 +26,26 @@ none_not : {X : Type 0} → (b : Bool) (x : X) (xs : List X) → xs ≡ cond b (
 none_not true x xs is such = absurd (false≢true (sym such))
 none_not false x xs is such = is
 
--- what an acceptor shows is the same where each part of it is
+-- what an acceptor shows that is given back, part by part
+abbrev parted : ℕ → Option Opening → ℕ → Custody LinkEnd → ℕ → ℕ → AcceptorEnd
+parted panel opening sessions links next_faults done_faults = record {
+  panel = panel;
+  opening = opening;
+  sessions = sessions;
+  links = links;
+  next_faults = next_faults;
+  done_faults = done_faults;
+}
+
+-- it is the same where each part of it is
 pub end_same : (panel : ℕ) {opening opening_then : Option Opening} {sessions sessions_then : ℕ} {links links_then : Custody LinkEnd} {next next_then back back_then : ℕ} → opening_then ≡ opening → sessions_then ≡ sessions → links_then ≡ links → next_then ≡ next → back_then ≡ back
-    → acceptor_end panel opening_then sessions_then links_then next_then back_then ≡ acceptor_end panel opening sessions links next back
+    → parted panel opening_then sessions_then links_then next_then back_then ≡ parted panel opening sessions links next back
 end_same panel {opening} {opening_then} {sessions} {sessions_then} {links} {links_then} {next} {next_then} {back} {back_then} o a b c d =
-    ap (λ (one : Option Opening). acceptor_end panel one sessions_then links_then next_then back_then) o
-    ∙ ap (λ (n : ℕ). acceptor_end panel opening n links_then next_then back_then) a
-    ∙ ap (λ (custody : Custody LinkEnd). acceptor_end panel opening sessions custody next_then back_then) b
-    ∙ ap (λ (n : ℕ). acceptor_end panel opening sessions links n back_then) c
-    ∙ ap (λ (n : ℕ). acceptor_end panel opening sessions links next n) d
+    ap (λ (one : Option Opening). parted panel one sessions_then links_then next_then back_then) o
+    ∙ ap (λ (n : ℕ). parted panel opening n links_then next_then back_then) a
+    ∙ ap (λ (custody : Custody LinkEnd). parted panel opening sessions custody next_then back_then) b
+    ∙ ap (λ (n : ℕ). parted panel opening sessions links n back_then) c
+    ∙ ap (λ (n : ℕ). parted panel opening sessions links next n) d
 
 -- A link that was handed out was served and given back.
 pub handed : (link : LinkEnd) (q between r : AcceptorEnd) → between.panel ≡ q.panel → between.opening ≡ q.opening → between.links ≡ lent q.links → between.next_faults ≡ q.next_faults → between.done_faults ≡ q.done_faults

@@ -1,13 +1,12 @@
 -- What the worker of a panel has done: which links it served, what it asked and traced, and why it took no further link.
-use Rattle.std.specs.Prelude.{◌≡◌, ◌≢◌, ◌⊎◌, ℕ, ◌+◌, Bool, true, false, if◌then◌else◌, List, [], ◌∷◌, ◌++◌, length, map, filter, Option}
+use Rattle.std.specs.Prelude.{◌≡◌, ◌≢◌, ◌⊎◌, ℕ, ◌+◌, Bool, true, false, if◌then◌else◌, List, [], ◌∷◌, ◌++◌, length, map, filter}
 use Rattle.std.specs.List.{flat_map}
 use Rattle.std.specs.Option.{option_map}
 use Rattle.ctl_io.specs.Custody.{Custody}
 use Rattle.ctl_io.specs.Faults.{count_after}
 use Rattle.ctl_io.specs.Sink.{appended}
 use Rattle.ctl_net.specs.Acceptor.{LinkEnd, IsFresh}
-use Rattle.ctl_net.specs.Net.{AcceptorEnd, acceptor_end}
-use Rattle.ctl_net.specs.declared.opening.Opening.{Opening}
+use Rattle.ctl_net.specs.Net.{AcceptorEnd}
 use Rattle.history_lock.specs.History.{entries_of, IsLegal}
 use Rattle.plant_config.specs.Plant.{PlantData}
 use Rattle.plant_core.specs.State.{start, Fits as Takes}
@@ -20,13 +19,6 @@ use Rattle.panel_session.specs.Entry.{PlantEntry}
 use Rattle.panel_session.specs.Served.{PlantSeat, Served, StandsOrAwaits, TraceData, own_lines, trace_failed_at, TracesUnless}
 use Rattle.panel_session.specs.SoFar.{Progress}
 use Rattle.panel_server.specs.declared.panel.PanelDone.{PanelDone}
-
--- what an acceptor of a panel shows, by what is shown of it
-abbrev pub acceptor_shows : {A : Type 0} → ℕ → (A → Option Opening) → (A → ℕ)
-    → (A → Custody LinkEnd) → (A → ℕ) → (A → ℕ) → A → AcceptorEnd
-acceptor_shows panel opening sessions links next_faults done_faults acceptor = acceptor_end panel
-    (opening acceptor) (sessions acceptor) (links acceptor) (next_faults acceptor)
-    (done_faults acceptor)
 
 -- A link that a panel's session was served over: it was handed out as `link`, new, and given back as `link_then`. What the
 -- session did meanwhile, from one seat and trace to others, until it ended so, is what `Served` says.

@@ -5,10 +5,10 @@ use Rattle.std.specs.List.{flat_map}
 use Rattle.std.specs.List.Sorted.{IsPermutation}
 use Rattle.std.specs.Option.{option_map}
 use mathlib.Core.List.{IsPrefix}
-use Rattle.ctl_io.specs.Custody.{Custody}
 use Rattle.ctl_io.specs.Faults.{Rose, count_after, is_faulty, one_more}
 use Rattle.ctl_io.specs.Sink.{appended}
-use Rattle.ctl_net.specs.Net.{AcceptorEnd, IsFreshAcceptor, IsFreshPort, PortEnd, ends_faulty, port_end}
+use Rattle.ctl_net.specs.Net.{AcceptorEnd, IsFreshAcceptor, IsFreshPort, ends_faulty, port_end}
+pub use Rattle.ctl_net.specs.Net.{NetData}
 use Rattle.ctl_net.specs.declared.opening.Opening.{Opening}
 use Rattle.ctl_net.specs.declared.opening.Opening.TheVariants.{Acceptor, Display}
 use Rattle.history_lock.specs.Calls.{HasOwn}
@@ -32,25 +32,6 @@ use Rattle.panel_server.specs.declared.plant.ServeFault.{ServeFault}
 use Rattle.panel_server.specs.declared.plant.ServeFault.TheVariants.{NoMemory, NetFault}
 use Rattle.panel_server.specs.Driven.{Driven, ends_by_trace}
 use Rattle.panel_server.specs.PanelServed.{PanelServed, all_returned}
-
--- what a net shows: its openings, its acceptors and its ports that are out and that came back, and its counts of openings that
--- were refused and of objects that came back with faults
-pub record NetData (P : Type 0) : Type 0 where
-  pub openings : Option (List Opening)
-  pub acceptors : Custody AcceptorEnd
-  pub ports : Custody (PortEnd P)
-  pub open_faults : ℕ
-  pub close_faults : ℕ
-
-abbrev pub net_shows : {N P : Type 0} → (N → Option (List Opening)) → (N → Custody AcceptorEnd)
-    → (N → Custody (PortEnd P)) → (N → ℕ) → (N → ℕ) → N → NetData P
-net_shows openings acceptors ports open_faults close_faults net = record {
-  openings = openings net;
-  acceptors = acceptors net;
-  ports = ports net;
-  open_faults = open_faults net;
-  close_faults = close_faults net;
-}
 
 -- what is opened for panels, of which the first has this number: the acceptor of each, at its own port
 abbrev pub acceptor_openings : Server → ℕ → List Panel → List Opening

@@ -2,9 +2,8 @@
 use Rattle.std.specs.Prelude.{◌≡◌, ℕ, ◌+◌, ◌-◌, ◌*◌, ◌<◌, ◌≤◌, ◌^◌, Bool, true, false, if◌then◌else◌, List, [], ◌∷◌, length, take, slice_get, vec_capacity, Option, Some, None, Result, Ok, Err, All}
 use Rattle.ctl_io.specs.Custody.{Custody, SinkEnd, lent, returned}
 use Rattle.ctl_io.specs.Faults.{count_after, is_faulty, one_more}
-use Rattle.ctl_net.specs.Acceptor.{LinkEnd}
-use Rattle.ctl_net.specs.Net.{AcceptorEnd, IsFreshAcceptor, PortEnd, ends_faulty}
-use Rattle.ctl_net.specs.declared.opening.Opening.{Opening}
+use Rattle.ctl_net.specs.Acceptor.{AcceptorData}
+use Rattle.ctl_net.specs.Net.{AcceptorEnd, IsFreshAcceptor, PortEnd, acceptor_end, ends_faulty}
 use Rattle.ctl_net.specs.declared.opening.Opening.TheVariants.{Acceptor, Display}
 use Rattle.history_lock.specs.Locks.{AreNew, IsLockOf}
 use Rattle.plant_config.specs.IsPlant.{IsPlant}
@@ -26,7 +25,7 @@ use Rattle.panel_server.specs.declared.plant.ServeFault.{ServeFault}
 use Rattle.panel_server.specs.declared.plant.ServeFault.TheVariants as faults
 use Rattle.panel_server.specs.declared.sums.Sums.{Sums}
 use Rattle.panel_server.specs.Driven.{ends_by_trace}
-use Rattle.panel_server.specs.PanelServed.{acceptor_shows, all_returned}
+use Rattle.panel_server.specs.PanelServed.{all_returned}
 use Rattle.panel_server.specs.PlantServed.{NetData, acceptor_openings, ends_full, ends_unborn, lost_at, opened_all}
 use Rattle.panel_server.specs.Workers.{WorkerData, of_panel, of_displays}
 
@@ -110,19 +109,19 @@ abbrev pub WasRefused : {P : Type 0} → PlantData → ℕ → NetData P → Net
 WasRefused plant count net net_then = net_then ≡ with_refusal (opened_acceptors plant count net)
 
 -- An acceptor is new, and has at most as many sessions as the plant says.
-pub record IsFreshFor {A : Type 0} (sessions : A → ℕ) (links : A → Custody LinkEnd)
-    (next_faults done_faults : A → ℕ) (server : Server) (acceptor : A) : Type 0 where
-  pub fresh : IsFreshAcceptor (links acceptor) (next_faults acceptor) (done_faults acceptor)
-  pub most : sessions acceptor ≤ server.sessions
+pub record IsFreshFor {A : Type 0} (shows : A → AcceptorData) (server : Server) (acceptor : A)
+    : Type 0 where
+  pub fresh : IsFreshAcceptor (shows acceptor).links (shows acceptor).next_faults
+      (shows acceptor).done_faults
+  pub most : (shows acceptor).sessions ≤ server.sessions
 
 -- The acceptors are those of the first panels, in their order: each was made by the opening that is listed for its panel.
-abbrev pub AreOwn : {A : Type 0} → (A → Option Opening) → PlantData → List A → Type 0
-AreOwn {A} opening plant acceptors = (k : ℕ) (acceptor : A) → slice_get acceptors k ≡ Some acceptor
-    → opening acceptor ≡ slice_get (acceptor_openings plant.server 0 plant.panels) k
+abbrev pub AreOwn : {A : Type 0} → (A → AcceptorData) → PlantData → List A → Type 0
+AreOwn {A} shows plant acceptors = (k : ℕ) (acceptor : A) → slice_get acceptors k ≡ Some acceptor
+    → (shows acceptor).opening ≡ slice_get (acceptor_openings plant.server 0 plant.panels) k
 
 -- It is room for a plant whose acceptors were opened.
-pub record IsOpenedFor {A P K : Type 0} (opening : A → Option Opening) (sessions : A → ℕ)
-    (links : A → Custody LinkEnd) (next_faults done_faults : A → ℕ) (plant : PlantData)
+pub record IsOpenedFor {A P K : Type 0} (shows : A → AcceptorData) (plant : PlantData)
     (room : ServeRoom A P K) : Type 0 where
   pub is_plant : IsPlant plant
   pub lock : IsLockOf (start plant) (length plant.panels + 1) room.lock
@@ -130,10 +129,9 @@ pub record IsOpenedFor {A P K : Type 0} (opening : A → Option Opening) (sessio
   pub seat_count : length room.seats.items ≡ length plant.panels + 1
   pub new_sessions : AreSessions plant 0 room.sessions.items
   pub session_count : length room.sessions.items ≡ length plant.panels
-  pub acceptors : All (IsFreshFor sessions links next_faults done_faults plant.server)
-      room.lists.acceptors.items
+  pub acceptors : All (IsFreshFor shows plant.server) room.lists.acceptors.items
   pub acceptor_count : length room.lists.acceptors.items ≡ length plant.panels
-  pub own : AreOwn opening plant room.lists.acceptors.items
+  pub own : AreOwn shows plant room.lists.acceptors.items
   pub no_workers : room.lists.workers.items ≡ []
   pub no_seats : room.lists.seats.items ≡ []
   pub no_traces : room.lists.traces.items ≡ []
@@ -155,12 +153,10 @@ pub record ComeBackFresh {P : Type 0} (plant : PlantData) (count some : ℕ)
   }
 
 -- what acceptors show, of which the first is of the panel of this number
-abbrev pub ends_from : {A : Type 0} → (A → Option Opening) → (A → ℕ) → (A → Custody LinkEnd)
-    → (A → ℕ) → (A → ℕ) → ℕ → List A → List AcceptorEnd
-ends_from opening sessions links next_faults done_faults number [] = []
-ends_from opening sessions links next_faults done_faults number (acceptor ∷ later) =
-    acceptor_shows number opening sessions links next_faults done_faults acceptor
-    ∷ ends_from opening sessions links next_faults done_faults (number + 1) later
+abbrev pub ends_from : {A : Type 0} → (A → AcceptorData) → ℕ → List A → List AcceptorEnd
+ends_from shows number [] = []
+ends_from shows number (acceptor ∷ later) =
+    acceptor_end number (shows acceptor) ∷ ends_from shows (number + 1) later
 
 -- what a worker of a panel has done that did nothing yet
 abbrev pub nothing_done : PanelDone

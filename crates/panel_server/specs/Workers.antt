@@ -1,8 +1,8 @@
 -- The workers that share a plant, as what they have shows.
 use Rattle.std.specs.Prelude.{◌≡◌, ℕ, List, Option}
-use Rattle.ctl_io.specs.Custody.{Custody, SinkEnd}
-use Rattle.ctl_net.specs.Acceptor.{LinkEnd}
-use Rattle.ctl_net.specs.Net.{AcceptorEnd, PortEnd, TakesAll, port_end}
+use Rattle.ctl_io.specs.Custody.{SinkEnd}
+use Rattle.ctl_net.specs.Acceptor.{AcceptorData}
+use Rattle.ctl_net.specs.Net.{AcceptorEnd, PortEnd, TakesAll, acceptor_end, port_end}
 use Rattle.ctl_net.specs.declared.opening.Opening.{Opening}
 use Rattle.history_lock.specs.Locks.{LockData}
 use Rattle.plant_config.specs.Plant.{PlantData}
@@ -16,7 +16,7 @@ use Rattle.panel_server.specs.declared.panel.PanelDone.{PanelDone}
 use Rattle.panel_server.specs.declared.worker.Worker.{Worker}
 use Rattle.panel_server.specs.declared.worker.Worker.TheVariants.{Panel, Displays}
 use Rattle.panel_server.specs.Driven.{Driven}
-use Rattle.panel_server.specs.PanelServed.{PanelServed, acceptor_shows}
+use Rattle.panel_server.specs.PanelServed.{PanelServed}
 use Rattle.panel_server.specs.Seats.{IsSeatOf}
 
 -- what the worker of a panel has, and what it has done
@@ -50,22 +50,18 @@ abbrev pub trace_of : SinkEnd → TraceData
 trace_of sink = record { written = sink.written; faults = sink.faults }
 
 -- what a worker has, as it is shown
-abbrev pub worker_shows : {A P K : Type 0} → (A → Option Opening) → (A → ℕ)
-    → (A → Custody LinkEnd) → (A → ℕ) → (A → ℕ) → (P → Option Opening)
+abbrev pub worker_shows : {A P K : Type 0} → (A → AcceptorData) → (P → Option Opening)
     → (K → Option (List ℕ)) → (K → Option (List ℕ)) → (K → ℕ) → Worker A P K → WorkerData P
-worker_shows opening sessions links next_faults done_faults port_opening name written faults
-    (Panel panel) =
+worker_shows acceptor_shows port_opening name written faults (Panel panel) =
     of_panel (record {
       number = panel.number;
       session = panel.session;
       seat = panel.seat;
-      acceptor = acceptor_shows panel.number opening sessions links next_faults done_faults
-          panel.acceptor;
+      acceptor = acceptor_end panel.number (acceptor_shows panel.acceptor);
       trace = sink_shows name written faults panel.trace;
       done = panel.done;
     })
-worker_shows opening sessions links next_faults done_faults port_opening name written faults
-    (Displays displays) =
+worker_shows acceptor_shows port_opening name written faults (Displays displays) =
     of_displays (record {
       seat = displays.seat;
       port = port_end (port_opening displays.port) displays.port;

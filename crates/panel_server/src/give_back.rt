@@ -1,7 +1,6 @@
 //! What serving a plant gives back.
 
 ghost use Rattle.std.specs.Prelude.{◌≡◌, ◌+◌, ◌<◌, ◌≤◌, ◌++◌, length, map, vec_capacity};
-ghost use Rattle.panel_server.specs.PlantServed.{net_shows};
 ghost use Rattle.panel_server.specs.ServeInside.{MayGiveBack, MayGiveAll, after_all, given_back};
 ghost use Rattle.panel_server.specs.Workers.{seat_of, trace_sink_of, sink_shows, worker_shows};
 
@@ -20,23 +19,18 @@ pub(crate) fn give_all_back<N: Net, K: Sink>(
     seats: &mut Vec<Seat<PlantState>>,
     traces: &mut Vec<K>,
 )
-    requires out { MayGiveAll N.P.faults (map (worker_shows N.A.opening N.A.sessions N.A.links
-        N.A.next_faults N.A.done_faults N.P.opening K.name K.written K.faults) workers.items)
-        (net_shows N.openings N.acceptors N.ports N.open_faults N.close_faults net.old) }
+    requires out { MayGiveAll N.P.faults (map (worker_shows N.A.shows N.P.opening K.name K.written
+        K.faults) workers.items) (N.shows net.old) }
     requires seats { length seats.old.items + length workers.items ≤ vec_capacity seats.old }
     requires traces { length traces.old.items + length workers.items ≤ vec_capacity traces.old }
-    ensures net { net_shows N.openings N.acceptors N.ports N.open_faults N.close_faults net.new
-        ≡ after_all N.P.faults (map (worker_shows N.A.opening N.A.sessions N.A.links
-        N.A.next_faults N.A.done_faults N.P.opening K.name K.written K.faults) workers.entry.items)
-        (net_shows N.openings N.acceptors N.ports N.open_faults N.close_faults net.old) }
+    ensures net { N.shows net.new ≡ after_all N.P.faults (map (worker_shows N.A.shows N.P.opening
+        K.name K.written K.faults) workers.entry.items) (N.shows net.old) }
     ensures seats { seats.new.items ≡ seats.old.items ++ map (λ worker. seat_of
-        (worker_shows N.A.opening N.A.sessions N.A.links N.A.next_faults N.A.done_faults N.P.opening
-        K.name K.written K.faults worker)) workers.entry.items }
+        (worker_shows N.A.shows N.P.opening K.name K.written K.faults worker)) workers.entry.items }
     ensures traces { map (sink_shows K.name K.written K.faults) traces.new.items
         ≡ map (sink_shows K.name K.written K.faults) traces.old.items
-        ++ map (λ worker. trace_sink_of (worker_shows N.A.opening N.A.sessions N.A.links
-        N.A.next_faults N.A.done_faults N.P.opening K.name K.written K.faults worker))
-        workers.entry.items }
+        ++ map (λ worker. trace_sink_of (worker_shows N.A.shows N.P.opening K.name K.written
+        K.faults worker)) workers.entry.items }
 {
     let mut waiting = workers.into_iter();
     while let Some(worker) = waiting.next() {
@@ -52,18 +46,14 @@ fn give_back<N: Net, K: Sink>(
     net: &mut N,
     worker: Worker<'_, N::A, N::P, K>,
 ) -> (Seat<PlantState>, K)
-    requires out { MayGiveBack (worker_shows N.A.opening N.A.sessions N.A.links N.A.next_faults
-        N.A.done_faults N.P.opening K.name K.written K.faults worker)
-        (net_shows N.openings N.acceptors N.ports N.open_faults N.close_faults net.old) }
-    ensures net { net_shows N.openings N.acceptors N.ports N.open_faults N.close_faults net.new
-        ≡ given_back N.P.faults (worker_shows N.A.opening N.A.sessions N.A.links N.A.next_faults
-        N.A.done_faults N.P.opening K.name K.written K.faults worker.entry)
-        (net_shows N.openings N.acceptors N.ports N.open_faults N.close_faults net.old) }
-    ensures seat { result.0 ≡ seat_of (worker_shows N.A.opening N.A.sessions N.A.links
-        N.A.next_faults N.A.done_faults N.P.opening K.name K.written K.faults worker.entry) }
+    requires out { MayGiveBack (worker_shows N.A.shows N.P.opening K.name K.written K.faults worker)
+        (N.shows net.old) }
+    ensures net { N.shows net.new ≡ given_back N.P.faults (worker_shows N.A.shows N.P.opening
+        K.name K.written K.faults worker.entry) (N.shows net.old) }
+    ensures seat { result.0 ≡ seat_of (worker_shows N.A.shows N.P.opening K.name K.written
+        K.faults worker.entry) }
     ensures trace { sink_shows K.name K.written K.faults result.1 ≡ trace_sink_of (worker_shows
-        N.A.opening N.A.sessions N.A.links N.A.next_faults N.A.done_faults N.P.opening K.name
-        K.written K.faults worker.entry) }
+        N.A.shows N.P.opening K.name K.written K.faults worker.entry) }
 {
     match worker {
         Worker::Panel(panel) => {

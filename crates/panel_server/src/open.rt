@@ -3,11 +3,11 @@
 ghost use Rattle.std.specs.Prelude.{◌≡◌, ◌^◌, ◌<◌, ◌≤◌, All, [], length, vec_capacity};
 ghost use Rattle.std.specs.Prelude.{IfSome, IfNone, OnSome};
 ghost use Rattle.std.specs.Bool.{OnFalse, OnTrue};
-ghost use Rattle.ctl_net.specs.Net.{IsFreshAcceptor, IsFreshPort, TakesAll, port_end};
+ghost use Rattle.ctl_net.specs.Net.{IsFreshAcceptor, IsFreshPort, TakesAll};
+ghost use Rattle.ctl_net.specs.Net.{acceptor_end, port_end};
 ghost use Rattle.ctl_net.specs.declared.opening.Opening.{Opening};
 ghost use Rattle.plant_config.specs.Plant.{PlantData};
-ghost use Rattle.panel_server.specs.PanelServed.{acceptor_shows};
-ghost use Rattle.panel_server.specs.PlantServed.{RefusesOpening, net_shows};
+ghost use Rattle.panel_server.specs.PlantServed.{RefusesOpening};
 ghost use Rattle.panel_server.specs.ServeInside.{AreOwn, ComeBackFresh, IsFreshFor};
 ghost use Rattle.panel_server.specs.ServeInside.{WasRefused};
 ghost use Rattle.panel_server.specs.ServeInside.{opened_acceptors, with_acceptor, with_port};
@@ -26,21 +26,19 @@ pub(crate) fn open_all<N: Net>(
 ) -> Option<N::P>
     requires empty { acceptors.old.items ≡ [] }
     requires places { length plant.now.panels ≤ vec_capacity acceptors.old }
-    ensures opened { OnSome result (
-        net_shows N.openings N.acceptors N.ports N.open_faults N.close_faults net.new
+    ensures opened { OnSome result (N.shows net.new
         ≡ with_port plant.now.server (opened_acceptors plant.now (length plant.now.panels)
-        (net_shows N.openings N.acceptors N.ports N.open_faults N.close_faults net.old))) }
+        (N.shows net.old))) }
     ensures count { OnSome result (length acceptors.new.items ≡ length plant.now.panels) }
-    ensures fresh { OnSome result (All (IsFreshFor N.A.sessions N.A.links N.A.next_faults
-        N.A.done_faults plant.now.server) acceptors.new.items) }
-    ensures own { OnSome result (AreOwn N.A.opening plant.now acceptors.new.items) }
+    ensures fresh { OnSome result (
+        All (IsFreshFor N.A.shows plant.now.server) acceptors.new.items) }
+    ensures own { OnSome result (AreOwn N.A.shows plant.now acceptors.new.items) }
     ensures new { IfSome result (λ port. IsFreshPort (N.P.was_sent port) (N.P.faults port)) }
     ensures port { IfSome result (λ port.
         N.P.opening port ≡ Some (Opening.Display plant.now.server.display)) }
     ensures takes { OnSome result (TakesAll N.P.takes) }
     ensures refused { IfNone result (RefusesOpening plant.now
-        (net_shows N.openings N.acceptors N.ports N.open_faults N.close_faults net.old)
-        (net_shows N.openings N.acceptors N.ports N.open_faults N.close_faults net.new)) }
+        (N.shows net.old) (N.shows net.new)) }
     ensures emptied { IfNone result (acceptors.new.items ≡ []) }
 {
     if !open_acceptors(net, plant, acceptors) {
@@ -60,19 +58,15 @@ pub(crate) fn open_all<N: Net>(
 fn open_acceptors<N: Net>(net: &mut N, plant: &Plant, acceptors: &mut Vec<N::A>) -> bool
     requires empty { acceptors.old.items ≡ [] }
     requires places { length plant.now.panels ≤ vec_capacity acceptors.old }
-    ensures all { OnTrue result (
-        net_shows N.openings N.acceptors N.ports N.open_faults N.close_faults net.new
-        ≡ opened_acceptors plant.now (length acceptors.new.items)
-        (net_shows N.openings N.acceptors N.ports N.open_faults N.close_faults net.old)) }
+    ensures all { OnTrue result (N.shows net.new
+        ≡ opened_acceptors plant.now (length acceptors.new.items) (N.shows net.old)) }
     ensures count { OnTrue result (length acceptors.new.items ≡ length plant.now.panels) }
     ensures some { OnFalse result (WasRefused plant.now (length acceptors.new.items)
-        (net_shows N.openings N.acceptors N.ports N.open_faults N.close_faults net.old)
-        (net_shows N.openings N.acceptors N.ports N.open_faults N.close_faults net.new)) }
+        (N.shows net.old) (N.shows net.new)) }
     ensures fewer { OnFalse result (length acceptors.new.items < length plant.now.panels) }
     ensures few { length acceptors.new.items < 2 ^ 32 }
-    ensures fresh { All (IsFreshFor N.A.sessions N.A.links N.A.next_faults N.A.done_faults
-        plant.now.server) acceptors.new.items }
-    ensures own { AreOwn N.A.opening plant.now acceptors.new.items }
+    ensures fresh { All (IsFreshFor N.A.shows plant.now.server) acceptors.new.items }
+    ensures own { AreOwn N.A.shows plant.now acceptors.new.items }
 {
     let server = plant.server();
     for (number, panel) in plant.panels().iter().enumerate() {
@@ -87,18 +81,13 @@ fn open_acceptors<N: Net>(net: &mut N, plant: &Plant, acceptors: &mut Vec<N::A>)
 // Opens the acceptor of the panel of this number.
 fn open_acceptor<N: Net>(net: &mut N, server: &Server, number: u32, port: u16) -> Option<N::A>
     requires { length server.now.listen ≤ 64 }
-    ensures opened { OnSome result (
-        net_shows N.openings N.acceptors N.ports N.open_faults N.close_faults net.new
-        ≡ with_acceptor server.now number port
-        (net_shows N.openings N.acceptors N.ports N.open_faults N.close_faults net.old)) }
-    ensures refused { IfNone result (
-        net_shows N.openings N.acceptors N.ports N.open_faults N.close_faults net.new
-        ≡ with_refusal
-        (net_shows N.openings N.acceptors N.ports N.open_faults N.close_faults net.old)) }
-    ensures fresh { IfSome result (IsFreshFor N.A.sessions N.A.links N.A.next_faults
-        N.A.done_faults server.now) }
-    ensures own { IfSome result (λ acceptor. N.A.opening acceptor ≡ Some (Opening.Acceptor
-        number server.now.listen port server.now.sessions server.now.idle_ms)) }
+    ensures opened { OnSome result (N.shows net.new
+        ≡ with_acceptor server.now number port (N.shows net.old)) }
+    ensures refused { IfNone result (N.shows net.new ≡ with_refusal (N.shows net.old)) }
+    ensures fresh { IfSome result (IsFreshFor N.A.shows server.now) }
+    ensures own { IfSome result (λ acceptor. (N.A.shows acceptor).opening
+        ≡ Some (Opening.Acceptor number server.now.listen port server.now.sessions
+        server.now.idle_ms)) }
 {
     let address = server.listen.as_str();
     net.acceptor(number, address, port, server.sessions, server.idle_ms)
@@ -107,14 +96,8 @@ fn open_acceptor<N: Net>(net: &mut N, server: &Server, number: u32, port: u16) -
 // Opens the port to the displays.
 fn open_port<N: Net>(net: &mut N, server: &Server) -> Option<N::P>
     requires { length server.now.display ≤ 64 }
-    ensures opened { OnSome result (
-        net_shows N.openings N.acceptors N.ports N.open_faults N.close_faults net.new
-        ≡ with_port server.now
-        (net_shows N.openings N.acceptors N.ports N.open_faults N.close_faults net.old)) }
-    ensures refused { IfNone result (
-        net_shows N.openings N.acceptors N.ports N.open_faults N.close_faults net.new
-        ≡ with_refusal
-        (net_shows N.openings N.acceptors N.ports N.open_faults N.close_faults net.old)) }
+    ensures opened { OnSome result (N.shows net.new ≡ with_port server.now (N.shows net.old)) }
+    ensures refused { IfNone result (N.shows net.new ≡ with_refusal (N.shows net.old)) }
     ensures new { IfSome result (λ port. IsFreshPort (N.P.was_sent port) (N.P.faults port)) }
     ensures own { IfSome result (λ port.
         N.P.opening port ≡ Some (Opening.Display server.now.display)) }
@@ -125,36 +108,32 @@ fn open_port<N: Net>(net: &mut N, server: &Server) -> Option<N::P>
 
 // Gives back the acceptor of the panel of this number.
 pub(crate) fn close_acceptor<N: Net>(net: &mut N, number: u32, acceptor: N::A)
-    requires { 0 < (N.acceptors net.old).out }
-    ensures { net_shows N.openings N.acceptors N.ports N.open_faults N.close_faults net.new
-        ≡ with_closed (acceptor_shows number N.A.opening N.A.sessions N.A.links N.A.next_faults
-        N.A.done_faults acceptor)
-        (net_shows N.openings N.acceptors N.ports N.open_faults N.close_faults net.old) }
+    requires { 0 < (N.shows net.old).acceptors.out }
+    ensures { N.shows net.new
+        ≡ with_closed (acceptor_end number (N.A.shows acceptor)) (N.shows net.old) }
 {
     net.close_acceptor(number, acceptor);
 }
 
 // Gives back the port to the displays.
 pub(crate) fn close_port<N: Net>(net: &mut N, port: N::P)
-    requires { 0 < (N.ports net.old).out }
-    ensures { net_shows N.openings N.acceptors N.ports N.open_faults N.close_faults net.new
-        ≡ with_closed_port N.P.faults (port_end (N.P.opening port) port)
-        (net_shows N.openings N.acceptors N.ports N.open_faults N.close_faults net.old) }
+    requires { 0 < (N.shows net.old).ports.out }
+    ensures { N.shows net.new
+        ≡ with_closed_port N.P.faults (port_end (N.P.opening port) port) (N.shows net.old) }
 {
     net.close_port(port);
 }
 
 // Gives acceptors back that nothing was asked of, the last one first. They are those of the first panels.
 fn close_acceptors<N: Net>(net: &mut N, acceptors: &mut Vec<N::A>)
-    requires out { length acceptors.old.items ≤ (N.acceptors net.old).out }
+    requires out { length acceptors.old.items ≤ (N.shows net.old).acceptors.out }
     requires few { length acceptors.old.items < 2 ^ 32 }
-    requires fresh { All (λ acceptor. IsFreshAcceptor (N.A.links acceptor)
-        (N.A.next_faults acceptor) (N.A.done_faults acceptor)) acceptors.old.items }
+    requires fresh { All (λ acceptor. IsFreshAcceptor (N.A.shows acceptor).links
+        (N.A.shows acceptor).next_faults (N.A.shows acceptor).done_faults) acceptors.old.items }
     ensures emptied { acceptors.new.items ≡ [] }
-    ensures back { (plant : PlantData) → AreOwn N.A.opening plant acceptors.old.items
+    ensures back { (plant : PlantData) → AreOwn N.A.shows plant acceptors.old.items
         → ComeBackFresh plant (length acceptors.old.items) (length acceptors.old.items)
-        (net_shows N.openings N.acceptors N.ports N.open_faults N.close_faults net.old)
-        (net_shows N.openings N.acceptors N.ports N.open_faults N.close_faults net.new) }
+        (N.shows net.old) (N.shows net.new) }
 {
     while let Some(acceptor) = acceptors.pop() {
         close_acceptor(net, acceptors.len() as u32, acceptor);

@@ -2,11 +2,12 @@
 
 ghost use Rattle.std.specs.Prelude.{◌≡◌, ℕ, ◌^◌, ◌<◌, ◌≤◌};
 ghost use Rattle.ctl_net.specs.Acceptor.{link_end};
+ghost use Rattle.ctl_net.specs.Net.{acceptor_end};
 ghost use Rattle.plant_config.specs.Plant.{PlantData};
 ghost use Rattle.panel_session.specs.Served.{MayServe, trace_shows};
 ghost use Rattle.panel_session.specs.Session.{StandsFor};
 ghost use Rattle.panel_session.specs.SoFar.{nothing_yet};
-ghost use Rattle.panel_server.specs.PanelServed.{PanelServed, acceptor_shows};
+ghost use Rattle.panel_server.specs.PanelServed.{PanelServed};
 ghost use Rattle.panel_server.specs.PanelServedInside.{GivesBack, MayBegin, MayServeOn, ServedAll};
 
 use crate::leave::{make_leave, trace_leave};
@@ -73,11 +74,10 @@ pub fn serve_panel<W: Wait, A: Acceptor, G: Gate, K: Sink>(
     ensures served { (plant : PlantData) (panel : ℕ)
         → StandsFor plant panel session.old nothing_yet
         → PanelServed plant panel turns result session.new seat.old seat.new
-        (acceptor_shows panel A.opening A.sessions A.links A.next_faults A.done_faults acceptor.old)
-        (acceptor_shows panel A.opening A.sessions A.links A.next_faults A.done_faults acceptor.new)
+        (acceptor_end panel (A.shows acceptor.old)) (acceptor_end panel (A.shows acceptor.new))
         (trace_shows K.written K.faults trace.old)
         (trace_shows K.written K.faults trace.new) }
-    ensures opening { A.opening acceptor.new ≡ A.opening acceptor.old }
+    ensures opening { (A.shows acceptor.new).opening ≡ (A.shows acceptor.old).opening }
     ensures trace_name { K.name trace.new ≡ K.name trace.old }
 {
     let (mut done, full) = serve_links(rt, session, lock, seat, acceptor, gate, trace, turns);
@@ -108,14 +108,13 @@ fn serve_links<W: Wait, A: Acceptor, G: Gate, K: Sink>(
     requires turns { turns ≤ 2 ^ 40 }
     ensures served { (plant : PlantData) (panel : ℕ) → MayBegin plant panel session.old
         → ServedAll plant panel turns result.0 result.1 seat.old seat.new
-        (acceptor_shows panel A.opening A.sessions A.links A.next_faults A.done_faults acceptor.old)
-        (acceptor_shows panel A.opening A.sessions A.links A.next_faults A.done_faults acceptor.new)
+        (acceptor_end panel (A.shows acceptor.old)) (acceptor_end panel (A.shows acceptor.new))
         (trace_shows K.written K.faults trace.old)
         (trace_shows K.written K.faults trace.new) }
     ensures begins { (plant : PlantData) (panel : ℕ) → MayBegin plant panel session.old
         → MayBegin plant panel session.new }
     ensures may { MayServeOn session.new lock.now seat.new }
-    ensures opening { A.opening acceptor.new ≡ A.opening acceptor.old }
+    ensures opening { (A.shows acceptor.new).opening ≡ (A.shows acceptor.old).opening }
     ensures trace_name { K.name trace.new ≡ K.name trace.old }
 {
     let mut done = PanelDone {
@@ -162,19 +161,18 @@ fn serve_link<W: Wait, A: Acceptor, G: Gate, K: Sink>(
 ) -> SessionEnd
     requires may { MayServeOn session.old lock.now seat.old }
     requires turns { turns ≤ 2 ^ 40 }
-    requires out { 0 < (A.links acceptor.old).out }
+    requires out { 0 < (A.shows acceptor.old).links.out }
     ensures gives_back { (plant : PlantData) (panel : ℕ) → MayBegin plant panel session.old
         → GivesBack plant panel turns result session.new seat.old seat.new
         (link_end (A.L.written link) (A.L.faults link) (A.L.read_half link))
-        (acceptor_shows panel A.opening A.sessions A.links A.next_faults A.done_faults acceptor.old)
-        (acceptor_shows panel A.opening A.sessions A.links A.next_faults A.done_faults acceptor.new)
+        (acceptor_end panel (A.shows acceptor.old)) (acceptor_end panel (A.shows acceptor.new))
         (trace_shows K.written K.faults trace.old)
         (trace_shows K.written K.faults trace.new) }
     ensures begins { (plant : PlantData) (panel : ℕ) → MayBegin plant panel session.old
         → MayBegin plant panel session.new }
     ensures may { MayServeOn session.new lock.now seat.new }
-    ensures sessions { A.sessions acceptor.new ≡ A.sessions acceptor.old }
-    ensures opening { A.opening acceptor.new ≡ A.opening acceptor.old }
+    ensures sessions { (A.shows acceptor.new).sessions ≡ (A.shows acceptor.old).sessions }
+    ensures opening { (A.shows acceptor.new).opening ≡ (A.shows acceptor.old).opening }
     ensures trace_name { K.name trace.new ≡ K.name trace.old }
 {
     let mut link = link;

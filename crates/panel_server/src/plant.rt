@@ -4,7 +4,7 @@ ghost use Rattle.std.specs.Prelude.{◌≡◌, ◌+◌, ◌<◌, ◌≤◌, leng
 ghost use Rattle.ctl_net.specs.Net.{IsFreshPort, TakesAll};
 ghost use Rattle.ctl_net.specs.declared.opening.Opening.{Opening};
 ghost use Rattle.panel_session.specs.Served.{trace_shows};
-ghost use Rattle.panel_server.specs.PlantServed.{NetData, ServedSo, net_shows};
+ghost use Rattle.panel_server.specs.PlantServed.{NetData, ServedSo};
 ghost use Rattle.panel_server.specs.ServeInside.{IsOpenedFor, opened_acceptors, with_port};
 
 use crate::give_back::give_all_back;
@@ -68,9 +68,7 @@ pub fn serve<'p, W: Wait + Threads + Sync, N: Net, G: Gate, K: Sink>(
 ) -> (Vec<K>, Result<PlantDone, ServeFault>)
     requires traces { length traces.items ≡ length plant.now.panels + 1 }
     requires names { names.now ≡ plant.now }
-    ensures served { ServedSo N.P.was_sent N.P.faults plant.now
-        (net_shows N.openings N.acceptors N.ports N.open_faults N.close_faults net.old)
-        (net_shows N.openings N.acceptors N.ports N.open_faults N.close_faults net.new)
+    ensures served { ServedSo N.P.was_sent N.P.faults plant.now (N.shows net.old) (N.shows net.new)
         (map (trace_shows K.written K.faults) traces.items)
         (map (trace_shows K.written K.faults) result.0.items) result.1 }
     ensures names { map K.name result.0.items ≡ map K.name traces.items }
@@ -97,17 +95,14 @@ fn serve_opened<W: Wait + Threads + Sync, N: Net, G: Gate, K: Sink>(
     traces: Vec<K>,
 ) -> (Vec<K>, Result<PlantDone, ServeFault>)
     requires traces { length traces.items ≡ length plant.now.panels + 1 }
-    requires opened { IsOpenedFor N.A.opening N.A.sessions N.A.links N.A.next_faults N.A.done_faults
-        plant.now room }
+    requires opened { IsOpenedFor N.A.shows plant.now room }
     requires port { IsFreshPort (N.P.was_sent port) (N.P.faults port) × TakesAll N.P.takes }
     requires own { N.P.opening port ≡ Some (Opening.Display plant.now.server.display) }
-    requires out { (length plant.now.panels ≤ (N.acceptors net.old).out)
-        × (0 < (N.ports net.old).out) }
-    ensures served { (before : NetData N.P)
-        → net_shows N.openings N.acceptors N.ports N.open_faults N.close_faults net.old
+    requires out { (length plant.now.panels ≤ (N.shows net.old).acceptors.out)
+        × (0 < (N.shows net.old).ports.out) }
+    ensures served { (before : NetData N.P) → N.shows net.old
         ≡ with_port plant.now.server (opened_acceptors plant.now (length plant.now.panels) before)
-        → ServedSo N.P.was_sent N.P.faults plant.now before
-        (net_shows N.openings N.acceptors N.ports N.open_faults N.close_faults net.new)
+        → ServedSo N.P.was_sent N.P.faults plant.now before (N.shows net.new)
         (map (trace_shows K.written K.faults) traces.items)
         (map (trace_shows K.written K.faults) result.0.items) result.1 }
     ensures names { map K.name result.0.items ≡ map K.name traces.items }

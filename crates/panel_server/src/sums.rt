@@ -39,10 +39,10 @@ impl Sums {
     )
         requires place { place < 2 ^ 16 }
         requires few { AreFew place self.old }
-        requires done { CountsFew (worker_shows A.opening A.sessions A.links A.next_faults
-            A.done_faults P.opening K.name K.written K.faults worker.now) }
-        ensures { self.new ≡ with_worker place (worker_shows A.opening A.sessions A.links
-            A.next_faults A.done_faults P.opening K.name K.written K.faults worker.now) self.old }
+        requires done { CountsFew (worker_shows A.shows P.opening K.name K.written K.faults
+            worker.now) }
+        ensures { self.new ≡ with_worker place (worker_shows A.shows P.opening K.name K.written
+            K.faults worker.now) self.old }
     {
         match worker {
             Worker::Panel(panel) => self.add_panel(place, &panel.done),
@@ -120,10 +120,10 @@ impl Sums {
 // Adds up what all workers have done.
 pub(crate) fn add_up<A: Acceptor, P: DisplayPort, K: Sink>(workers: &[Worker<'_, A, P, K>]) -> Sums
     requires few { length workers.now ≤ 2 ^ 16 }
-    requires done { All (λ worker. CountsFew (worker_shows A.opening A.sessions A.links
-        A.next_faults A.done_faults P.opening K.name K.written K.faults worker)) workers.now }
-    ensures sums { result ≡ sums_from 0 (map (worker_shows A.opening A.sessions A.links
-        A.next_faults A.done_faults P.opening K.name K.written K.faults) workers.now) no_sums }
+    requires done { All (λ worker. CountsFew (worker_shows A.shows P.opening K.name K.written
+        K.faults worker)) workers.now }
+    ensures sums { result ≡ sums_from 0 (map (worker_shows A.shows P.opening K.name K.written
+        K.faults) workers.now) no_sums }
     ensures few { AreFew (length workers.now) result }
 {
     let mut sums = Sums {

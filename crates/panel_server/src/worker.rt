@@ -46,14 +46,11 @@ pub(crate) fn work<W: Wait, A: Acceptor, P: DisplayPort, G: Gate, K: Sink>(
     gate: &G,
     worker: &mut Worker<'_, A, P, K>,
 )
-    requires { MayWork P.takes plant.now lock.now
-        (worker_shows A.opening A.sessions A.links A.next_faults A.done_faults P.opening K.name
+    requires { MayWork P.takes plant.now lock.now (worker_shows A.shows P.opening K.name
         K.written K.faults worker.old) }
     ensures { HasDoneWork P.was_sent P.faults plant.now
-        (worker_shows A.opening A.sessions A.links A.next_faults A.done_faults P.opening K.name
-        K.written K.faults worker.old)
-        (worker_shows A.opening A.sessions A.links A.next_faults A.done_faults P.opening K.name
-        K.written K.faults worker.new) }
+        (worker_shows A.shows P.opening K.name K.written K.faults worker.old)
+        (worker_shows A.shows P.opening K.name K.written K.faults worker.new) }
 {
     match worker {
         Worker::Panel(panel) => {

@@ -36,9 +36,8 @@ pub(crate) fn man<'p, A: Acceptor, P: DisplayPort, K: Sink>(
     requires sessions { length sessions.items ≡ length acceptors.items }
     requires seats { length seats.items ≡ length acceptors.items + 1 }
     requires traces { length traces.items ≡ length acceptors.items + 1 }
-    ensures { map (worker_shows A.opening A.sessions A.links A.next_faults A.done_faults P.opening
-        K.name K.written K.faults) result.items ≡ crew 0 sessions.entry.items seats.items
-        (ends_from A.opening A.sessions A.links A.next_faults A.done_faults 0 acceptors.items)
+    ensures { map (worker_shows A.shows P.opening K.name K.written K.faults) result.items
+        ≡ crew 0 sessions.entry.items seats.items (ends_from A.shows 0 acceptors.items)
         (map (sink_shows K.name K.written K.faults) traces.items)
         (port_end (P.opening port) port) }
 {
@@ -105,15 +104,14 @@ pub(crate) fn all_work<W: Wait + Threads + Sync, A: Acceptor, P: DisplayPort, G:
 )
     requires some { 0 < length workers.old }
     requires may { All (λ worker. MayWork P.takes plant.now lock.now
-        (worker_shows A.opening A.sessions A.links A.next_faults A.done_faults P.opening K.name
-        K.written K.faults worker)) workers.old }
+        (worker_shows A.shows P.opening K.name K.written K.faults worker)) workers.old }
     ensures length { length workers.new ≡ length workers.old }
     ensures worked { (k : ℕ) (other : _) → k < length workers.old
         → HasDoneWork P.was_sent P.faults plant.now
-        (worker_shows A.opening A.sessions A.links A.next_faults A.done_faults P.opening K.name
-        K.written K.faults (slice_index_or workers.old k other))
-        (worker_shows A.opening A.sessions A.links A.next_faults A.done_faults P.opening K.name
-        K.written K.faults (slice_index_or workers.new k other)) }
+        (worker_shows A.shows P.opening K.name K.written K.faults
+        (slice_index_or workers.old k other))
+        (worker_shows A.shows P.opening K.name K.written K.faults
+        (slice_index_or workers.new k other)) }
 {
     let threads = workers.len();
     for_each_mut(
@@ -121,14 +119,11 @@ pub(crate) fn all_work<W: Wait + Threads + Sync, A: Acceptor, P: DisplayPort, G:
         workers,
         threads,
         &|_, worker: &mut Worker<'_, A, P, K>|
-            requires { MayWork P.takes plant.now lock.now
-                (worker_shows A.opening A.sessions A.links A.next_faults A.done_faults P.opening
+            requires { MayWork P.takes plant.now lock.now (worker_shows A.shows P.opening
                 K.name K.written K.faults worker.now) }
             ensures { HasDoneWork P.was_sent P.faults plant.entry.now
-                (worker_shows A.opening A.sessions A.links A.next_faults A.done_faults P.opening
-                K.name K.written K.faults worker.entry.now)
-                (worker_shows A.opening A.sessions A.links A.next_faults A.done_faults P.opening
-                K.name K.written K.faults worker.exit.now) }
+                (worker_shows A.shows P.opening K.name K.written K.faults worker.entry.now)
+                (worker_shows A.shows P.opening K.name K.written K.faults worker.exit.now) }
         { work(rt, alloc, plant, lock, gate, worker) },
     );
 }

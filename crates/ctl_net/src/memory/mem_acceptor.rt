@@ -4,7 +4,8 @@ ghost use Rattle.std.specs.Prelude.{◌≡◌, ◌^◌, ◌<◌, ◌≤◌, IfOk
 ghost use Rattle.ctl_net.specs.Acceptor.{IfOne};
 ghost use Rattle.ctl_net.specs.MemLink.{IsNewLink};
 ghost use Rattle.ctl_net.specs.MemAcceptor.{unasked, AreNewLinks, next_answer, without_link};
-ghost use Rattle.ctl_net.specs.MemAcceptor.{after_next, after_done, at_most, links_of, opened_as};
+ghost use Rattle.ctl_net.specs.MemAcceptor.{after_next, after_done, at_most, opened_as};
+ghost use Rattle.ctl_net.specs.MemAcceptor.{shown_acceptor};
 
 use crate::memory::queue::take_front;
 use crate::{Acceptor, MemLink, Next, Opening};
@@ -171,15 +172,7 @@ impl MemAcceptor {
 impl Acceptor for MemAcceptor {
     type L = MemLink;
 
-    ghost opening = { λ a. a.opening };
-
-    ghost sessions = { λ a. a.sessions };
-
-    ghost links = { links_of };
-
-    ghost next_faults = { λ a. a.calls.faults };
-
-    ghost done_faults = { λ a. a.done_faults };
+    ghost shows = { shown_acceptor };
 
     fn next(&mut self) -> Next<MemLink> {
         self.lend()

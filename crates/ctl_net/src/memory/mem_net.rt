@@ -7,7 +7,7 @@ ghost use Rattle.ctl_net.specs.MemNet.{unopened, AreNewAcceptors, AreNewPorts};
 ghost use Rattle.ctl_net.specs.MemNet.{acceptor_answer, without_acceptor, after_acceptor};
 ghost use Rattle.ctl_net.specs.MemNet.{port_answer, without_port, after_port};
 ghost use Rattle.ctl_net.specs.MemNet.{after_close_acceptor, after_close_port};
-ghost use Rattle.ctl_net.specs.MemNet.{acceptors_of, ports_of, sessions_for};
+ghost use Rattle.ctl_net.specs.MemNet.{sessions_for, shown_net};
 ghost use Rattle.ctl_net.specs.declared.memory.closed_acceptor.ClosedAcceptor.{ClosedAcceptor};
 
 use crate::memory::queue::take_front;
@@ -203,23 +203,13 @@ impl MemNet {
 }
 
 impl Net for MemNet {
-    ghost use Rattle.std.specs.Prelude.{Some};
-
     type A = MemAcceptor;
 
     type P = MemPort;
 
-    ghost openings = { λ net. Some net.openings };
-
-    ghost acceptors = { acceptors_of };
-
-    ghost ports = { ports_of };
+    ghost shows = { shown_net };
 
     ghost sessions_for = { sessions_for };
-
-    ghost open_faults = { λ net. net.calls.faults };
-
-    ghost close_faults = { λ net. net.close_faults };
 
     #[tactic(auto, using(crate::proofs::MemNetLemmas::as_asked))]
     fn acceptor(

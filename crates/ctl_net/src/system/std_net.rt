@@ -61,17 +61,15 @@ where
 
     type P = UdpPort<R>;
 
-    ghost openings = { λ _. None };
-
-    ghost acceptors = { λ n. only_out n.acceptors_out };
-
-    ghost ports = { λ n. only_out n.ports_out };
+    ghost shows = { λ n. record {
+      openings = None;
+      acceptors = only_out n.acceptors_out;
+      ports = only_out n.ports_out;
+      open_faults = n.open_faults;
+      close_faults = n.close_faults;
+    } };
 
     ghost sessions_for = { λ _ sessions. sessions };
-
-    ghost open_faults = { λ n. n.open_faults };
-
-    ghost close_faults = { λ n. n.close_faults };
 
     fn acceptor(
         &mut self,

@@ -70,15 +70,13 @@ where
 
     type L = TcpLink<T::Stream>;
 
-    ghost opening = { λ a. a.opening };
-
-    ghost sessions = { λ a. a.sessions };
-
-    ghost links = { λ a. only_out a.out };
-
-    ghost next_faults = { λ a. a.next_faults };
-
-    ghost done_faults = { λ a. a.done_faults };
+    ghost shows = { λ a. record {
+      opening = a.opening;
+      sessions = a.sessions;
+      links = only_out a.out;
+      next_faults = a.next_faults;
+      done_faults = a.done_faults;
+    } };
 
     fn next(&mut self) -> Next<TcpLink<T::Stream>> {
         if self.sessions == 0 {

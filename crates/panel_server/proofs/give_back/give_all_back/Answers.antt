@@ -2,7 +2,7 @@ use Rattle.std.proofs.Common.{◌≡◌, ℕ, ◌+◌, List, [], ◌∷◌, ◌+
 use Rattle.std.proofs.lemmas.List.{length-append, map-append}
 use Rattle.std.specs.Vec.Iter.{into_iter_items, into_iter_len}
 use Rattle.panel_session.specs.Served.{PlantSeat}
-use Rattle.panel_server.specs.PlantServed.{NetData, net_shows}
+use Rattle.panel_server.specs.PlantServed.{NetData}
 use Rattle.panel_server.specs.ServeInside.{MayGiveAll, after_all, given_back}
 use Rattle.panel_server.specs.Workers.{WorkerData, seat_of, trace_sink_of, sink_shows, worker_shows}
 use Rattle.panel_server.specs.declared.worker.Worker.{Worker}
@@ -31,8 +31,8 @@ pushed_next {One} {X} told all later one before after x items pushed is =
 pub loop-worker-preserved : goal.loop-worker-preserved
 loop-worker-preserved g c =
     let One = Worker g.row.N-A.Denot g.row.N-P.Denot g.row.K.Denot in
-    let shows = worker_shows g.N.A.Acceptor.opening g.N.A.Acceptor.sessions g.N.A.Acceptor.links g.N.A.Acceptor.next_faults g.N.A.Acceptor.done_faults g.N.P.DisplayPort.opening g.K.Sink.name g.K.Sink.written g.K.Sink.faults in
-    let net = net_shows g.N.Net.openings g.N.Net.acceptors g.N.Net.ports g.N.Net.open_faults g.N.Net.close_faults in
+    let shows = worker_shows g.N.A.Acceptor.shows g.N.P.DisplayPort.opening g.K.Sink.name g.K.Sink.written g.K.Sink.faults in
+    let net = g.N.Net.shows in
     let trace = sink_shows g.K.Sink.name g.K.Sink.written g.K.Sink.faults in
     let faults = g.N.P.DisplayPort.faults in
     let all : List One = into_iter_items c.loop-worker.waiting in

@@ -1,6 +1,5 @@
 use Rattle.std.proofs.Common.{◌≡◌, ◌+◌, ◌≤◌, ◌++◌, length, map, vec_capacity}
 use Rattle.std.specs.Vec.Iter.{into_iter_items, into_iter_len}
-use Rattle.panel_server.specs.PlantServed.{net_shows}
 use Rattle.panel_server.specs.ServeInside.{MayGiveAll, after_all}
 use Rattle.panel_server.specs.Workers.{seat_of, trace_sink_of, sink_shows, worker_shows}
 use Rattle.panel_server.proofs.give_back.give_all_back.Given as goal
@@ -8,8 +7,8 @@ use Rattle.panel_server.proofs.give_back.give_all_back.Given as goal
 -- With what the workers that are left give back, all comes out.
 abbrev pub invariant-loop-worker : goal.invariant-loop-worker
 invariant-loop-worker g l =
-    let shows = worker_shows g.N.A.Acceptor.opening g.N.A.Acceptor.sessions g.N.A.Acceptor.links g.N.A.Acceptor.next_faults g.N.A.Acceptor.done_faults g.N.P.DisplayPort.opening g.K.Sink.name g.K.Sink.written g.K.Sink.faults in
-    let net = net_shows g.N.Net.openings g.N.Net.acceptors g.N.Net.ports g.N.Net.open_faults g.N.Net.close_faults in
+    let shows = worker_shows g.N.A.Acceptor.shows g.N.P.DisplayPort.opening g.K.Sink.name g.K.Sink.written g.K.Sink.faults in
+    let net = g.N.Net.shows in
     let trace = sink_shows g.K.Sink.name g.K.Sink.written g.K.Sink.faults in
     record {
       counted : into_iter_len l.waiting ≡ length (into_iter_items l.waiting);

@@ -1,8 +1,9 @@
 use Rattle.std.proofs.Common.{◌≡◌, ◌+◌, true, false, inl, inr, refl, sym, ap, ◌∙◌, arith}
 use Rattle.ctl_net.specs.Acceptor.{link_end}
+use Rattle.ctl_net.specs.Net.{acceptor_end}
 use Rattle.panel_session.specs.Served.{trace_shows}
 use Rattle.panel_server.specs.declared.panel.PanelDone.{PanelDone}
-use Rattle.panel_server.specs.PanelServed.{acceptor_shows, is_full, is_last_end}
+use Rattle.panel_server.specs.PanelServed.{is_full, is_last_end}
 use Rattle.panel_server.proofs.OverLemmas.{end_same, goes_on, over_none, over_refused, served_last, served_on, sound_on}
 use Rattle.panel_server.proofs.PanelLemmas.{serves_none}
 use Rattle.panel_server.proofs.panel.serve_links.Goals as goal
@@ -10,7 +11,7 @@ use Rattle.panel_server.proofs.panel.serve_links.Goals as goal
 pub loop-link-init : goal.loop-link-init
 loop-link-init g c = record {
   served = λ plant panel begins. serves_none plant panel c.args.turns c.args.seat.now
-      (acceptor_shows panel g.A.Acceptor.opening g.A.Acceptor.sessions g.A.Acceptor.links g.A.Acceptor.next_faults g.A.Acceptor.done_faults c.args.acceptor.now)
+      (acceptor_end panel (g.A.Acceptor.shows c.args.acceptor.now))
       (trace_shows g.K.Sink.written g.K.Sink.faults c.args.trace.now);
   begins = λ plant panel begins. begins;
   may = c.requires.may;
@@ -44,7 +45,7 @@ returns-in-TraceFault-clause-served g c = λ plant panel begins.
     let e = c.in-One.ensures in
     let gives = c.serve_link-end.ensures.gives_back plant panel (i.begins plant panel begins) in
     let link = link_end (g.A.L.Sink.written c.in-One.link) (g.A.L.Sink.faults c.in-One.link) (g.A.L.Sink.read_half c.in-One.link) in
-    let at = acceptor_shows panel g.A.Acceptor.opening g.A.Acceptor.sessions g.A.Acceptor.links g.A.Acceptor.next_faults g.A.Acceptor.done_faults in
+    let at = λ (acceptor : g.row.A.Denot). acceptor_end panel (g.A.Acceptor.shows acceptor) in
     served_last (i.served plant panel begins) i.good i.asked c.serve_link-end.result c.serve_link-end.new.session c.serve_link-end.new.seat link (at c.next.new.self) (at c.serve_link-end.new.acceptor) (trace_shows g.K.Sink.written g.K.Sink.faults c.serve_link-end.new.trace) e.new gives refl e.opening e.sessions e.lent e.count e.done_count
     (ap is_last_end c.in-TraceFault.is) false (sym (ap is_full c.in-TraceFault.is)) c.count.new.self c.count.ensures.counted
 
@@ -54,7 +55,7 @@ returns-in-Full-clause-served g c = λ plant panel begins.
     let e = c.in-One.ensures in
     let gives = c.serve_link-end.ensures.gives_back plant panel (i.begins plant panel begins) in
     let link = link_end (g.A.L.Sink.written c.in-One.link) (g.A.L.Sink.faults c.in-One.link) (g.A.L.Sink.read_half c.in-One.link) in
-    let at = acceptor_shows panel g.A.Acceptor.opening g.A.Acceptor.sessions g.A.Acceptor.links g.A.Acceptor.next_faults g.A.Acceptor.done_faults in
+    let at = λ (acceptor : g.row.A.Denot). acceptor_end panel (g.A.Acceptor.shows acceptor) in
     served_last (i.served plant panel begins) i.good i.asked c.serve_link-end.result c.serve_link-end.new.session c.serve_link-end.new.seat link (at c.next.new.self) (at c.serve_link-end.new.acceptor) (trace_shows g.K.Sink.written g.K.Sink.faults c.serve_link-end.new.trace) e.new gives refl e.opening e.sessions e.lent e.count e.done_count
     (ap is_last_end c.in-Full.is) true (sym (ap is_full c.in-Full.is)) c.count.new.self c.count.ensures.counted
 
@@ -70,7 +71,7 @@ loop-link-preserved g c =
       served = λ plant panel begins.
           let gives = c.serve_link-end.ensures.gives_back plant panel (i.begins plant panel begins) in
           let link = link_end (g.A.L.Sink.written c.in-One.link) (g.A.L.Sink.faults c.in-One.link) (g.A.L.Sink.read_half c.in-One.link) in
-          let at = acceptor_shows panel g.A.Acceptor.opening g.A.Acceptor.sessions g.A.Acceptor.links g.A.Acceptor.next_faults g.A.Acceptor.done_faults in
+          let at = λ (acceptor : g.row.A.Denot). acceptor_end panel (g.A.Acceptor.shows acceptor) in
           served_on (i.served plant panel begins) i.good i.asked end c.serve_link-end.new.session c.serve_link-end.new.seat link (at c.next.new.self) (at c.serve_link-end.new.acceptor) (trace_shows g.K.Sink.written g.K.Sink.faults c.serve_link-end.new.trace) e.new gives refl e.opening e.sessions e.lent e.count e.done_count more c.count.new.self is;
       begins = λ plant panel begins. c.serve_link-end.ensures.begins plant panel (i.begins plant panel begins);
       may = c.serve_link-end.ensures.may;

@@ -8,13 +8,13 @@ use Rattle.panel_server.proofs.sums.add_up.Goals as goal
 
 pub add_worker-requires-clause-done : goal.add_worker-requires-clause-done
 add_worker-requires-clause-done g c κs within =
-    let shows = worker_shows g.A.Acceptor.opening g.A.Acceptor.sessions g.A.Acceptor.links g.A.Acceptor.next_faults g.A.Acceptor.done_faults g.P.DisplayPort.opening g.K.Sink.name g.K.Sink.written g.K.Sink.faults in
+    let shows = worker_shows g.A.Acceptor.shows g.P.DisplayPort.opening g.K.Sink.name g.K.Sink.written g.K.Sink.faults in
     subst (λ (worker : Worker g.row.A.Denot g.row.P.Denot g.row.K.Denot). CountsFew (shows worker)) (sym c.index-workers-place.is)
     (c.requires.done c.loop-place.place c.index-workers-place.result c.loop-place-test.true)
 
 pub loop-place-preserved : goal.loop-place-preserved
 loop-place-preserved g c =
-    let shows = worker_shows g.A.Acceptor.opening g.A.Acceptor.sessions g.A.Acceptor.links g.A.Acceptor.next_faults g.A.Acceptor.done_faults g.P.DisplayPort.opening g.K.Sink.name g.K.Sink.written g.K.Sink.faults in
+    let shows = worker_shows g.A.Acceptor.shows g.P.DisplayPort.opening g.K.Sink.name g.K.Sink.written g.K.Sink.faults in
     let place = c.loop-place.place in
     let workers = c.args.workers.now in
     let other = c.index-workers-place.result in

@@ -7,7 +7,7 @@ use Rattle.panel_server.proofs.workers.all_work.Goals as goal
 pub for_each_mut-requires-clause-accepts : goal.for_each_mut-requires-clause-accepts
 for_each_mut-requires-clause-accepts g c κs within i p below is = (
   subst (λ worker. MayWork g.P.DisplayPort.takes c.args.plant.now c.args.lock.now
-      (worker_shows g.A.Acceptor.opening g.A.Acceptor.sessions g.A.Acceptor.links g.A.Acceptor.next_faults g.A.Acceptor.done_faults g.P.DisplayPort.opening g.K.Sink.name g.K.Sink.written g.K.Sink.faults worker))
+      (worker_shows g.A.Acceptor.shows g.P.DisplayPort.opening g.K.Sink.name g.K.Sink.written g.K.Sink.faults worker))
       (sym is) (c.requires.may i p.now below),
   let sends = c.type_bounds in (
     param_send 1 _ (arg_send _ no _ sends.send-A),

@@ -8,8 +8,8 @@ use Rattle.panel_server.proofs.workers.man.Given as goal
 -- The workers so far, and those that will be made of what is left, are all.
 abbrev pub invariant-loop-acceptor : goal.invariant-loop-acceptor
 invariant-loop-acceptor g l =
-    let shows = worker_shows g.A.Acceptor.opening g.A.Acceptor.sessions g.A.Acceptor.links g.A.Acceptor.next_faults g.A.Acceptor.done_faults g.P.DisplayPort.opening g.K.Sink.name g.K.Sink.written g.K.Sink.faults in
-    let ends = ends_from g.A.Acceptor.opening g.A.Acceptor.sessions g.A.Acceptor.links g.A.Acceptor.next_faults g.A.Acceptor.done_faults in
+    let shows = worker_shows g.A.Acceptor.shows g.P.DisplayPort.opening g.K.Sink.name g.K.Sink.written g.K.Sink.faults in
+    let ends = ends_from g.A.Acceptor.shows in
     let port = port_end (g.P.DisplayPort.opening l.fn.port) l.fn.port in
     let trace = sink_shows g.K.Sink.name g.K.Sink.written g.K.Sink.faults in
     record {
