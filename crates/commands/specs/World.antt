@@ -2,6 +2,8 @@
 use Rattle.std.specs.Prelude.{◌≡◌, ℕ, List, Option}
 use Rattle.ctl_io.specs.Held.{Held}
 use Rattle.ctl_io.specs.Custody.{FilesCustody}
+pub use Rattle.ctl_io.specs.Files.{FilesData as Snapshot}
+use Rattle.ctl_io.specs.Files.{FilesData}
 
 -- What stands outside at a moment: what the files hold of each name, for each of its openings from then on, what they
 -- handed out and took back, how often they have failed, what was written to the output, where that shows it, and how
@@ -15,33 +17,21 @@ pub record World : Type 0 where
 
 -- The world of these files and this output: what the files hold and handed out, how often they failed, what was written to
 -- the output, and how often that failed, are what their types say of them.
-abbrev pub world : {F K : Type 0} → (F → List ℕ → ℕ → Held) → (F → FilesCustody)
-    → (F → ℕ) → (K → Option (List ℕ)) → (K → ℕ) → F → K → World
-world held custody file_faults written output_faults files out = record {
-  held = held files;
-  custody = custody files;
-  file_faults = file_faults files;
+abbrev pub world : {F K : Type 0} → (F → FilesData) → (K → Option (List ℕ)) → (K → ℕ)
+    → F → K → World
+world shows written output_faults files out = record {
+  held = (shows files).held;
+  custody = (shows files).custody;
+  file_faults = (shows files).faults;
   written = written out;
   output_faults = output_faults out;
 }
 
--- A snapshot of files: what they hold of each name, what they handed out and took back, and how often they have failed.
-pub record Snapshot : Type 0 where
-  pub held : List ℕ → ℕ → Held
-  pub custody : FilesCustody
-  pub faults : ℕ
-
--- that of a world
-abbrev pub snapshot : World → Snapshot
+-- what the files of a world show
+abbrev pub snapshot : World → FilesData
 snapshot world =
     record { held = world.held; custody = world.custody; faults = world.file_faults }
 
 -- The files stand as they did: what they hold, what they handed out and took back, and how often they have failed.
 abbrev pub FilesUntouched : World → World → Type 0
 FilesUntouched before now = snapshot now ≡ snapshot before
-
--- that of files by what their type says of them
-abbrev pub snapshot_of : {F : Type 0} → (F → List ℕ → ℕ → Held) → (F → FilesCustody)
-    → (F → ℕ) → F → Snapshot
-snapshot_of held custody faults files =
-    record { held = held files; custody = custody files; faults = faults files }

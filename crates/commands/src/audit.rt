@@ -2,7 +2,6 @@
 
 ghost use Rattle.std.specs.Prelude.{◌≡◌, [], false, IfOk, OnOk, IfErr};
 ghost use Rattle.ctl_io.specs.Faults.{count_after};
-ghost use Rattle.commands.specs.World.{snapshot_of};
 ghost use Rattle.command_words.specs.Words.{texts};
 ghost use Rattle.commands.specs.End.{Audited};
 ghost use Rattle.commands.specs.Audit.{trace_files};
@@ -30,11 +29,11 @@ pub(crate) fn audit<'a, F: Files, K: Sink>(
 ) -> Result<(), Stop<'a>>
     ensures ends { StopsFor result
         (Audits plant.now (texts names.now)
-        (snapshot_of F.held F.custody F.faults files.old)
-        (snapshot_of F.held F.custody F.faults files.new))
+        (F.shows files.old)
+        (F.shows files.new))
         (K.written out.old) (K.written out.new) }
-    ensures file_count { F.faults files.new
-        ≡ count_after (stopped_by_files result) (F.faults files.old) }
+    ensures file_count { (F.shows files.new).faults
+        ≡ count_after (stopped_by_files result) (F.shows files.old).faults }
     ensures output_count { K.faults out.new
         ≡ count_after (stopped_by_output result) (K.faults out.old) }
 {
@@ -55,15 +54,15 @@ fn read_traces<'a, F: Files>(
     files: &mut F,
 ) -> Result<Vec<u8>, Stop<'a>>
     ensures joined { IfOk result
-        (λ text. AreJoined (trace_files (F.held files.old) [] (texts names.now)) text.items) }
+        (λ text. AreJoined (trace_files (F.shows files.old).held [] (texts names.now)) text.items) }
     ensures read { OnOk result (ReadsAll (texts names.now)
-        (snapshot_of F.held F.custody F.faults files.old)
-        (snapshot_of F.held F.custody F.faults files.new)) }
+        (F.shows files.old)
+        (F.shows files.new)) }
     ensures stops { IfErr result (StopsReading (texts names.now)
-        (snapshot_of F.held F.custody F.faults files.old)
-        (snapshot_of F.held F.custody F.faults files.new)) }
-    ensures count { F.faults files.new
-        ≡ count_after (stopped_by_files result) (F.faults files.old) }
+        (F.shows files.old)
+        (F.shows files.new)) }
+    ensures count { (F.shows files.new).faults
+        ≡ count_after (stopped_by_files result) (F.shows files.old).faults }
 {
     let mut text = Vec::new(alloc);
     let mut left = MAX_TRACES;

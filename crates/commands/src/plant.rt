@@ -3,7 +3,6 @@
 ghost use Rattle.std.specs.Prelude.{◌≡◌, OnOk};
 ghost use Rattle.ctl_io.specs.Faults.{count_after};
 ghost use Rattle.ctl_io.specs.Held.{CountsOn};
-ghost use Rattle.commands.specs.World.{snapshot_of};
 ghost use Rattle.commands.specs.OpensPlant.{is_bench};
 ghost use Rattle.commands.specs.StopInside.{OpensAs, Opens, OpensNamed, AreNext};
 ghost use Rattle.commands.specs.StopInside.{stopped_by_files};
@@ -23,11 +22,11 @@ pub(crate) fn open_plant<'a, F: Files>(
     files: &mut F,
 ) -> Result<Plant, Stop<'a>>
     ensures opens { OpensAs (Opens word.now
-        (snapshot_of F.held F.custody F.faults files.old)
-        (snapshot_of F.held F.custody F.faults files.new)) result }
-    ensures next { OnOk result (AreNext word.now (F.held files.old) (F.held files.new)) }
-    ensures count { F.faults files.new
-        ≡ count_after (stopped_by_files result) (F.faults files.old) }
+        (F.shows files.old)
+        (F.shows files.new)) result }
+    ensures next { OnOk result (AreNext word.now (F.shows files.old).held (F.shows files.new).held) }
+    ensures count { (F.shows files.new).faults
+        ≡ count_after (stopped_by_files result) (F.shows files.old).faults }
 {
     if is_bench(word) {
         match Plant::bench(alloc) {
@@ -49,11 +48,11 @@ fn is_bench(word: &str) -> bool
 // The plant of the file of this name.
 fn read_plant<'a, F: Files>(alloc: Global, name: &'a str, files: &mut F) -> Result<Plant, Stop<'a>>
     ensures opens { OpensAs (OpensNamed name.now
-        (snapshot_of F.held F.custody F.faults files.old)
-        (snapshot_of F.held F.custody F.faults files.new)) result }
-    ensures next { OnOk result (CountsOn (F.held files.old name.now) (F.held files.new name.now)) }
-    ensures count { F.faults files.new
-        ≡ count_after (stopped_by_files result) (F.faults files.old) }
+        (F.shows files.old)
+        (F.shows files.new)) result }
+    ensures next { OnOk result (CountsOn ((F.shows files.old).held name.now) ((F.shows files.new).held name.now)) }
+    ensures count { (F.shows files.new).faults
+        ≡ count_after (stopped_by_files result) (F.shows files.old).faults }
 {
     let text = match read_file(alloc, files, name, MAX_PLANT) {
         Ok(text) => text,

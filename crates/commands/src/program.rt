@@ -34,8 +34,8 @@ pub fn run<R: Threads + Wait + Sync, F: Files, N: Net, G: Gate, K: Sink>(
     out: &mut K,
 ) -> u8
     ensures { ProgramEnds N.P.was_sent N.P.faults (texts words.now)
-        (world F.held F.custody F.faults K.written K.faults files.old out.old)
-        (world F.held F.custody F.faults K.written K.faults files.new out.new)
+        (world F.shows K.written K.faults files.old out.old)
+        (world F.shows K.written K.faults files.new out.new)
         (N.shows net.old) (N.shows net.new)
         result }
 {

@@ -31,8 +31,8 @@ pub fn run_quiet<F: Files, K: Sink>(
     out: &mut K,
 ) -> u8
     ensures { RunEnds (texts words.now)
-        (world F.held F.custody F.faults K.written K.faults files.old out.old)
-        (world F.held F.custody F.faults K.written K.faults files.new out.new)
+        (world F.shows K.written K.faults files.old out.old)
+        (world F.shows K.written K.faults files.new out.new)
         result }
 {
     let ended = carry_out(alloc, words, files, out);
@@ -47,8 +47,8 @@ fn carry_out<'a, F: Files, K: Sink>(
     out: &mut K,
 ) -> Result<(), Stop<'a>>
     ensures { RunStops (texts words.now)
-        (world F.held F.custody F.faults K.written K.faults files.old out.old)
-        (world F.held F.custody F.faults K.written K.faults files.new out.new)
+        (world F.shows K.written K.faults files.old out.old)
+        (world F.shows K.written K.faults files.new out.new)
         result }
 {
     match read_words(alloc, words) {
@@ -78,8 +78,8 @@ fn run_check<'a, F: Files, K: Sink>(
     out: &mut K,
 ) -> Result<(), Stop<'a>>
     ensures { CommandStops (Check word.now)
-        (world F.held F.custody F.faults K.written K.faults files.old out.old)
-        (world F.held F.custody F.faults K.written K.faults files.new out.new)
+        (world F.shows K.written K.faults files.old out.old)
+        (world F.shows K.written K.faults files.new out.new)
         result }
 {
     let plant = match open_plant(alloc, word, files) {
@@ -98,8 +98,8 @@ fn run_replay<'a, F: Files, K: Sink>(
     out: &mut K,
 ) -> Result<(), Stop<'a>>
     ensures { CommandStops (Replay word.now script.now)
-        (world F.held F.custody F.faults K.written K.faults files.old out.old)
-        (world F.held F.custody F.faults K.written K.faults files.new out.new)
+        (world F.shows K.written K.faults files.old out.old)
+        (world F.shows K.written K.faults files.new out.new)
         result }
 {
     let plant = match open_plant(alloc, word, files) {
@@ -118,8 +118,8 @@ fn run_audit<'a, F: Files, K: Sink>(
     out: &mut K,
 ) -> Result<(), Stop<'a>>
     ensures { CommandStops (Audit word.now (texts traces.now))
-        (world F.held F.custody F.faults K.written K.faults files.old out.old)
-        (world F.held F.custody F.faults K.written K.faults files.new out.new)
+        (world F.shows K.written K.faults files.old out.old)
+        (world F.shows K.written K.faults files.new out.new)
         result }
 {
     let plant = match open_plant(alloc, word, files) {
@@ -140,8 +140,8 @@ fn run_stream<'a, F: Files, K: Sink>(
 ) -> Result<(), Stop<'a>>
     ensures { (words : List (List ℕ)) → Ask words (Stream word.now script.now made.now)
         → RunStops words
-        (world F.held F.custody F.faults K.written K.faults files.old out.old)
-        (world F.held F.custody F.faults K.written K.faults files.new out.new)
+        (world F.shows K.written K.faults files.old out.old)
+        (world F.shows K.written K.faults files.new out.new)
         result }
 {
     let plant = match open_plant(alloc, word, files) {
@@ -159,8 +159,8 @@ fn run_monitor<'a, F: Files, K: Sink>(
     out: &mut K,
 ) -> Result<(), Stop<'a>>
     ensures { CommandStops (Monitor name.now)
-        (world F.held F.custody F.faults K.written K.faults files.old out.old)
-        (world F.held F.custody F.faults K.written K.faults files.new out.new)
+        (world F.shows K.written K.faults files.old out.old)
+        (world F.shows K.written K.faults files.new out.new)
         result }
 {
     monitor(alloc, name, files, out)

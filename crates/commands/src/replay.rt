@@ -2,7 +2,6 @@
 
 ghost use Rattle.std.specs.Prelude.{◌≡◌};
 ghost use Rattle.ctl_io.specs.Faults.{count_after};
-ghost use Rattle.commands.specs.World.{snapshot_of};
 ghost use Rattle.commands.specs.StopInside.{stopped_by_files, stopped_by_output, StopsFor, Replays};
 
 use crate::stop::Stop;
@@ -25,11 +24,11 @@ pub(crate) fn replay<'a, F: Files, K: Sink>(
 ) -> Result<(), Stop<'a>>
     ensures ends { StopsFor result
         (Replays plant.now name.now
-        (snapshot_of F.held F.custody F.faults files.old)
-        (snapshot_of F.held F.custody F.faults files.new))
+        (F.shows files.old)
+        (F.shows files.new))
         (K.written out.old) (K.written out.new) }
-    ensures file_count { F.faults files.new
-        ≡ count_after (stopped_by_files result) (F.faults files.old) }
+    ensures file_count { (F.shows files.new).faults
+        ≡ count_after (stopped_by_files result) (F.shows files.old).faults }
     ensures output_count { K.faults out.new
         ≡ count_after (stopped_by_output result) (K.faults out.old) }
 {

@@ -3,7 +3,7 @@
 ghost use Rattle.std.specs.Prelude.{◌≡◌, None, Some, IfErr, IfOk, OnErr};
 ghost use Rattle.ctl_io.specs.Faults.{count_after};
 ghost use Rattle.commands.specs.declared.stop.Stop.TheVariants.{NoMemory};
-ghost use Rattle.commands.specs.World.{Snapshot, snapshot_of};
+ghost use Rattle.commands.specs.World.{Snapshot};
 ghost use Rattle.command_words.specs.Words.{texts};
 ghost use Rattle.commands.specs.Serve.{EndsServed, PlantServiceEnds, ServiceEnds, answered_end};
 ghost use Rattle.commands.specs.ServeInside.{ServiceStops, StopsUnserved};
@@ -44,8 +44,8 @@ pub(crate) fn work_service<'a, R: Threads + Wait + Sync, F: Files, N: Net, G: Ga
 ) -> Result<(), Stop<'a>>
     ensures ends { ServiceStops result
         (ServiceEnds N.P.was_sent N.P.faults (service_of service.now)
-        (snapshot_of F.held F.custody F.faults files.old)
-        (snapshot_of F.held F.custody F.faults files.new)
+        (F.shows files.old)
+        (F.shows files.new)
         (N.shows net.old) (N.shows net.new))
         (K.written out.old) (K.written out.new) }
     ensures output_count { K.faults out.new
@@ -73,14 +73,14 @@ fn serve_plant<'a, R: Threads + Wait + Sync, F: Files, N: Net, G: Gate>(
 ) -> Result<Outcome, Stop<'a>>
     ensures served { IfOk result (λ outcome. EndsServed N.P.was_sent N.P.faults plant.now
         (prefix_of prefix.entry)
-        (snapshot_of F.held F.custody F.faults files.old)
-        (snapshot_of F.held F.custody F.faults files.new)
+        (F.shows files.old)
+        (F.shows files.new)
         (N.shows net.old) (N.shows net.new)
         (answered_end (texts outcome.names.items) outcome.answer)) }
     ensures stopped { IfErr result (λ stop. StopsUnserved stop
         (PlantServiceEnds N.P.was_sent N.P.faults plant.now (prefix_of prefix.entry)
-        (snapshot_of F.held F.custody F.faults files.old)
-        (snapshot_of F.held F.custody F.faults files.new)
+        (F.shows files.old)
+        (F.shows files.new)
         (N.shows net.old) (N.shows net.new))) }
 {
     let Ok(names) = Names::new(alloc, plant) else {
@@ -106,14 +106,14 @@ fn serve_traced<'a, R: Threads + Wait + Sync, F: Files, N: Net, G: Gate>(
     requires names { names.now ≡ plant.now }
     ensures served { IfOk result (λ outcome. EndsServed N.P.was_sent N.P.faults plant.now
         (Some prefix.now)
-        (snapshot_of F.held F.custody F.faults files.old)
-        (snapshot_of F.held F.custody F.faults files.new)
+        (F.shows files.old)
+        (F.shows files.new)
         (N.shows net.old) (N.shows net.new)
         (answered_end (texts outcome.names.items) outcome.answer)) }
     ensures stopped { IfErr result (λ stop. StopsUnserved stop
         (PlantServiceEnds N.P.was_sent N.P.faults plant.now (Some prefix.now)
-        (snapshot_of F.held F.custody F.faults files.old)
-        (snapshot_of F.held F.custody F.faults files.new)
+        (F.shows files.old)
+        (F.shows files.new)
         (N.shows net.old) (N.shows net.new))) }
 {
     let Ok(mut trace_names) = trace_names(alloc, prefix, plant.panels().len()) else {

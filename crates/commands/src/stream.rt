@@ -6,7 +6,6 @@ ghost use Rattle.ctl_io.specs.Held.{IsNamed, Holds};
 ghost use Rattle.ctl_io.specs.Sink.{IsUnwritten};
 ghost use Rattle.panel_server.specs.Workers.{sink_shows};
 ghost use Rattle.record_replay.specs.Streamed.{stream_failed};
-ghost use Rattle.commands.specs.World.{snapshot_of};
 ghost use Rattle.commands.specs.Replay.{longest_script};
 ghost use Rattle.commands.specs.StopInside.{stopped_by_output};
 ghost use Rattle.commands.specs.StreamInside.{StreamsTo, MakesStream, StreamStops};
@@ -34,8 +33,8 @@ pub(crate) fn stream<'a, F: Files, K: Sink>(
     out: &mut K,
 ) -> Result<(), Stop<'a>>
     ensures ends { StreamStops result plant.now name.now made.now
-        (snapshot_of F.held F.custody F.faults files.old)
-        (snapshot_of F.held F.custody F.faults files.new)
+        (F.shows files.old)
+        (F.shows files.new)
         (K.written out.old) (K.written out.new) }
     ensures output_count { K.faults out.new
         ≡ count_after (stopped_by_output result) (K.faults out.old) }
@@ -63,8 +62,8 @@ fn make_stream<'a, F: Files, K: Sink>(
     requires names { names.now ≡ plant.now }
     requires within { length script.now ≤ longest_script }
     ensures ends { MakesStream result plant.now (Holds script.now) made.now
-        (snapshot_of F.held F.custody F.faults files.old)
-        (snapshot_of F.held F.custody F.faults files.new)
+        (F.shows files.old)
+        (F.shows files.new)
         (K.written out.old) (K.written out.new) }
     ensures output_count { K.faults out.new
         ≡ count_after (stopped_by_output result) (K.faults out.old) }

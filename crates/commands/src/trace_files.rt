@@ -3,7 +3,6 @@
 ghost use Rattle.std.specs.Prelude.{◌≡◌, ◌≤◌, [], length, map, IfErr, IfOk, OnOk};
 ghost use Rattle.std.specs.Prelude.{vec_capacity};
 ghost use Rattle.command_words.specs.Words.{texts};
-ghost use Rattle.commands.specs.World.{snapshot_of};
 ghost use Rattle.commands.specs.Traces.{AreAsMade, FailsToMakeAll, MakesFiles, StopsMaking};
 ghost use Rattle.commands.specs.Traces.{TakesAllBack, trace_names};
 ghost use Rattle.panel_server.specs.Workers.{sink_shows};
@@ -44,15 +43,15 @@ pub(crate) fn make_traces<F: Files>(
     names: &[String],
 ) -> Result<Vec<F::K>, Unmade>
     ensures made { OnOk result (MakesFiles (texts names.now)
-        (snapshot_of F.held F.custody F.faults files.old)
-        (snapshot_of F.held F.custody F.faults files.new)) }
+        (F.shows files.old)
+        (F.shows files.new)) }
     ensures as_made { IfOk result (λ traces. AreAsMade (texts names.now)
         (map (sink_shows F.K.name F.K.written F.K.faults) traces.items)) }
     ensures out { IfOk result
-        (λ traces. length traces.items ≤ (F.custody files.new).sinks.out) }
+        (λ traces. length traces.items ≤ (F.shows files.new).custody.sinks.out) }
     ensures unmade { IfErr result (λ unmade. FailsToMakeAll (texts names.now) unmade
-        (snapshot_of F.held F.custody F.faults files.old)
-        (snapshot_of F.held F.custody F.faults files.new)) }
+        (F.shows files.old)
+        (F.shows files.new)) }
 {
     let mut traces = match Vec::with_capacity(alloc, names.len()) {
         Ok(traces) => traces,
@@ -73,15 +72,15 @@ fn make_each<F: Files>(files: &mut F, names: &[String], traces: &mut Vec<F::K>) 
     requires none { traces.old.items ≡ [] }
     requires room { length names.now ≤ vec_capacity traces.old }
     ensures made { OnOk result (MakesFiles (texts names.now)
-        (snapshot_of F.held F.custody F.faults files.old)
-        (snapshot_of F.held F.custody F.faults files.new)) }
+        (F.shows files.old)
+        (F.shows files.new)) }
     ensures as_made { OnOk result (AreAsMade (texts names.now)
         (map (sink_shows F.K.name F.K.written F.K.faults) traces.new.items)) }
-    ensures out { length traces.new.items ≤ (F.custody files.new).sinks.out }
+    ensures out { length traces.new.items ≤ (F.shows files.new).custody.sinks.out }
     ensures stops { IfErr result (λ place. StopsMaking (texts names.now) place
         (map (sink_shows F.K.name F.K.written F.K.faults) traces.new.items)
-        (snapshot_of F.held F.custody F.faults files.old)
-        (snapshot_of F.held F.custody F.faults files.new)) }
+        (F.shows files.old)
+        (F.shows files.new)) }
 {
     for (place, name) in names.iter().enumerate() {
         match files.sink(name.as_str()) {
@@ -94,10 +93,10 @@ fn make_each<F: Files>(files: &mut F, names: &[String], traces: &mut Vec<F::K>) 
 
 // Gives traces back, the last first.
 pub(crate) fn close_traces<F: Files>(files: &mut F, mut traces: Vec<F::K>)
-    requires { length traces.items ≤ (F.custody files.old).sinks.out }
+    requires { length traces.items ≤ (F.shows files.old).custody.sinks.out }
     ensures { TakesAllBack (map (sink_shows F.K.name F.K.written F.K.faults) traces.items)
-        (snapshot_of F.held F.custody F.faults files.old)
-        (snapshot_of F.held F.custody F.faults files.new) }
+        (F.shows files.old)
+        (F.shows files.new) }
 {
     while let Some(trace) = traces.pop() {
         files.close_sink(trace);

@@ -3,11 +3,11 @@
 ghost use Rattle.std.specs.Prelude.{◌≡◌, ◌<◌, ℕ, List};
 ghost use Rattle.ctl_io.specs.Faults.{count_after, is_faulty};
 ghost use Rattle.ctl_io.specs.Sink.{IsUnwritten};
-ghost use Rattle.ctl_io.specs.Held.{Held, HasLeft, MayBeMissing, Stays, OtherOpeningsStay};
+ghost use Rattle.ctl_io.specs.Held.{HasLeft, MayBeMissing, Stays, OtherOpeningsStay};
 ghost use Rattle.ctl_io.specs.Held.{AllStayBut, AfterFound, IsNamed};
-ghost use Rattle.ctl_io.specs.Custody.{FilesCustody, TakesSource, TakesSink};
+ghost use Rattle.ctl_io.specs.Custody.{TakesSource, TakesSink};
 ghost use Rattle.ctl_io.specs.Custody.{source_lent, sink_lent};
-ghost use Rattle.ctl_io.specs.Files.{IfFound, IfMade, source_failed, sink_failed};
+ghost use Rattle.ctl_io.specs.Files.{FilesData, IfFound, IfMade, source_failed, sink_failed};
 
 use crate::{Sink, Source};
 
@@ -31,51 +31,46 @@ pub trait Files {
 
     type K: Sink;
 
-    /// What they hold of a name for each of its openings from now, where they show it.
-    ghost held: { Self → List ℕ → ℕ → Held };
-
-    /// What they handed out and took back.
-    ghost custody: { Self → FilesCustody };
-
-    /// How often a call failed, or an object with faults was given back. Only the files' own calls raise it.
-    ghost faults: { Self → ℕ };
+    /// What they show: what they hold of a name for each of its openings from now; what they handed out and took back; and
+    /// how often a call failed, or an object with faults was given back. Only the files' own calls raise that.
+    ghost shows: { Self → FilesData };
 
     /// Opens the file of this name for reading.
     fn source(&mut self, name: &str) -> Found<Self::S>
         ensures left { IfFound result
-            (λ source. HasLeft (held self.old name.now 0) (Self.S.left source)) }
+            (λ source. HasLeft ((shows self.old).held name.now 0) (Self.S.left source)) }
         ensures named { IfFound result (λ source. IsNamed name.now (Self.S.name source)) }
         ensures new { IfFound result (λ source. Self.S.faults source ≡ 0) }
-        ensures missing { result ≡ Found.Missing → MayBeMissing (held self.old name.now 0) }
-        ensures next { AfterFound result (held self.old name.now) (held self.new name.now) }
-        ensures others { OtherOpeningsStay name.now (held self.old) (held self.new) }
-        ensures lent { custody self.new ≡ source_lent result (custody self.old) }
-        ensures count { faults self.new ≡ count_after (source_failed result) (faults self.old) };
+        ensures missing { result ≡ Found.Missing → MayBeMissing ((shows self.old).held name.now 0) }
+        ensures next { AfterFound result ((shows self.old).held name.now) ((shows self.new).held name.now) }
+        ensures others { OtherOpeningsStay name.now (shows self.old).held (shows self.new).held }
+        ensures lent { (shows self.new).custody ≡ source_lent result (shows self.old).custody }
+        ensures count { (shows self.new).faults ≡ count_after (source_failed result) (shows self.old).faults };
 
     /// Makes the file of this name anew, for writing.
     fn sink(&mut self, name: &str) -> Made<Self::K>
         ensures empty { IfMade result (λ sink. IsUnwritten (Self.K.written sink)) }
         ensures named { IfMade result (λ sink. IsNamed name.now (Self.K.name sink)) }
         ensures new { IfMade result (λ sink. Self.K.faults sink ≡ 0) }
-        ensures others { OtherOpeningsStay name.now (held self.old) (held self.new) }
-        ensures lent { custody self.new ≡ sink_lent result (custody self.old) }
-        ensures count { faults self.new ≡ count_after (sink_failed result) (faults self.old) };
+        ensures others { OtherOpeningsStay name.now (shows self.old).held (shows self.new).held }
+        ensures lent { (shows self.new).custody ≡ sink_lent result (shows self.old).custody }
+        ensures count { (shows self.new).faults ≡ count_after (sink_failed result) (shows self.old).faults };
 
     /// Takes back a source that these files handed out.
     fn close_source(&mut self, source: Self::S)
-        requires { 0 < (custody self.old).sources.out }
+        requires { 0 < (shows self.old).custody.sources.out }
         ensures returned { TakesSource (Self.S.name source) (Self.S.left source)
-            (Self.S.faults source) (custody self.old) (custody self.new) }
-        ensures same { (name : List ℕ) → Stays (held self.old name) (held self.new name) }
-        ensures count { faults self.new
-            ≡ count_after (is_faulty (Self.S.faults source)) (faults self.old) };
+            (Self.S.faults source) (shows self.old).custody (shows self.new).custody }
+        ensures same { (name : List ℕ) → Stays ((shows self.old).held name) ((shows self.new).held name) }
+        ensures count { (shows self.new).faults
+            ≡ count_after (is_faulty (Self.S.faults source)) (shows self.old).faults };
 
     /// Takes back a sink that these files handed out.
     fn close_sink(&mut self, sink: Self::K)
-        requires { 0 < (custody self.old).sinks.out }
+        requires { 0 < (shows self.old).custody.sinks.out }
         ensures returned { TakesSink (Self.K.name sink) (Self.K.written sink)
-            (Self.K.faults sink) (custody self.old) (custody self.new) }
-        ensures others { AllStayBut (Self.K.name sink) (held self.old) (held self.new) }
-        ensures count { faults self.new
-            ≡ count_after (is_faulty (Self.K.faults sink)) (faults self.old) };
+            (Self.K.faults sink) (shows self.old).custody (shows self.new).custody }
+        ensures others { AllStayBut (Self.K.name sink) (shows self.old).held (shows self.new).held }
+        ensures count { (shows self.new).faults
+            ≡ count_after (is_faulty (Self.K.faults sink)) (shows self.old).faults };
 }

@@ -28,18 +28,18 @@ pub fn read_file<F: Files>(
     name: &str,
     limit: usize,
 ) -> Result<Vec<u8>, FileFault>
-    ensures whole { IfOk result (λ whole. IsHeld (F.held files.old name.now 0) whole.items) }
+    ensures whole { IfOk result (λ whole. IsHeld ((F.shows files.old).held name.now 0) whole.items) }
     ensures within { IfOk result (λ whole. length whole.items ≤ limit) }
-    ensures missing { SaysMissing result → MayBeMissing (F.held files.old name.now 0) }
-    ensures too_long { SaysTooLong result → IsLonger limit (F.held files.old name.now 0) }
-    ensures no_memory { SaysNoMemory result → MayBeHere (F.held files.old name.now 0) }
+    ensures missing { SaysMissing result → MayBeMissing ((F.shows files.old).held name.now 0) }
+    ensures too_long { SaysTooLong result → IsLonger limit ((F.shows files.old).held name.now 0) }
+    ensures no_memory { SaysNoMemory result → MayBeHere ((F.shows files.old).held name.now 0) }
     ensures next { AfterReading (reading_of result)
-        (F.held files.old name.now) (F.held files.new name.now) }
-    ensures others { OtherOpeningsStay name.now (F.held files.old) (F.held files.new) }
+        ((F.shows files.old).held name.now) ((F.shows files.new).held name.now) }
+    ensures others { OtherOpeningsStay name.now (F.shows files.old).held (F.shows files.new).held }
     ensures given_back { IsGivenBack (reading_of result) name.now
-        (F.custody files.old) (F.custody files.new) }
-    ensures count { F.faults files.new
-        ≡ count_after (reading_failed (reading_of result)) (F.faults files.old) }
+        (F.shows files.old).custody (F.shows files.new).custody }
+    ensures count { (F.shows files.new).faults
+        ≡ count_after (reading_failed (reading_of result)) (F.shows files.old).faults }
 {
     let mut source = match files.source(name) {
         Found::Here(source) => source,

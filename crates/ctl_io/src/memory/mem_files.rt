@@ -190,11 +190,11 @@ impl Files for MemFiles {
 
     type K = NamedSink;
 
-    ghost held = { held_of };
-
-    ghost custody = { custody_of };
-
-    ghost faults = { λ f. f.calls.faults };
+    ghost shows = { λ f. record {
+      held = held_of f;
+      custody = custody_of f;
+      faults = f.calls.faults;
+    } };
 
     fn source(&mut self, name: &str) -> Found<NamedSource> {
         self.lend_source(name)

@@ -51,14 +51,14 @@ where
 
     type K = FileSink<R::File>;
 
-    ghost held = { λ _ _ _. Unshown };
-
-    ghost custody = { λ f. record {
-      sources = only_out f.sources_out;
-      sinks = only_out f.sinks_out;
+    ghost shows = { λ f. record {
+      held = λ _ _. Unshown;
+      custody = record {
+        sources = only_out f.sources_out;
+        sinks = only_out f.sinks_out;
+      };
+      faults = f.faults;
     } };
-
-    ghost faults = { λ f. f.faults };
 
     fn source(&mut self, name: &str) -> Found<FileSource<R::File>> {
         if self.sources_out == u64::MAX {

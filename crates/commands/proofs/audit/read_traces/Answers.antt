@@ -1,7 +1,6 @@
 use Rattle.std.proofs.Common.{◌+◌, ◌-◌, [], List, ℕ, refl, sym, ◌∙◌, subst, take, drop, arith}
 use Rattle.std.proofs.lemmas.List.{take_all}
 use Rattle.commands.specs.declared.stop.Stop.TheVariants as stops
-use Rattle.commands.specs.World.{snapshot_of}
 use Rattle.command_words.specs.Words.{texts}
 use Rattle.commands.specs.Audit.{trace_files}
 use Rattle.commands.specs.StopInside.{stop_of_file}
@@ -15,8 +14,8 @@ pub returns-in-Err-clause-stops : goal.returns-in-Err-clause-stops
 returns-in-Err-clause-stops g c =
     let words = c.args.names.now in
     let i = c.loop-name.name-index in
-    let before = snapshot_of g.F.Files.held g.F.Files.custody g.F.Files.faults c.args.files.now in
-    let next = snapshot_of g.F.Files.held g.F.Files.custody g.F.Files.faults c.read_file.new.files in
+    let before = g.F.Files.shows c.args.files.now in
+    let next = g.F.Files.shows c.read_file.new.files in
     let reads = c.in-Err.ensures in
     rw c.of_file.ensures
     (subst (λ (ns : List (List ℕ)). StopsReading ns before next (stop_of_file c.in-Err.fault c.as_str-name.result stops.TraceTooLong))
@@ -29,8 +28,8 @@ pub returns-in_err-join_lines-clause-stops : goal.returns-in_err-join_lines-clau
 returns-in_err-join_lines-clause-stops g c =
     let words = c.args.names.now in
     let i = c.loop-name.name-index in
-    let before = snapshot_of g.F.Files.held g.F.Files.custody g.F.Files.faults c.args.files.now in
-    let next = snapshot_of g.F.Files.held g.F.Files.custody g.F.Files.faults c.read_file.new.files in
+    let before = g.F.Files.shows c.args.files.now in
+    let next = g.F.Files.shows c.read_file.new.files in
     let reads = c.in-Ok.ensures in
     if_err c.from_residual.result stops.NoMemory (λ stop. StopsReading (texts words) before next stop) c.from_residual.ensures.1
     (subst (λ (ns : List (List ℕ)). StopsReading ns before next stops.NoMemory)
@@ -43,8 +42,8 @@ pub loop-name-preserved : goal.loop-name-preserved
 loop-name-preserved g c =
     let words = c.args.names.now in
     let i = c.loop-name.name-index in
-    let before = snapshot_of g.F.Files.held g.F.Files.custody g.F.Files.faults c.args.files.now in
-    let next = snapshot_of g.F.Files.held g.F.Files.custody g.F.Files.faults c.read_file.new.files in
+    let before = g.F.Files.shows c.args.files.now in
+    let next = g.F.Files.shows c.read_file.new.files in
     let reads = c.in-Ok.ensures in
     record {
       read =
@@ -62,8 +61,8 @@ returns-clause-joined g c =
     let words = c.args.names.now in
     let i = c.loop-name.name-index in
     let all = take_all i words (omega (arith, c.loop-name-test.false)) in
-    subst (λ (ws : List _). AreJoined (trace_files (g.F.Files.held c.args.files.now) [] (texts ws)) c.loop-name.text.items) all
-    (read_all (snapshot_of g.F.Files.held g.F.Files.custody g.F.Files.faults c.args.files.now) (texts (take i words)) _ c.loop-name.left c.loop-name.text.items c.loop-name.invariant.read)
+    subst (λ (ws : List _). AreJoined (trace_files (g.F.Files.shows c.args.files.now).held [] (texts ws)) c.loop-name.text.items) all
+    (read_all (g.F.Files.shows c.args.files.now) (texts (take i words)) _ c.loop-name.left c.loop-name.text.items c.loop-name.invariant.read)
 
 pub returns-clause-read : goal.returns-clause-read
 returns-clause-read g c =
@@ -72,5 +71,5 @@ returns-clause-read g c =
     let all = take_all i words (omega (arith, c.loop-name-test.false)) in
     let read = c.loop-name.invariant.read in
     subst
-    (λ (ws : List _). ReadsAll (texts ws) (snapshot_of g.F.Files.held g.F.Files.custody g.F.Files.faults c.args.files.now) (snapshot_of g.F.Files.held g.F.Files.custody g.F.Files.faults c.loop-name.files)) all
+    (λ (ws : List _). ReadsAll (texts ws) (g.F.Files.shows c.args.files.now) (g.F.Files.shows c.loop-name.files)) all
     (record { well = read.well; within = read.within })

@@ -1,6 +1,5 @@
 use Rattle.std.proofs.Common.{Ok, Err, refl, sym}
 use Rattle.commands.specs.declared.stop.Stop.TheVariants as stops
-use Rattle.commands.specs.World.{snapshot_of}
 use Rattle.commands.specs.End.{NoMemory}
 use Rattle.commands.proofs.OpensLemmas.{as_bench, as_named}
 use Rattle.commands.proofs.plant.open_plant.Goals as goal
@@ -15,5 +14,5 @@ returns-in-Err-clause-opens g c =
 
 pub returns-else-is_bench-clause-opens : goal.returns-else-is_bench-clause-opens
 returns-else-is_bench-clause-opens g c =
-    as_named c.args.word.now (snapshot_of g.F.Files.held g.F.Files.custody g.F.Files.faults c.args.files.now) (snapshot_of g.F.Files.held g.F.Files.custody g.F.Files.faults c.read_plant.new.files)
+    as_named c.args.word.now (g.F.Files.shows c.args.files.now) (g.F.Files.shows c.read_plant.new.files)
     c.read_plant.result (sym c.if-is_bench.ensures) c.read_plant.ensures.opens

@@ -8,7 +8,7 @@ use Rattle.commands.proofs.program.run.Goals as goal
 
 pub returns-in-Some : goal.returns-in-Some
 returns-in-Some g c =
-    let mid = world g.F.Files.held g.F.Files.custody g.F.Files.faults g.K.Sink.written g.K.Sink.faults c.args.files.now c.work_drill-worked.new.out in
+    let mid = world g.F.Files.shows g.K.Sink.written g.K.Sink.faults c.args.files.now c.work_drill-worked.new.out in
     rw c.number.ensures
     (inl (
       c.in-Some.drill,
@@ -28,7 +28,7 @@ returns-in_default-read_service g c =
 
 pub returns : goal.returns
 returns g c =
-    let mid = world g.F.Files.held g.F.Files.custody g.F.Files.faults g.K.Sink.written g.K.Sink.faults c.work_service-served.new.files c.work_service-served.new.out in
+    let mid = world g.F.Files.shows g.K.Sink.written g.K.Sink.faults c.work_service-served.new.files c.work_service-served.new.out in
     rw c.number-2.ensures
     (inr (inl (
       service_of c.in-Some-read_service.service,

@@ -1,6 +1,5 @@
 use Rattle.std.proofs.Common.{Err, refl, ◌∙◌, ap}
 use Rattle.ctl_io.specs.Faults.{count_after}
-use Rattle.commands.specs.World.{snapshot_of}
 use Rattle.command_words.specs.Words.{Replay}
 use Rattle.commands.specs.StopInside.{stopped_by_files}
 use Rattle.commands.proofs.CommandLemmas.{at_plant, replay_went}
@@ -13,6 +12,6 @@ returns-in-Err g c =
 
 pub returns : goal.returns
 returns g c =
-    replay_went c.args.word.now c.args.script.now _ _ (snapshot_of g.F.Files.held g.F.Files.custody g.F.Files.faults c.open_plant.new.files) c.in-Ok.plant c.replay.result
+    replay_went c.args.word.now c.args.script.now _ _ (g.F.Files.shows c.open_plant.new.files) c.in-Ok.plant c.replay.result
     c.in-Ok.ensures.opens c.in-Ok.ensures.next c.replay.ensures.ends
     (c.replay.ensures.file_count ∙ ap (count_after (stopped_by_files c.replay.result)) c.in-Ok.ensures.count) c.replay.ensures.output_count

@@ -1,5 +1,4 @@
 use Rattle.std.proofs.Common.{Err, refl}
-use Rattle.commands.specs.World.{snapshot_of}
 use Rattle.command_words.specs.Words.{Stream}
 use Rattle.commands.proofs.CommandLemmas.{at_plant, run_stopped, stream_went}
 use Rattle.commands.proofs.quiet.run_stream.Goals as goal
@@ -12,5 +11,5 @@ returns-in-Err g c = λ words ask.
 
 pub returns : goal.returns
 returns g c = λ words ask.
-    stream_went words c.args.word.now c.args.script.now c.args.made.now _ _ (snapshot_of g.F.Files.held g.F.Files.custody g.F.Files.faults c.open_plant.new.files) c.in-Ok.plant c.stream.result
+    stream_went words c.args.word.now c.args.script.now c.args.made.now _ _ (g.F.Files.shows c.open_plant.new.files) c.in-Ok.plant c.stream.result
     ask c.in-Ok.ensures.opens c.in-Ok.ensures.next c.stream.ensures.ends c.in-Ok.ensures.count c.stream.ensures.output_count

@@ -1,5 +1,4 @@
 use Rattle.std.proofs.Common.{refl}
-use Rattle.commands.specs.World.{snapshot_of}
 use Rattle.command_words.specs.Read.{prefix_of}
 use Rattle.commands.proofs.ServeLemmas.{unready, unready-err}
 use Rattle.commands.proofs.serve.serve_plant.Goals as goal
@@ -10,4 +9,4 @@ returns-in_default-clause-stopped g c = unready g.N.P.DisplayPort.was_sent g.N.P
 pub returns-clause-stopped : goal.returns-clause-stopped
 returns-clause-stopped g c =
     unready-err g.N.P.DisplayPort.was_sent g.N.P.DisplayPort.faults c.serve_untraced.result c.args.plant.now (prefix_of c.args.prefix)
-    (snapshot_of g.F.Files.held g.F.Files.custody g.F.Files.faults c.args.files.now) _ _ c.serve_untraced.ensures.no_memory c.serve_untraced.ensures.untouched
+    (g.F.Files.shows c.args.files.now) _ _ c.serve_untraced.ensures.no_memory c.serve_untraced.ensures.untouched

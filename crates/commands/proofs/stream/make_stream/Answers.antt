@@ -1,6 +1,5 @@
 use Rattle.ctl_io.specs.Held.{Holds}
 use Rattle.panel_server.specs.Workers.{sink_shows}
-use Rattle.commands.specs.World.{snapshot_of}
 use Rattle.commands.proofs.StreamEndsLemmas.{unmade_stop, done_ended, fault_ended}
 use Rattle.commands.proofs.stream.make_stream.Goals as goal
 
@@ -13,7 +12,7 @@ pub returns-in-Ok-clause-ends : goal.returns-in-Ok-clause-ends
 returns-in-Ok-clause-ends g c =
     let here = c.in-Here.ensures in
     let back = c.close_sink.ensures in
-    done_ended c.args.plant.now c.args.script.now c.args.made _ (snapshot_of g.F.Files.held g.F.Files.custody g.F.Files.faults c.sink.new.self) _
+    done_ended c.args.plant.now c.args.script.now c.args.made _ (g.F.Files.shows c.sink.new.self) _
     (sink_shows g.F.K.Sink.name g.F.K.Sink.written g.F.K.Sink.faults c.stream_to-ended.result.1) c.requires.within
     (record { others = here.others; custody = here.lent; faults = here.count }) (c.stream_to-ended.ensures.named c.args.made.now here.named)
     (record { others = back.others; custody = back.returned; faults = back.count }) c.stream_to-ended.result.0 _ _ _ _ c.in-Ok.is c.stream_to-ended.ensures.streams
@@ -23,7 +22,7 @@ returns-in-Err-clause-ends g c =
     let here = c.in-Here.ensures in
     let back = c.close_sink.ensures in
     rw c.of_stream.ensures
-    (fault_ended c.args.plant.now c.args.script.now c.args.made _ (snapshot_of g.F.Files.held g.F.Files.custody g.F.Files.faults c.sink.new.self) _
+    (fault_ended c.args.plant.now c.args.script.now c.args.made _ (g.F.Files.shows c.sink.new.self) _
     (sink_shows g.F.K.Sink.name g.F.K.Sink.written g.F.K.Sink.faults c.stream_to-ended.result.1) c.requires.within
     (record { others = here.others; custody = here.lent; faults = here.count }) (c.stream_to-ended.ensures.named c.args.made.now here.named)
     (record { others = back.others; custody = back.returned; faults = back.count }) c.stream_to-ended.result.0 c.in-Err.fault _ _ c.in-Err.is c.stream_to-ended.ensures.streams)

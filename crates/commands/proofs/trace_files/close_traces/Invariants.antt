@@ -1,14 +1,13 @@
 use Rattle.std.proofs.Common.{◌≤◌, length, vec_len}
-use Rattle.commands.specs.World.{snapshot_of}
 use Rattle.panel_server.specs.Workers.{sink_shows}
 use Rattle.commands.proofs.TraceSinkLemmas.{GaveBack}
 use Rattle.commands.proofs.trace_files.close_traces.Given as goal
 
 abbrev pub invariant-loop-trace : goal.invariant-loop-trace
 invariant-loop-trace g l = record {
-  room : length l.traces.items ≤ (g.F.Files.custody l.files).sinks.out;
+  room : length l.traces.items ≤ (g.F.Files.shows l.files).custody.sinks.out;
   gave : GaveBack (sink_shows g.F.K.Sink.name g.F.K.Sink.written g.F.K.Sink.faults) l.initial.traces.items l.traces.items
-      (snapshot_of g.F.Files.held g.F.Files.custody g.F.Files.faults l.initial.files) (snapshot_of g.F.Files.held g.F.Files.custody g.F.Files.faults l.files);
+      (g.F.Files.shows l.initial.files) (g.F.Files.shows l.files);
 }
 
 abbrev pub decreases-loop-trace : goal.decreases-loop-trace

@@ -1,5 +1,4 @@
 use Rattle.std.proofs.Common.{arith}
-use Rattle.commands.specs.World.{snapshot_of}
 use Rattle.panel_server.specs.Workers.{sink_shows}
 use Rattle.command_words.proofs.NamesLemmas.{text-at, take-texts}
 use Rattle.commands.proofs.TraceSinkLemmas.{makes-more, as_made-more, out-more}
@@ -12,7 +11,7 @@ returns-in-Failed-clause-stops g c =
       name = c.as_str.result.now;
       at = text-at c.args.names.now c.loop-place.place c.index-names-place.result _ c.loop-place-test.true c.index-names-place.is c.as_str.ensures.value;
       as_made = c.loop-place.invariant.as_made;
-      made = snapshot_of g.F.Files.held g.F.Files.custody g.F.Files.faults c.loop-place.files;
+      made = g.F.Files.shows c.loop-place.files;
       makes = c.loop-place.invariant.makes;
       fails = record { others = failed.others; custody = failed.lent; faults = failed.count };
     }
@@ -24,7 +23,7 @@ loop-place-preserved g c =
     let pushed = c.push_reserved.ensures in
     let more = take-texts c.args.names.now c.loop-place.place c.index-names-place.result _ c.loop-place-test.true c.index-names-place.is c.as_str.ensures.value in
     record {
-      makes = makes-more _ _ _ _ (snapshot_of g.F.Files.held g.F.Files.custody g.F.Files.faults c.loop-place.files) _ more so_far.makes (record { others = here.others; custody = here.lent; faults = here.count });
+      makes = makes-more _ _ _ _ (g.F.Files.shows c.loop-place.files) _ more so_far.makes (record { others = here.others; custody = here.lent; faults = here.count });
       as_made =
           as_made-more (sink_shows g.F.K.Sink.name g.F.K.Sink.written g.F.K.Sink.faults) _ _ _ _ c.loop-place.traces.items c.in-Here.sink more pushed.items so_far.as_made
           (record { named = here.named; unwritten = here.empty; no_faults = here.new });
