@@ -5,7 +5,7 @@ use Rattle.ctl_net.specs.LinkEvents.{bytes_of, most_reads}
 use Rattle.ctl_net.specs.MemLink.{InputState}
 use Rattle.ctl_net.specs.declared.link_event.LinkEvent.{LinkEvent}
 use Rattle.ctl_net.specs.declared.link_event.LinkEvent.TheVariants as event
-use Rattle.ctl_net.specs.declared.memory.mem_input.Told.{Told}
+use Rattle.ctl_net.specs.declared.memory.mem_input.PastRead.{PastRead}
 use Rattle.ctl_net.specs.declared.memory.mem_input.MemInput.TheInside.{Inside}
 
 -- the events without the first bytes of the first piece
@@ -21,12 +21,12 @@ FitsFirst n (event.Piece bytes ∷ events) = 0 < n → n < length bytes
 FitsFirst n (event.Idle ∷ events) = n ≡ 0
 
 -- how many bytes these reads gave
-abbrev pub counted : List Told → ℕ
+abbrev pub counted : List PastRead → ℕ
 counted [] = 0
 counted (one ∷ told) = one.count + counted told
 
 -- the reads, of which these are the rooms and the counts, and all the bytes
-abbrev pub readings : List Told → List ℕ → List Reading
+abbrev pub readings : List PastRead → List ℕ → List Reading
 readings [] bytes = []
 readings (one ∷ told) bytes =
     record { room = one.room; bytes = take one.count bytes } ∷ readings told (drop one.count bytes)

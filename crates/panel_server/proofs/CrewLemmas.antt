@@ -23,7 +23,7 @@ use Rattle.panel_server.specs.declared.sums.Sums.{Sums}
 use Rattle.panel_server.specs.Driven.{Driven}
 use Rattle.panel_server.specs.PanelServed.{PanelServed, all_returned}
 use Rattle.panel_server.specs.PlantServed.{DisplayRun, IsSeatIn, NetData, PanelRun, PlantServed, ServedSo, acceptor_openings, ends_unborn, faulty_back, lost_at, opened_all}
-use Rattle.panel_server.specs.ServeInside.{after_all, no_sums, opened_acceptors, sums_from, told, with_closed, with_closed_port, with_panel, with_port}
+use Rattle.panel_server.specs.ServeInside.{after_all, no_sums, opened_acceptors, sums_from, sums_answer, with_closed, with_closed_port, with_panel, with_port}
 use Rattle.panel_server.specs.Workers.{DisplayData, HasDriven, HasServedPanel, HasDoneWork, PanelData, WorkerData, of_displays, of_panel, seat_of, trace_sink_of, trace_of}
 use Rattle.panel_server.proofs.CauseLemmas.{cause_of}
 use Rattle.panel_server.proofs.CountLemmas.{AreAdded, added_first, added_last, counted}
@@ -253,7 +253,7 @@ module _ {P : Type 0} (WasSent : P → List (List ℕ) → Type 0) (faults : P �
       → net_then ≡ after_all faults crew_then (with_port plant.server (opened_acceptors plant (length plant.panels) net))
       → traces ≡ map (λ worker. trace_of (trace_sink_of worker)) crew → traces_then ≡ map (λ worker. trace_of (trace_sink_of worker)) crew_then
       → sums ≡ sums_from 0 crew_then no_sums → entries ≡ length past
-      → ServedSo WasSent faults plant net net_then traces traces_then (told sums entries past)
+      → ServedSo WasSent faults plant net net_then traces traces_then (sums_answer sums entries past)
   served_so crew crew_then net net_then traces traces_then sums entries runs legal few by_seats net_is traces_were traces_are sums_are entries_are =
       let served : PlantServed WasSent faults plant past net net_then traces traces_then = plant_served crew crew_then net net_then traces traces_then runs legal few by_seats net_is traces_were traces_are in
       let added : AreAdded 0 runs.panels runs.displays no_sums sums = subst (λ (s : Sums). AreAdded 0 runs.panels runs.displays no_sums s) (sym sums_are) (runs.added no_sums) in

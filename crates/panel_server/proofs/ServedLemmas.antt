@@ -13,7 +13,7 @@ use Rattle.panel_session.specs.Entry.{PlantEntry}
 use Rattle.panel_session.specs.Served.{PlantSeat}
 use Rattle.panel_server.specs.declared.sums.Sums.{Sums}
 use Rattle.panel_server.specs.PlantServed.{IsSeatIn, NetData, ServedSo}
-use Rattle.panel_server.specs.ServeInside.{after_all, no_sums, opened_acceptors, sums_from, told, with_port}
+use Rattle.panel_server.specs.ServeInside.{after_all, no_sums, opened_acceptors, sums_from, sums_answer, with_port}
 use Rattle.panel_server.specs.Workers.{HasDoneWork, WorkerData, seat_of, trace_sink_of, trace_of}
 use Rattle.panel_server.proofs.CrewLemmas.{IsNewCrew, runs_of, served_so}
 
@@ -39,7 +39,7 @@ module _ {P : Type 0} (WasSent : P → List (List ℕ) → Type 0) (faults : P �
   pub crew_served : (workers workers_then : List (WorkerData P)) (net net_then : NetData P) (sums : Sums) (entries : ℕ) (past : List PlantEntry) → IsNewCrew WasSent faults plant lock 0 workers
       → AllZip (HasDoneWork WasSent faults plant) workers workers_then → IsLockOf (start plant) (length plant.panels + 1) lock → IsClosed lock (map seat_of workers_then) entries past
       → net_then ≡ after_all faults workers_then (with_port plant.server (opened_acceptors plant (length plant.panels) net)) → sums ≡ sums_from 0 workers_then no_sums
-      → ServedSo WasSent faults plant net net_then (map (λ worker. trace_of (trace_sink_of worker)) workers) (map (λ worker. trace_of (trace_sink_of worker)) workers_then) (told sums entries past)
+      → ServedSo WasSent faults plant net net_then (map (λ worker. trace_of (trace_sink_of worker)) workers) (map (λ worker. trace_of (trace_sink_of worker)) workers_then) (sums_answer sums entries past)
   crew_served workers workers_then net net_then sums entries past new worked lock_is closed net_is sums_are =
       let legal = subst (λ (first : State). IsLegal step Takes first past) lock_is.0 closed.legal in
       let few : length past ≤ 2 ^ 62 = subst (λ (n : ℕ). n ≤ 2 ^ 62) closed.entries_are closed.limit in

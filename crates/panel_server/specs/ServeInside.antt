@@ -284,8 +284,8 @@ CountsFew (of_panel panel) = IsFewDone panel.done
 CountsFew (of_displays displays) = Unit {0}
 
 -- what the answer says of the sums, once the history is closed
-abbrev pub told : Sums → ℕ → List PlantEntry → Result PlantDone ServeFault
-told sums entries past = if ends_unborn sums.end then Err faults.NoMemory else Ok (record {
+abbrev pub sums_answer : Sums → ℕ → List PlantEntry → Result PlantDone ServeFault
+sums_answer sums entries past = if ends_unborn sums.end then Err faults.NoMemory else Ok (record {
   sessions = sums.sessions;
   entries = entries;
   limits = sums.limits;

@@ -11,7 +11,7 @@ use crate::give_back::give_all_back;
 use crate::open::open_all;
 use crate::room::{Lists, ServeRoom};
 use crate::sums::add_up;
-use crate::workers::{all_work, man};
+use crate::workers::{all_work, make_workers};
 use ctl_io::Sink;
 use ctl_net::{Gate, Net};
 use history_lock::Past;
@@ -119,10 +119,10 @@ fn serve_opened<W: Wait + Threads + Sync, N: Net, G: Gate, K: Sink>(
         seats: mut seats_back,
         traces: mut traces_back,
     } = lists;
-    let mut workers = man(sessions, seats, acceptors, port, traces, workers);
+    let mut workers = make_workers(sessions, seats, acceptors, port, traces, workers);
     all_work(rt, alloc, plant, &lock, gate, workers.as_mut_slice());
     let sums = add_up(workers.as_slice());
     give_all_back(net, workers, &mut seats_back, &mut traces_back);
     let closed = lock.close(seats_back);
-    (traces_back, sums.told(closed))
+    (traces_back, sums.answer(closed))
 }

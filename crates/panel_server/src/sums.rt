@@ -3,7 +3,7 @@
 ghost use Rattle.std.specs.Prelude.{◌≡◌, ◌+◌, ◌*◌, ◌^◌, ◌<◌, ◌≤◌, All, length, map};
 ghost use Rattle.panel_server.specs.PlantServed.{lost_at};
 ghost use Rattle.panel_server.specs.ServeInside.{AreFew, CountsFew, IsFewDone};
-ghost use Rattle.panel_server.specs.ServeInside.{no_sums, sums_from, told};
+ghost use Rattle.panel_server.specs.ServeInside.{no_sums, sums_from, sums_answer};
 ghost use Rattle.panel_server.specs.Workers.{worker_shows};
 
 use crate::displays::DriverEnd;
@@ -79,10 +79,10 @@ impl Sums {
     }
 
     // What the answer says of the workers, once the lock is closed.
-    pub(crate) fn told(&self, closed: Closed<PlantState>) -> Result<PlantDone, ServeFault>
+    pub(crate) fn answer(&self, closed: Closed<PlantState>) -> Result<PlantDone, ServeFault>
         requires few { AreFew (2 ^ 16) self.now }
         requires lost { lost_at self.now.end ≤ 2 ^ 62 }
-        ensures { result ≡ told self.now closed.entries closed.past }
+        ensures { result ≡ sums_answer self.now closed.entries closed.past }
     {
         let Closed {
             machine: _,

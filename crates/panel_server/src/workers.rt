@@ -22,7 +22,7 @@ use std::thread::{Threads, for_each_mut};
 use std::vec::IntoIter;
 
 // Makes the workers, in the order of the panels and last that of the displays.
-pub(crate) fn man<'p, A: Acceptor, P: DisplayPort, K: Sink>(
+pub(crate) fn make_workers<'p, A: Acceptor, P: DisplayPort, K: Sink>(
     sessions: Vec<Session<'p>>,
     seats: Vec<Seat<PlantState>>,
     acceptors: Vec<A>,
@@ -48,9 +48,9 @@ pub(crate) fn man<'p, A: Acceptor, P: DisplayPort, K: Sink>(
     let mut traces = traces.into_iter();
     let mut number = 0;
     while let Some(acceptor) = acceptors.next() {
-        let session = take(&mut sessions);
-        let seat = take(&mut seats);
-        let trace = take(&mut traces);
+        let session = next_of(&mut sessions);
+        let seat = next_of(&mut seats);
+        let trace = next_of(&mut traces);
         workers.push_reserved(Worker::Panel(PanelWorker {
             number,
             session,
@@ -67,8 +67,8 @@ pub(crate) fn man<'p, A: Acceptor, P: DisplayPort, K: Sink>(
         }));
         number += 1;
     }
-    let seat = take(&mut seats);
-    let trace = take(&mut traces);
+    let seat = next_of(&mut seats);
+    let trace = next_of(&mut traces);
     workers.push_reserved(Worker::Displays(DisplayWorker {
         seat,
         port,
@@ -81,7 +81,7 @@ pub(crate) fn man<'p, A: Acceptor, P: DisplayPort, K: Sink>(
 }
 
 // Takes the first of those that are left.
-fn take<T>(left: &mut IntoIter<T>) -> T
+fn next_of<T>(left: &mut IntoIter<T>) -> T
     requires some { 0 < length (into_iter_items left.old) }
     requires counted { into_iter_len left.old ≡ length (into_iter_items left.old) }
     ensures first { into_iter_items left.old ≡ result ∷ into_iter_items left.new }

@@ -87,7 +87,7 @@ impl MemAcceptor {
     }
 
     /// Keeps a link that this acceptor handed out behind those that were given back before.
-    pub fn take(&mut self, link: MemLink)
+    pub fn take_back(&mut self, link: MemLink)
         requires { 0 < self.old.out }
         ensures { self.new ≡ after_done link self.old }
     {
@@ -179,6 +179,6 @@ impl Acceptor for MemAcceptor {
     }
 
     fn done(&mut self, link: MemLink) {
-        self.take(link);
+        self.take_back(link);
     }
 }

@@ -15,7 +15,7 @@ use std::marker::Model;
 
 // A read that gave bytes or was idle.
 #[derive(Clone, Copy, Debug)]
-pub(crate) struct Told {
+pub(crate) struct PastRead {
     pub(crate) room: usize,
     pub(crate) count: usize,
 }
@@ -27,7 +27,7 @@ pub(crate) struct MemInput {
     // The next event, and how many of its bytes were given.
     at: usize,
     given: usize,
-    told: Vec<Told>,
+    told: Vec<PastRead>,
     // Counted as faults are.
     idles: FaultCount,
     calls: CallCount,
@@ -121,14 +121,14 @@ impl MemInput {
             LinkEvent::Idle => {
                 self.at += 1;
                 self.idles.raise();
-                self.told.push_reserved(Told { room, count: 0 });
+                self.told.push_reserved(PastRead { room, count: 0 });
                 LinkRead::Idle
             }
             LinkEvent::Piece(bytes) => {
                 let rest = &bytes.as_slice()[self.given..];
                 let n = copy_front(rest, into);
                 let is_last = n == rest.len();
-                self.told.push_reserved(Told { room, count: n });
+                self.told.push_reserved(PastRead { room, count: n });
                 if is_last {
                     self.at += 1;
                     self.given = 0;

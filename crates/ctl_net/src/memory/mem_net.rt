@@ -101,7 +101,7 @@ impl MemNet {
     }
 
     /// Keeps an acceptor that this net handed out behind those that were given back before.
-    pub fn take_acceptor(&mut self, closed: ClosedAcceptor)
+    pub fn take_back_acceptor(&mut self, closed: ClosedAcceptor)
         requires { 0 < self.old.acceptors_out }
         ensures { self.new ≡ after_close_acceptor closed self.old }
     {
@@ -113,7 +113,7 @@ impl MemNet {
     }
 
     /// Keeps a port that this net handed out behind those that were given back before.
-    pub fn take_port(&mut self, port: MemPort)
+    pub fn take_back_port(&mut self, port: MemPort)
         requires { 0 < self.old.ports_out }
         ensures { self.new ≡ after_close_port port self.old }
     {
@@ -237,10 +237,10 @@ impl Net for MemNet {
     }
 
     fn close_acceptor(&mut self, panel: u32, acceptor: MemAcceptor) {
-        self.take_acceptor(ClosedAcceptor { panel, acceptor });
+        self.take_back_acceptor(ClosedAcceptor { panel, acceptor });
     }
 
     fn close_port(&mut self, port: MemPort) {
-        self.take_port(port);
+        self.take_back_port(port);
     }
 }

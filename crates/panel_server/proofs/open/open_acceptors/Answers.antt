@@ -13,7 +13,7 @@ loop-number-init g c =
       net = opened_begins c.args.plant.now _;
       count = none;
       fresh = λ k d below. absurd (omega (arith, below, none));
-      own = own_none (g.N.A.Acceptor.shows c.args.plant.now).opening c.args.acceptors.now.items c.requires.empty;
+      own = own_none g.N.A.Acceptor.shows c.args.plant.now c.args.acceptors.now.items c.requires.empty;
       places = search rules;
     }
 

@@ -11,6 +11,6 @@ invariant-loop-number g l = record {
   count : length l.acceptors.items ≡ l.number;
   fresh : All (IsFreshFor g.N.A.Acceptor.shows l.fn.plant.server)
       l.acceptors.items;
-  own : AreOwn (g.N.A.Acceptor.shows l.fn.plant).opening l.acceptors.items;
+  own : AreOwn g.N.A.Acceptor.shows l.fn.plant l.acceptors.items;
   places : length l.fn.plant.panels ≤ vec_capacity l.acceptors;
 }

@@ -3,7 +3,7 @@ use Rattle.std.specs.Vec.Iter.{into_iter_items, into_iter_len}
 use Rattle.ctl_net.specs.Net.{port_end}
 use Rattle.panel_server.specs.ServeInside.{crew, ends_from}
 use Rattle.panel_server.specs.Workers.{sink_shows, worker_shows}
-use Rattle.panel_server.proofs.workers.man.Given as goal
+use Rattle.panel_server.proofs.workers.make_workers.Given as goal
 
 -- The workers so far, and those that will be made of what is left, are all.
 abbrev pub invariant-loop-acceptor : goal.invariant-loop-acceptor
@@ -22,7 +22,7 @@ invariant-loop-acceptor g l =
       traces_left : length (into_iter_items l.traces) ≡ length (into_iter_items l.acceptors) + 1;
       numbered : l.number + length (into_iter_items l.acceptors) ≡ length l.fn.acceptors.items;
       places : length l.workers.items + length (into_iter_items l.acceptors) + 1 ≤ vec_capacity l.workers;
-      manned : map shows l.workers.items ++ crew l.number (into_iter_items l.sessions) (into_iter_items l.seats) (ends l.number (into_iter_items l.acceptors))
+      crewed : map shows l.workers.items ++ crew l.number (into_iter_items l.sessions) (into_iter_items l.seats) (ends l.number (into_iter_items l.acceptors))
           (map trace (into_iter_items l.traces)) port
           ≡ crew 0 l.fn.sessions.items l.fn.seats.items (ends 0 l.fn.acceptors.items) (map trace l.fn.traces.items) port;
     }
