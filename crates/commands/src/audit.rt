@@ -53,8 +53,8 @@ fn read_traces<'a, F: Files>(
     names: &'a [String],
     files: &mut F,
 ) -> Result<Vec<u8>, Stop<'a>>
-    ensures joined { IfOk result
-        (λ text. AreJoined (trace_files (F.shows files.old).held [] (texts names.now)) text.items) }
+    ensures joined { IfOk result (λ text. AreJoined
+        (trace_files (F.shows files.old).held [] (texts names.now)) text.items) }
     ensures read { OnOk result (ReadsAll (texts names.now)
         (F.shows files.old)
         (F.shows files.new)) }

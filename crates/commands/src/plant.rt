@@ -24,7 +24,8 @@ pub(crate) fn open_plant<'a, F: Files>(
     ensures opens { OpensAs (Opens word.now
         (F.shows files.old)
         (F.shows files.new)) result }
-    ensures next { OnOk result (AreNext word.now (F.shows files.old).held (F.shows files.new).held) }
+    ensures next { OnOk result (AreNext word.now
+        (F.shows files.old).held (F.shows files.new).held) }
     ensures count { (F.shows files.new).faults
         ≡ count_after (stopped_by_files result) (F.shows files.old).faults }
 {
@@ -50,7 +51,8 @@ fn read_plant<'a, F: Files>(alloc: Global, name: &'a str, files: &mut F) -> Resu
     ensures opens { OpensAs (OpensNamed name.now
         (F.shows files.old)
         (F.shows files.new)) result }
-    ensures next { OnOk result (CountsOn ((F.shows files.old).held name.now) ((F.shows files.new).held name.now)) }
+    ensures next { OnOk result (CountsOn
+        ((F.shows files.old).held name.now) ((F.shows files.new).held name.now)) }
     ensures count { (F.shows files.new).faults
         ≡ count_after (stopped_by_files result) (F.shows files.old).faults }
 {
