@@ -11,13 +11,14 @@ use Rattle.plant_core.specs.declared.request.Request.{Request}
 use Rattle.panel_session.specs.declared.serve.SessionEnd.{SessionEnd}
 use Rattle.panel_session.specs.declared.serve.SessionEnd.TheVariants.{Ended, ReadFault, WriteFault, TraceFault, IdleOut, Spent, Full}
 use Rattle.panel_session.specs.Acting.{IsInPlace}
+use Rattle.panel_session.specs.AnsweringLaws.{appended-both, appended-none, lines-behind, mark-both, sees_both, sees_none}
 use Rattle.panel_session.specs.Entry.{PlantEntry}
 use Rattle.panel_session.specs.Served.{AnsweredButLast, PlantSeat, full_after, mark_after, own_lines}
 use Rattle.panel_session.specs.ServedInside.{Outside, HasBrokenOff, HasGoneOn, KeepsAnswered, outside}
 use Rattle.panel_session.specs.SoFar.{Progress, entries_so_far, read_so_far, with_bytes, with_entry, with_sent}
 use Rattle.panel_session.specs.TraceLine.{trace_line}
 use Rattle.panel_session.proofs.AnsweredLemmas.{answered_bytes, answered_front}
-use Rattle.panel_session.proofs.GoneOnLemmas.{SeesOwn, appended-both, appended-none, entries-more, lines-behind, mark-both, own-behind, sees_both, sees_none}
+use Rattle.panel_session.proofs.GoneOnLemmas.{SeesOwn, entries-more, own-behind}
 
 -- The mark of a seat where it ended so.
 full-both : (end : SessionEnd) (one other : List PlantEntry) (before : Bool) → full_after end (one ++ other) before ≡ full_after end other (mark_after one before)

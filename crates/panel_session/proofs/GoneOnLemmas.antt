@@ -1,10 +1,10 @@
 -- A session that is served, step by step.
-use Rattle.std.proofs.Common.{◌≡◌, ◌≢◌, ℕ, ◌+◌, ◌==◌, true, false, Bool, if◌then◌else◌, List, [], ◌∷◌, ◌++◌, length, Option, None, Some, inl, inr, refl, sym, ap, ◌∙◌, subst, arith}
+use Rattle.std.proofs.Common.{◌≡◌, ℕ, ◌+◌, ◌==◌, false, Bool, if◌then◌else◌, List, [], ◌∷◌, ◌++◌, length, Option, inl, inr, refl, sym, ap, ◌∙◌, arith}
 use Rattle.std.proofs.lemmas.Bool.Decides.{eqb_tells}
 use Rattle.std.proofs.lemmas.List.{append_assoc, append_cancel_left, append-nil, length-append, nil_from_length}
 use Rattle.std.proofs.lemmas.List.Elements.{filter-append}
 use Rattle.ctl_io.specs.Sink.{appended}
-use Rattle.history_lock.specs.Calls.{asked_by}
+use Rattle.history_lock.specs.Calls.{AddsOwn, IsNumbered, OnlyCalled, SeesAnswers, asked_by}
 use Rattle.history_lock.specs.History.{entries_of, IsLegal}
 use Rattle.plant_config.specs.Plant.{PlantData}
 use Rattle.plant_core.specs.State.{start, Fits as Takes}
@@ -12,85 +12,14 @@ use Rattle.plant_core.specs.Step.{step}
 use Rattle.plant_core.specs.declared.answer.Answer.{Answer}
 use Rattle.plant_core.specs.declared.request.Request.{Request}
 use Rattle.plant_core.specs.declared.request.Request.TheVariants.{Told, Poll, Leave, DisplayPoll}
-use Rattle.panel_session.specs.declared.session.Session.{Session}
 use Rattle.panel_session.specs.Acting.{IsInPlace}
+pub use Rattle.panel_session.specs.AnsweringLaws.{appended-both, appended-none, line-own, lines-behind, lines-both, lines-none, mark-both, mark-some, sees_both, sees_none}
 use Rattle.panel_session.specs.Entry.{PlantEntry}
 use Rattle.panel_session.specs.Served.{PlantSeat, mark_after, own_lines}
-use Rattle.panel_session.specs.ServedInside.{Outside, HasGoneOn, IsGiven, SeesMore, outside}
+use Rattle.panel_session.specs.ServedInside.{Outside, HasGoneOn, SeesMore, outside}
 use Rattle.panel_session.specs.SoFar.{Progress, entries_so_far, with_bytes, with_entry, with_sent}
 use Rattle.panel_session.specs.TraceLine.{trace_line}
 use Rattle.panel_session.proofs.KeepsLemmas.{entries-polled, entries-told}
-
--- what is appended in two parts is appended as a whole, and no bytes change nothing
-pub appended-both : (shown : Option (List ℕ)) (one other : List ℕ) → appended (appended shown one) other ≡ appended shown (one ++ other)
-appended-both None one other = refl
-appended-both (Some before) one other = ap (λ (all : List ℕ). Some all) (append_assoc before one other)
-
-pub appended-none : (shown : Option (List ℕ)) → appended shown [] ≡ shown
-appended-none None = refl
-appended-none (Some before) = ap (λ (all : List ℕ). Some all) (append-nil before)
-
--- the lines of entries and of others behind them
-pub lines-both : (plant : PlantData) (seat position next : ℕ) (one other : List PlantEntry) → next ≡ position + length one
-    → own_lines plant seat position (one ++ other) ≡ own_lines plant seat position one ++ own_lines plant seat next other
-lines-both plant seat position next [] other is = ap (λ (position : ℕ). own_lines plant seat position other) (let same : position ≡ next = omega arith in same)
-lines-both plant seat position next (entry ∷ one) other is =
-    let line : List ℕ = if entry.seat == seat then trace_line plant position entry.request entry.answers else [] in
-    ap (λ (rest : List ℕ). line ++ rest) (lines-both plant seat (position + 1) next one other (omega arith))
-    ∙ sym (append_assoc line (own_lines plant seat (position + 1) one) (own_lines plant seat next other))
-
--- entries of others have no lines
-pub lines-none : (plant : PlantData) (seat position : ℕ) (entries : List PlantEntry) → entries_of seat entries ≡ [] → own_lines plant seat position entries ≡ []
-lines-none plant seat position [] none = refl
-lines-none plant seat position (entry ∷ entries) none =
-    (elim (entry.seat == seat) as (λ own. (if own then entry ∷ entries_of seat entries else entries_of seat entries) ≡ []
-    → (if own then trace_line plant position entry.request entry.answers else []) ++ own_lines plant seat (position + 1) entries ≡ []) [
-      | true ↦ λ none. absurd cc
-      | false ↦ λ none. lines-none plant seat (position + 1) entries none
-    ]) none
-
--- an entry of the seat has its line
-pub line-own : (plant : PlantData) (position : ℕ) (entry : PlantEntry) → own_lines plant entry.seat position (entry ∷ []) ≡ trace_line plant position entry.request entry.answers
-line-own plant position entry = elim (eqb_tells entry.seat entry.seat) [
-  | (inl same) ↦ ap (λ (own : Bool). (if own then trace_line plant position entry.request entry.answers else []) ++ []) same.0 ∙ append-nil (trace_line plant position entry.request entry.answers)
-  | (inr apart) ↦ absurd (apart.1 refl)
-]
-
--- The mark of a seat that has seen entries, and then others.
-pub mark-both : (one other : List PlantEntry) (before : Bool) → mark_after (one ++ other) before ≡ mark_after other (mark_after one before)
-mark-both [] other before = refl
-mark-both (entry ∷ one) [] before = refl
-mark-both (entry ∷ one) (next ∷ other) before = refl
-
-pub mark-some : (between : List PlantEntry) (entry : PlantEntry) (before : Bool) → mark_after (between ++ entry ∷ []) before ≡ false
-mark-some [] entry before = refl
-mark-some (first ∷ between) entry before = refl
-
--- A seat has seen nothing more,
-pub sees_none : (plant : PlantData) (seat : PlantSeat) → SeesMore plant seat seat []
-sees_none plant seat = record { seen = sym (append-nil seat.seen); same = refl; legal = λ some. absurd (some refl) }
-
--- or entries and then others.
-pub sees_both : (plant : PlantData) (a b c : PlantSeat) (one other : List PlantEntry) → SeesMore plant a b one → SeesMore plant b c other → SeesMore plant a c (one ++ other)
-sees_both plant a b c one other sees more = record {
-  seen = more.seen ∙ ap (λ (seen : List PlantEntry). seen ++ other) sees.seen ∙ append_assoc a.seen one other;
-  same = more.same ∙ ap (λ (seat : PlantSeat). record seat { seen = c.seen; ticket_full = c.ticket_full }) sees.same;
-  legal = legal other more.legal more.seen;
-} where
-  legal : (other : List PlantEntry) → (other ≢ [] → IsLegal step Takes (start plant) c.seen) → c.seen ≡ b.seen ++ other → one ++ other ≢ [] → IsLegal step Takes (start plant) c.seen
-  legal [] later seen some =
-      let At : List PlantEntry → Type 0 = λ seen. IsLegal step Takes (start plant) seen in
-      subst At (sym (seen ∙ append-nil b.seen)) (sees.legal (λ none. some (append-nil one ∙ none)))
-  legal (entry ∷ other) later seen some = later (λ none. absurd cc)
-
--- the lines of entries that a seat has seen, and of others behind them, under its number
-pub lines-behind : (plant : PlantData) (a b : PlantSeat) (one other : List PlantEntry) → SeesMore plant a b one
-    → own_lines plant a.number (length a.seen) (one ++ other) ≡ own_lines plant a.number (length a.seen) one ++ own_lines plant b.number (length b.seen) other
-lines-behind plant a b one other sees =
-    let number : b.number ≡ a.number = ap (λ (seat : PlantSeat). seat.number) sees.same in
-    let longer : length b.seen ≡ length a.seen + length one = ap (length {A = PlantEntry}) sees.seen ∙ length-append a.seen one in
-    lines-both plant a.number (length a.seen) (length b.seen) one other longer
-    ∙ ap (λ (n : ℕ). own_lines plant a.number (length a.seen) one ++ own_lines plant n (length b.seen) other) (sym number)
 
 -- its entries among them
 pub own-behind : (plant : PlantData) (a b : PlantSeat) (one other past now later : List PlantEntry) → SeesMore plant a b one → now ≡ past ++ entries_of a.number one → later ≡ now ++ entries_of b.number other
@@ -154,17 +83,18 @@ pub record SeesOwn (plant : PlantData) (entry : PlantEntry) (number : ℕ) (seat
   pub lines : own_lines plant seat.number (length seat.seen) new ≡ trace_line plant number entry.request entry.answers
 
 -- So it is where the lock answered.
-pub sees_own : (plant : PlantData) (panel : ℕ) (past : Progress) (request : Request) (answers : List Answer) (number : ℕ) (session_then : Session) (seat seat_then : PlantSeat)
-    → IsGiven plant panel past request answers number session_then seat seat_then → SeesOwn plant (asked_by seat request answers) number seat seat_then
-sees_own plant panel past request answers number session_then seat seat_then is =
+pub sees_own : (plant : PlantData) (request : Request) (answers : List Answer) (number : ℕ) (seat seat_then : PlantSeat)
+    → IsNumbered number seat_then.seen → IsLegal step Takes (start plant) seat_then.seen → SeesAnswers seat request answers seat_then → AddsOwn seat request answers seat_then → OnlyCalled seat seat_then
+    → SeesOwn plant (asked_by seat request answers) number seat seat_then
+sees_own plant request answers number seat seat_then numbered legal answered adds rest =
     let n = seat.number in
     let entry : PlantEntry = asked_by seat request answers in
-    let between = is.sees.0 in
+    let between = answered.0 in
     let new = between ++ entry ∷ [] in
-    let seen : seat_then.seen ≡ seat.seen ++ new = is.sees.1 ∙ append_assoc seat.seen between (entry ∷ []) in
+    let seen : seat_then.seen ≡ seat.seen ++ new = answered.1 ∙ append_assoc seat.seen between (entry ∷ []) in
     let own : entries_of n new ≡ entry ∷ [] =
     append_cancel_left (entries_of n seat.seen) (entries_of n new) (entry ∷ [])
-    (sym (filter-append (λ (entry : PlantEntry). entry.seat == n) seat.seen new) ∙ ap (entries_of n) (sym seen) ∙ is.own) in
+    (sym (filter-append (λ (entry : PlantEntry). entry.seat == n) seat.seen new) ∙ ap (entries_of n) (sym seen) ∙ adds) in
     let one : entries_of n (entry ∷ []) ≡ entry ∷ [] = elim (eqb_tells n n) [
       | (inl same) ↦ ap (λ (own : Bool). if own then entry ∷ [] else []) same.0
       | (inr apart) ↦ absurd (apart.1 refl)
@@ -174,14 +104,14 @@ sees_own plant panel past request answers number session_then seat seat_then is 
     nil_from_length (entries_of n between) (omega (arith, ap (length {A = PlantEntry}) split, length-append (entries_of n between) (entries_of n (entry ∷ [])), ap (length {A = PlantEntry}) one)) in
     let next = length seat.seen + length between in
     let position : number ≡ next =
-    omega (arith, is.numbered.0, ap (length {A = PlantEntry}) seen, length-append seat.seen new, length-append between (entry ∷ [])) in
-    let mark : seat_then.ticket_full ≡ false = ap (λ (seat : PlantSeat). seat.ticket_full) is.rest in
+    omega (arith, numbered.0, ap (length {A = PlantEntry}) seen, length-append seat.seen new, length-append between (entry ∷ [])) in
+    let mark : seat_then.ticket_full ≡ false = ap (λ (seat : PlantSeat). seat.ticket_full) rest in
     record {
       new = new;
       sees = record {
         seen = seen;
-        same = is.rest ∙ ap (λ (full : Bool). record seat { seen = seat_then.seen; ticket_full = full }) (sym mark);
-        legal = λ some. is.legal;
+        same = rest ∙ ap (λ (full : Bool). record seat { seen = seat_then.seen; ticket_full = full }) (sym mark);
+        legal = λ some. legal;
       };
       full = mark ∙ sym (mark-some between entry seat.ticket_full);
       own = own;

@@ -12,6 +12,7 @@ pub mod CalledLemmas
 mod MadeLemmas
 pub mod AnsweredLemmas
 pub mod GoneOnLemmas
+pub mod AnsweringLemmas
 pub mod BrokenOffLemmas
 pub mod ServingLemmas
 pub mod IdleLemmas
@@ -26,12 +27,12 @@ mod NamesOnLemmas
 pub mod FrameRoom
 pub mod FrameLemmas
 pub mod AddLemmas
+pub mod AheadLemmas
 pub mod RoomLemmas
 pub mod NamePageLemmas
 mod NamesAddedLemmas
 pub mod LeftLemmas
 pub mod RunLemmas
-pub mod ServesLemmas
 pub mod TurnOnce
 pub mod ByteEnds
 pub mod AsksExist
@@ -44,6 +45,8 @@ pub mod SentLemmas
 pub mod WayLemmas
 mod SpelledLemmas
 pub mod WorkLemmas
+pub mod TellLemmas
+pub mod CutLemmas
 pub mod SessionRequests
 pub mod LampLemmas
 pub mod TraceLemmas

@@ -1,27 +1,24 @@
--- A turn that is on its way.
-use Rattle.std.proofs.Common.{◌≡◌, ◌≢◌, ℕ, ◌^◌, ◌<◌, true, false, if◌then◌else◌, Bool, List, [], ◌∷◌, ◌++◌, length, take, drop, All, refl, sym, ap, ◌∙◌, subst, arith}
+-- A turn that is on its way, whatever answers and wherever its bytes go.
+use Rattle.std.proofs.Common.{◌≡◌, ◌≢◌, ℕ, ◌^◌, ◌<◌, Bool, List, [], ◌∷◌, ◌++◌, length, take, drop, All, refl, sym, ap, ◌∙◌, subst, arith}
 use Rattle.std.proofs.lemmas.List.{append_assoc, append-nil, take-append-drop, length-drop, nil_from_length, take_all}
 use Rattle.std.proofs.lemmas.List.Elements.{All-nil, All-push}
 use Rattle.dle_framing.specs.Items.{items}
-use Rattle.history_lock.specs.History.{run, IsLegal, entry_at}
-use Rattle.history_lock.specs.Step.{Stepped}
-use Rattle.history_lock.proofs.HistoryLemmas.{run-append, legal_snoc}
 use Rattle.plant_config.specs.Plant.{PlantData}
-use Rattle.plant_core.specs.Answer.{IsSayable}
-use Rattle.plant_core.specs.declared.answer.Answer.{Answer}
-use Rattle.plant_core.specs.declared.request.Request.{Request}
-use Rattle.plant_core.specs.declared.request.Request.TheVariants.{Told, Poll, Leave, DisplayPoll}
-use Rattle.panel_session.specs.declared.session.act.Act.{Act}
 use Rattle.panel_session.specs.declared.session.act.Act.TheVariants.{Rest}
 use Rattle.panel_session.specs.declared.session.Session.{Session}
-use Rattle.panel_session.specs.Acting.{Acts, ActsOn, IsInPlace, MayGoOn}
+use Rattle.panel_session.specs.Acting.{Acts, MayGoOn}
+use Rattle.panel_session.specs.Engine.{HasCome, HasRun, HoldsAnswered, MayTurn}
+use Rattle.panel_session.specs.EngineInside.{HasAsked, HasSent, IsUnderWay}
 use Rattle.panel_session.specs.Entry.{PlantEntry}
-use Rattle.panel_session.specs.Run.{MayTurn, HasRun}
-use Rattle.panel_session.specs.RunInside.{IsUnderWay}
+use Rattle.panel_session.specs.Run.{turned}
+use Rattle.panel_session.specs.Served.{AnsweredButLast}
 use Rattle.panel_session.specs.Session.{StandsFor}
-use Rattle.panel_session.specs.SoFar.{Progress, unstarted, read_so_far, with_bytes, with_sent, with_entry}
+use Rattle.panel_session.specs.SoFar.{Progress, entries_so_far, unstarted, read_so_far, with_bytes, with_sent}
 use Rattle.panel_session.specs.Turns.{Turn, bytes_read, entries_in, entries_of_turns, IsTurn}
 use Rattle.panel_session.specs.Text.{IsText}
+use Rattle.panel_session.proofs.AnsweredLemmas.{answered_front, answered_more}
+use Rattle.panel_session.proofs.KeptItemLemmas.{read-more}
+use Rattle.panel_session.proofs.KeptTurnLemmas.{bytes_of-append, entries_of-append}
 
 -- nothing is left of nothing
 pub drop-none : (used : ℕ) (rest : List ℕ) → rest ≡ [] → drop used rest ≡ []
@@ -36,210 +33,164 @@ told_behind told polls entry none =
     let P : List PlantEntry → Type 0 = λ polls. (told ++ entry ∷ []) ++ polls ≡ (told ++ polls) ++ entry ∷ [] in
     subst P (sym none) (append-nil (told ++ entry ∷ []) ∙ ap (λ (told : List PlantEntry). told ++ entry ∷ []) (sym (append-nil told)))
 
-module _ {State : Type 0} {step : State → Request → Stepped State Answer} {Fits : State → Request → Type 0}
-    {plant : PlantData} {panel : ℕ} {past : Progress} {piece : List ℕ} {machine : State} where
-  -- a turn begins
-  pub way_begins : {most : State → ℕ} {session : Session} → MayTurn step Fits most plant panel session past machine piece
-      → IsUnderWay step Fits plant panel past piece machine machine session piece past []
-  way_begins may =
-      let Seat : PlantEntry → Type 0 = λ entry. entry.seat ≡ panel in
-      let SeatsIn : Turn → Type 0 = λ now. All Seat (entries_in now) in
-      let LegalIn : Turn → Type 0 = λ now. IsLegal step Fits machine (entries_in now) in
+-- What was said before a request is held by more bytes too,
+pub holds_more : (sf : Bool) (plant : PlantData) (past now : Progress) (bytes more : List ℕ) → HoldsAnswered sf plant past now bytes → HoldsAnswered sf plant past now (bytes ++ more)
+holds_more sf plant past now bytes more holds = λ yes keeps.
+    answered_front plant (read_so_far now) (entries_so_far now) (past.sent ++ bytes) (past.sent ++ (bytes ++ more)) (more, append_assoc past.sent bytes more) (holds yes keeps)
+
+-- and once more is read.
+pub holds_read : (sf : Bool) (plant : PlantData) (past now : Progress) (bytes used : List ℕ) → HoldsAnswered sf plant past now bytes → HoldsAnswered sf plant past (with_bytes used now) bytes
+holds_read sf plant past now bytes used holds = λ yes keeps.
+    let Read : List ℕ → Type 0 = λ read. AnsweredButLast plant read (entries_so_far now) (past.sent ++ bytes) in
+    subst Read (read-more now used) (answered_more plant (read_so_far now) used (entries_so_far now) (past.sent ++ bytes) (holds yes keeps))
+
+module _ {seat : ℕ} {past : Progress} {piece : List ℕ} where
+  -- more of the piece was used
+  pub used_more : {now : Progress} {rest : List ℕ} (used : ℕ) → HasCome seat past piece now rest → (now.now.piece ++ take used rest) ++ drop used rest ≡ piece
+  used_more {now = now} {rest = rest} used come =
+      append_assoc now.now.piece (take used rest) (drop used rest)
+      ∙ ap (λ (bytes : List ℕ). now.now.piece ++ bytes) (take-append-drop used rest) ∙ come.piece_is
+
+  pub come_used : {now : Progress} {rest left : List ℕ} (used : ℕ) → HasCome seat past piece now rest → left ≡ drop used rest → HasCome seat past piece (with_bytes (take used rest) now) left
+  come_used {now = now} {rest = rest} used come is = record {
+    turns = come.turns;
+    piece_is = ap (λ (left : List ℕ). (now.now.piece ++ take used rest) ++ left) is ∙ used_more used come;
+    idle = λ some. is ∙ drop-none used rest (come.idle some);
+    seats = come.seats;
+  }
+
+  -- bytes were sent
+  pub come_sent : {now : Progress} {rest : List ℕ} (bytes : List ℕ) → HasCome seat past piece now rest → HasCome seat past piece (with_sent bytes now) rest
+  come_sent bytes come = record { turns = come.turns; piece_is = come.piece_is; idle = come.idle; seats = come.seats }
+
+  -- a request was answered, with its entry behind the others
+  pub come_asked : {now later : Progress} {rest : List ℕ} (entry : PlantEntry) → HasCome seat past piece now rest → entry.seat ≡ seat
+      → later.turns ≡ now.turns → later.now.piece ≡ now.now.piece → entries_in later.now ≡ entries_in now.now ++ entry ∷ [] → (later.now.polls ≢ [] → rest ≡ [])
+      → HasCome seat past piece later rest
+  come_asked {now = now} {rest = rest} entry come own turns pieces entries idle =
+      let Seat : PlantEntry → Type 0 = λ entry. entry.seat ≡ seat in
       record {
-        turns = refl;
-        piece_is = ap (λ (now : Turn). now.piece ++ piece) may.begins;
-        idle = λ some. absurd (some (ap (λ (now : Turn). now.polls) may.begins));
-        sent = sym (append-nil past.sent);
-        seats = subst SeatsIn (sym may.begins) (All-nil Seat);
-        legal = subst LegalIn (sym may.begins) tt;
-        machine_is = ap (λ (now : Turn). run step machine (entries_in now)) (sym may.begins);
-        stands = may.stands;
+        turns = turns ∙ come.turns;
+        piece_is = ap (λ (front : List ℕ). front ++ rest) pieces ∙ come.piece_is;
+        idle = idle;
+        seats = subst (All Seat) (sym entries) (All-push Seat (entries_in now.now) entry come.seats own);
       }
 
   -- what is left of the piece may go on the turn so far
-  pub may_go_on : {most : State → ℕ} {machine_now : State} {session session_now : Session} {now : Progress} {rest more : List ℕ}
-      → MayTurn step Fits most plant panel session past machine piece
-      → IsUnderWay step Fits plant panel past piece machine machine_now session_now rest now more → MayGoOn now rest
-  may_go_on {now = now} {rest = rest} may way =
+  pub may_go_on : {Answerer : Type 0} {IsSeat : Answerer → ℕ → Type 0} {Serves : PlantData → Answerer → Type 0} {plant : PlantData} {panel : ℕ} {begun : Session} {first : Answerer} {now : Progress} {rest : List ℕ}
+      → MayTurn IsSeat Serves plant panel seat begun past first piece → HasCome seat past piece now rest → MayGoOn now rest
+  may_go_on {now = now} {rest = rest} may come =
       let read : read_so_far now ++ rest ≡ read_so_far past ++ piece =
       append_assoc (bytes_read now.turns) now.now.piece rest
-      ∙ ap (λ (bytes : List ℕ). bytes_read now.turns ++ bytes) way.piece_is
-      ∙ ap (λ (turns : List Turn). bytes_read turns ++ piece) way.turns
+      ∙ ap (λ (bytes : List ℕ). bytes_read now.turns ++ bytes) come.piece_is
+      ∙ ap (λ (turns : List Turn). bytes_read turns ++ piece) come.turns
       ∙ ap (λ (bytes : List ℕ). bytes ++ piece)
       (sym (append-nil (bytes_read past.turns)) ∙ ap (λ (turn : Turn). bytes_read past.turns ++ turn.piece) (sym may.begins)) in
       let Few : List ℕ → Type 0 = λ text. length (items text) < 2 ^ 62 in
       let FewTurns : ℕ → Type 0 = λ n. n < 2 ^ 62 in
       record {
         items = subst Few (sym read) may.may.items;
-        turns = subst FewTurns (sym (ap length way.turns)) may.may.turns;
-        rest = way.idle;
+        turns = subst FewTurns (sym (ap length come.turns)) may.may.turns;
+        rest = come.idle;
       }
 
-  -- what a call of `act` does on the way
-  pub acts_on_way : {most : State → ℕ} {machine_now : State} {session session_now : Session} {now : Progress} {rest more : List ℕ}
-      (used : ℕ) (act done : Act) (after : Session) → MayTurn step Fits most plant panel session past machine piece
-      → IsUnderWay step Fits plant panel past piece machine machine_now session_now rest now more
-      → ActsOn session_now rest used act after → act ≡ done → Acts plant panel (with_bytes (take used rest) now) rest used done after
-  acts_on_way {now = now} {rest = rest} used act done after may way acts is =
-      let At : Act → Type 0 = λ act. Acts plant panel (with_bytes (take used rest) now) rest used act after in
-      subst At is (acts plant panel now way.stands (may_go_on may way))
-
-  -- the machine's answers to a request that it takes can be sent
-  pub sayable_now : {most : State → ℕ} {machine_now : State} {session session_now : Session} {now : Progress} {rest more : List ℕ}
-      (request : Request) → MayTurn step Fits most plant panel session past machine piece
-      → IsUnderWay step Fits plant panel past piece machine machine_now session_now rest now more
-      → Fits machine_now request → All IsSayable (step machine_now request).answers
-  sayable_now {now = now} request may way fits =
-      let FitsIn : State → Type 0 = λ state. Fits state request in
-      let SayableIn : State → Type 0 = λ state. All IsSayable (step state request).answers in
-      subst SayableIn (sym way.machine_is) (may.serves.sayable (entries_in now.now) request way.legal (subst FitsIn way.machine_is fits))
-
-  -- more of the piece was used
-  pub used_more : {machine_now : State} {session_now : Session} {now : Progress} {rest more : List ℕ} (used : ℕ)
-      → IsUnderWay step Fits plant panel past piece machine machine_now session_now rest now more
-      → (now.now.piece ++ take used rest) ++ drop used rest ≡ piece
-  used_more {now = now} {rest = rest} used way =
-      append_assoc now.now.piece (take used rest) (drop used rest)
-      ∙ ap (λ (bytes : List ℕ). now.now.piece ++ bytes) (take-append-drop used rest) ∙ way.piece_is
+module _ {Answerer : Type 0} {Answers : Answerer → List PlantEntry → Answerer → Type 0} {sf : Bool}
+    {plant : PlantData} {panel seat : ℕ} {past : Progress} {piece : List ℕ} {first : Answerer} where
+  -- a turn begins
+  pub way_begins : {IsSeat : Answerer → ℕ → Type 0} {Serves : PlantData → Answerer → Type 0} {session : Session} → ((answerer : Answerer) → Answers answerer [] answerer)
+      → MayTurn IsSeat Serves plant panel seat session past first piece → IsUnderWay Answers sf plant panel seat past piece first first session piece past []
+  way_begins none may =
+      let Seat : PlantEntry → Type 0 = λ entry. entry.seat ≡ seat in
+      let SeatsIn : Turn → Type 0 = λ now. All Seat (entries_in now) in
+      let AnswersIn : Turn → Type 0 = λ now. Answers first (entries_in now) first in
+      record {
+        come = record {
+          turns = refl;
+          piece_is = ap (λ (now : Turn). now.piece ++ piece) may.begins;
+          idle = λ some. absurd (some (ap (λ (now : Turn). now.polls) may.begins));
+          seats = subst SeatsIn (sym may.begins) (All-nil Seat);
+        };
+        sent = sym (append-nil past.sent);
+        answers = subst AnswersIn (sym may.begins) (none first);
+        stands = may.stands;
+        answered = λ yes keeps.
+            let Sent : List ℕ → Type 0 = λ sent. AnsweredButLast plant (read_so_far past) (entries_so_far past) sent in
+            subst Sent (sym (append-nil past.sent)) keeps;
+      }
 
   -- bytes were sent
-  pub way_sent : {machine_now : State} {session_now after : Session} {now : Progress} {rest left more : List ℕ} (used : ℕ) (bytes : List ℕ)
-      → IsUnderWay step Fits plant panel past piece machine machine_now session_now rest now more → left ≡ drop used rest
+  pub way_sent : {answerer : Answerer} {session after : Session} {now : Progress} {rest left more : List ℕ} (used : ℕ) (bytes : List ℕ)
+      → IsUnderWay Answers sf plant panel seat past piece first answerer session rest now more → left ≡ drop used rest
       → StandsFor plant panel after (with_sent bytes (with_bytes (take used rest) now))
-      → IsUnderWay step Fits plant panel past piece machine machine_now after left
-      (with_sent bytes (with_bytes (take used rest) now)) (more ++ bytes)
-  way_sent {now = now} {rest = rest} {more = more} used bytes way is stands = record {
-    turns = way.turns;
-    piece_is = ap (λ (left : List ℕ). (now.now.piece ++ take used rest) ++ left) is ∙ used_more used way;
-    idle = λ some. is ∙ drop-none used rest (way.idle some);
-    sent = ap (λ (sent : List ℕ). sent ++ bytes) way.sent ∙ append_assoc past.sent more bytes;
-    seats = way.seats;
-    legal = way.legal;
-    machine_is = way.machine_is;
-    stands = stands;
-  }
-
-  -- A request was answered, with its entry behind the others, and bytes were sent.
-  pub asked_behind : {machine_now machine_then : State} {session_now after : Session} {now later : Progress} {rest left more : List ℕ}
-      (used : ℕ) (request : Request) (added : List ℕ)
-      → IsUnderWay step Fits plant panel past piece machine machine_now session_now rest now more → left ≡ drop used rest
-      → Fits machine_now request → machine_then ≡ (step machine_now request).state → StandsFor plant panel after later
-      → later.turns ≡ now.turns → later.now.piece ≡ now.now.piece ++ take used rest → later.sent ≡ now.sent ++ added
-      → entries_in later.now ≡ entries_in now.now ++ entry_at step machine_now panel request ∷ []
-      → (later.now.polls ≢ [] → left ≡ [])
-      → IsUnderWay step Fits plant panel past piece machine machine_then after left later (more ++ added)
-  asked_behind {machine_now = machine_now} {now = now} {rest = rest} {left = left} {more = more} used request added way is fits state stands turns pieces sent entries idle =
-      let before = entries_in now.now in
-      let entry = entry_at step machine_now panel request in
-      let own : entry ≡ entry_at step (run step machine before) panel request = ap (λ (state : State). entry_at step state panel request) way.machine_is in
-      let Seat : PlantEntry → Type 0 = λ entry. entry.seat ≡ panel in
-      let FitsIn : State → Type 0 = λ state. Fits state request in
-      let Legal : List PlantEntry → Type 0 = λ entries. IsLegal step Fits machine entries in
-      let LegalWith : PlantEntry → Type 0 = λ entry. IsLegal step Fits machine (before ++ entry ∷ []) in
-      let legal : LegalWith entry = subst LegalWith (sym own) (legal_snoc step Fits machine before panel request way.legal (subst FitsIn way.machine_is fits)) in
+      → HasSent Answers sf plant panel seat past piece first answerer after left more bytes
+  way_sent {now = now} {rest = rest} {more = more} used bytes way is stands =
+      let holds = holds_read sf plant past now more (take used rest) way.answered in
       record {
-        turns = turns ∙ way.turns;
-        piece_is = ap (λ (front : List ℕ). front ++ left) pieces ∙ ap (λ (left : List ℕ). (now.now.piece ++ take used rest) ++ left) is ∙ used_more used way;
-        idle = idle;
-        sent = sent ∙ ap (λ (bytes : List ℕ). bytes ++ added) way.sent ∙ append_assoc past.sent more added;
-        seats = subst (All Seat) (sym entries) (All-push Seat before entry way.seats refl);
-        legal = subst Legal (sym entries) legal;
-        machine_is = state ∙ ap (λ (state : State). (step state request).state) way.machine_is
-            ∙ sym (run-append step machine before (entry ∷ [])) ∙ ap (run step machine) (sym entries);
-        stands = stands;
+        now = with_sent bytes (with_bytes (take used rest) now);
+        way = record {
+          come = come_sent bytes (come_used used way.come is);
+          sent = ap (λ (sent : List ℕ). sent ++ bytes) way.sent ∙ append_assoc past.sent more bytes;
+          answers = way.answers;
+          stands = stands;
+          answered = holds_more sf plant past (with_bytes (take used rest) now) more bytes holds;
+        };
+        earlier = holds;
       }
 
-  -- no bytes more were sent
-  no_more : {machine_now : State} {session_now : Session} {now : Progress} {rest more : List ℕ}
-      → IsUnderWay step Fits plant panel past piece machine machine_now session_now rest now (more ++ [])
-      → IsUnderWay step Fits plant panel past piece machine machine_now session_now rest now more
-  no_more {machine_now = machine_now} {session_now = session_now} {now = now} {rest = rest} {more = more} way =
-      let Sent : List ℕ → Type 0 = λ more. IsUnderWay step Fits plant panel past piece machine machine_now session_now rest now more in
-      subst Sent (append-nil more) way
+  -- a session stands for the same past
+  pub way_for : {answerer : Answerer} {session : Session} {now : Progress} {rest more : List ℕ} (after : Session) → IsUnderWay Answers sf plant panel seat past piece first answerer session rest now more
+      → StandsFor plant panel after now → IsUnderWay Answers sf plant panel seat past piece first answerer after rest now more
+  way_for after way stands = record { come = way.come; sent = way.sent; answers = way.answers; stands = stands; answered = way.answered }
 
-  -- the machine answered a request
-  pub way_asked : {machine_now machine_then : State} {session_now after : Session} {now : Progress} {rest left more : List ℕ}
-      (used : ℕ) (request : Request)
-      → IsUnderWay step Fits plant panel past piece machine machine_now session_now rest now more → left ≡ drop used rest
-      → IsInPlace (with_bytes (take used rest) now) request used rest
-      → Fits machine_now request → machine_then ≡ (step machine_now request).state
-      → StandsFor plant panel after (with_entry (entry_at step machine_now panel request) (with_bytes (take used rest) now))
-      → IsUnderWay step Fits plant panel past piece machine machine_then after left
-      (with_entry (entry_at step machine_now panel request) (with_bytes (take used rest) now)) more
-  way_asked {machine_now = machine_now} {now = now} {rest = rest} {more = more} used (Told asker item message) way is place fits state stands =
-      let entry = entry_at step machine_now panel (Told asker item message) in
-      no_more (asked_behind used (Told asker item message) [] way is fits state stands refl refl (sym (append-nil now.sent))
-      (told_behind now.now.told now.now.polls entry place) (λ some. absurd (some place)))
-  way_asked {machine_now = machine_now} {now = now} {rest = rest} {more = more} used (Poll asker item turn) way is place fits state stands =
-      let entry = entry_at step machine_now panel (Poll asker item turn) in
-      no_more (asked_behind used (Poll asker item turn) [] way is fits state stands refl refl (sym (append-nil now.sent))
-      (sym (append_assoc now.now.told now.now.polls (entry ∷ []))) (λ some. is ∙ drop_all used rest place))
-  way_asked used (Leave asker) way is place fits state stands = absurd place
-  way_asked used (DisplayPoll screen refresh) way is place fits state stands = absurd place
+  -- a request was answered, and bytes were sent
+  pub way_asked : {answerer answerer_then : Answerer} {session after : Session} {now : Progress} {rest more : List ℕ} {entry : PlantEntry} {added : List ℕ}
+      → ((one next last : Answerer) (entries others : List PlantEntry) → Answers one entries next → Answers next others last → Answers one (entries ++ others) last)
+      → IsUnderWay Answers sf plant panel seat past piece first answerer session rest now more
+      → (asked : HasAsked plant panel seat past piece now rest entry added after) → Answers answerer (entry ∷ []) answerer_then
+      → IsUnderWay Answers sf plant panel seat past piece first answerer_then after rest asked.later (more ++ added)
+  way_asked {answerer = answerer} {answerer_then = answerer_then} {now = now} {more = more} {entry = entry} {added = added} both way asked one =
+      let AnswersAll : List PlantEntry → Type 0 = λ entries. Answers first entries answerer_then in
+      let sent : asked.later.sent ≡ past.sent ++ (more ++ added) = asked.sent ∙ ap (λ (bytes : List ℕ). bytes ++ added) way.sent ∙ append_assoc past.sent more added in
+      record {
+        come = asked.come;
+        sent = sent;
+        answers = subst AnswersAll (sym asked.entries) (both first answerer answerer_then (entries_in now.now) (entry ∷ []) way.answers one);
+        stands = asked.stands;
+        answered = λ yes keeps.
+            answered_front plant (read_so_far asked.later) (entries_so_far asked.later) now.sent (past.sent ++ (more ++ added)) (added, sym asked.sent ∙ sent) asked.answered;
+      }
 
   -- the turn is over
-  pub way_over : {machine_now : State} {session_now after : Session} {now : Progress} {rest more : List ℕ} (used : ℕ)
-      → IsUnderWay step Fits plant panel past piece machine machine_now session_now rest now more
+  pub way_over : {answerer : Answerer} {session after : Session} {now : Progress} {rest more : List ℕ} (used : ℕ)
+      → IsUnderWay Answers sf plant panel seat past piece first answerer session rest now more
       → Acts plant panel (with_bytes (take used rest) now) rest used Rest after
-      → HasRun step Fits plant panel past piece machine machine_now after more
+      → HasRun Answers sf plant panel seat past piece first answerer after more
   way_over {after = after} {now = now} {rest = rest} {more = more} used way acts =
+      let used_now = with_bytes (take used rest) now in
       let turn : Turn = record now.now { piece = now.now.piece ++ take used rest } in
+      let later : Progress = turned turn more past in
+      let turns : now.turns ≡ past.turns = way.come.turns in
       let all : take used rest ≡ rest = take_all used rest (omega (arith, acts.0)) in
+      let read : read_so_far later ≡ read_so_far used_now =
+      append-nil (bytes_read (past.turns ++ turn ∷ [])) ∙ bytes_of-append past.turns turn ∙ ap (λ (turns : List Turn). bytes_read turns ++ turn.piece) (sym turns) in
+      let entries : entries_so_far later ≡ entries_so_far now =
+      append-nil (entries_of_turns (past.turns ++ turn ∷ [])) ∙ entries_of-append past.turns turn
+      ∙ ap (λ (turns : List Turn). entries_of_turns turns ++ entries_in now.now) (sym turns) in
       let TurnBehind : List Turn → Type 0 = λ turns. IsTurn panel turns turn in
       let TextBehind : List Turn → Type 0 = λ turns. IsText plant (items (bytes_read turns ++ turn.piece)) (entries_of_turns turns ++ entries_in turn) now.sent in
       let TextOf : List ℕ → Type 0 = λ sent. IsText plant (items (bytes_read past.turns ++ turn.piece)) (entries_of_turns past.turns ++ entries_in turn) sent in
       let At : Progress → Type 0 = λ past. StandsFor plant panel after past in
+      let Read : List ℕ → Type 0 = λ read. AnsweredButLast plant read (entries_so_far now) later.sent in
+      let Of : List PlantEntry → Type 0 = λ entries. AnsweredButLast plant (read_so_far later) entries later.sent in
       record {
         turn = turn;
-        piece_is = ap (λ (bytes : List ℕ). now.now.piece ++ bytes) all ∙ way.piece_is;
-        is_worked = record {
-          is_turn = subst TurnBehind way.turns acts.1.turn;
-          seats = way.seats;
-          legal = way.legal;
-          text = subst TextOf way.sent (subst TextBehind way.turns acts.1.text);
-        };
-        machine_is = way.machine_is;
+        piece_is = ap (λ (bytes : List ℕ). now.now.piece ++ bytes) all ∙ way.come.piece_is;
+        is_turn = subst TurnBehind turns acts.1.turn;
+        seats = way.come.seats;
+        answers = way.answers;
+        text = subst TextOf way.sent (subst TextBehind turns acts.1.text);
         stands = subst At
-            (ap (λ (turns : List Turn). record { turns = turns ++ turn ∷ []; now = unstarted; sent = now.sent }) way.turns
+            (ap (λ (turns : List Turn). record { turns = turns ++ turn ∷ []; now = unstarted; sent = now.sent }) turns
             ∙ ap (λ (sent : List ℕ). record { turns = past.turns ++ turn ∷ []; now = unstarted; sent = sent }) way.sent) acts.2;
+        answered = λ yes keeps. subst Of (sym entries) (subst Read (sym read) (holds_read sf plant past now more (take used rest) way.answered yes keeps));
       }
-
--- A turn that went on, with bytes more,
-pub goes_more : {State : Type 0} {step : State → Request → Stepped State Answer} {Fits : State → Request → Type 0} {plant : PlantData} {panel : ℕ} {past : Progress} {piece : List ℕ} {first machine : State}
-    {session : Session} {rest : List ℕ} {now : Progress} (more added bytes : List ℕ)
-    → IsUnderWay step Fits plant panel past piece first machine session rest now ((more ++ added) ++ bytes)
-    → IsUnderWay step Fits plant panel past piece first machine session rest now (more ++ (added ++ bytes))
-goes_more {step = step} {Fits = Fits} {plant = plant} {panel = panel} {past = past} {piece = piece} {first = first} {machine = machine} {session = session} {rest = rest} {now = now} more added bytes way =
-    let More : List ℕ → Type 0 = λ more. IsUnderWay step Fits plant panel past piece first machine session rest now more in
-    subst More (append_assoc more added bytes) way
-
--- with no bytes more,
-pub goes_none : {State : Type 0} {step : State → Request → Stepped State Answer} {Fits : State → Request → Type 0} {plant : PlantData} {panel : ℕ} {past : Progress} {piece : List ℕ} {first machine : State}
-    {session : Session} {rest : List ℕ} {now : Progress} {more : List ℕ}
-    → IsUnderWay step Fits plant panel past piece first machine session rest now more
-    → IsUnderWay step Fits plant panel past piece first machine session rest now (more ++ [])
-goes_none {step = step} {Fits = Fits} {plant = plant} {panel = panel} {past = past} {piece = piece} {first = first} {machine = machine} {session = session} {rest = rest} {now = now} {more = more} way =
-    let More : List ℕ → Type 0 = λ more. IsUnderWay step Fits plant panel past piece first machine session rest now more in
-    subst More (sym (append-nil more)) way
-
--- with bytes that were sent for an item,
-pub goes_sent : {State : Type 0} {step : State → Request → Stepped State Answer} {Fits : State → Request → Type 0} {plant : PlantData} {panel : ℕ} {past : Progress} {piece : List ℕ} {first machine : State}
-    {session : Session} {rest left : List ℕ} {now : Progress} (more added bytes : List ℕ) (send : Bool) → send ≡ true → left ≡ rest
-    → IsUnderWay step Fits plant panel past piece first machine session rest now ((more ++ added) ++ (if send then bytes else []))
-    → IsUnderWay step Fits plant panel past piece first machine session left now (more ++ (added ++ bytes))
-goes_sent {step = step} {Fits = Fits} {plant = plant} {panel = panel} {past = past} {piece = piece} {first = first} {machine = machine} {session = session} {rest = rest} {now = now} more added bytes send loud is way =
-    let Way : List ℕ → List ℕ → Type 0 = λ rest more. IsUnderWay step Fits plant panel past piece first machine session rest now more in
-    let Sends : Bool → Type 0 = λ send. Way rest ((more ++ added) ++ (if send then bytes else [])) in
-    let Left : List ℕ → Type 0 = λ rest. Way rest (more ++ (added ++ bytes)) in
-    subst Left (sym is) (subst (Way rest) (append_assoc more added bytes) (subst Sends loud way))
-
--- or with none.
-pub goes_quiet : {State : Type 0} {step : State → Request → Stepped State Answer} {Fits : State → Request → Type 0} {plant : PlantData} {panel : ℕ} {past : Progress} {piece : List ℕ} {first machine : State}
-    {session : Session} {rest left : List ℕ} {now : Progress} (more bytes : List ℕ) (send : Bool) → send ≡ false → left ≡ rest
-    → IsUnderWay step Fits plant panel past piece first machine session rest now (more ++ (if send then bytes else []))
-    → IsUnderWay step Fits plant panel past piece first machine session left now more
-goes_quiet {step = step} {Fits = Fits} {plant = plant} {panel = panel} {past = past} {piece = piece} {first = first} {machine = machine} {session = session} {rest = rest} {now = now} more bytes send quiet is way =
-    let Way : List ℕ → List ℕ → Type 0 = λ rest more. IsUnderWay step Fits plant panel past piece first machine session rest now more in
-    let Sends : Bool → Type 0 = λ send. Way rest (more ++ (if send then bytes else [])) in
-    let Left : List ℕ → Type 0 = λ rest. Way rest more in
-    subst Left (sym is) (subst (Way rest) (append-nil more) (subst Sends quiet way))

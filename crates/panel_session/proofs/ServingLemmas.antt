@@ -1,240 +1,283 @@
--- A turn of a session that is served.
-use Rattle.std.proofs.Common.{◌≡◌, ◌≢◌, ℕ, ◌^◌, ◌<◌, true, false, List, [], ◌∷◌, ◌++◌, length, take, drop, Option, inl, inr, refl, sym, ap, ◌∙◌, subst, arith}
-use Rattle.std.proofs.lemmas.List.{append_assoc, append-nil, take-append-drop, take_all}
-use Rattle.dle_framing.specs.Items.{items}
-use Rattle.ctl_io.specs.Sink.{appended, AppendsPart}
-use Rattle.history_lock.specs.Calls.{asked_by}
+-- A turn of a session that is served: what the engine says of a lock's seat, its trace and a link.
+use Rattle.std.proofs.Common.{◌≡◌, ℕ, true, List, [], ◌∷◌, ◌++◌, length, take, drop, Option, inl, inr, refl, sym, ap, ◌∙◌, subst}
+use Rattle.std.proofs.lemmas.Bool.{false≢true}
+use Rattle.std.proofs.lemmas.List.{append_assoc, append-nil, take-append-drop}
+use Rattle.ctl_io.specs.Faults.{count_after, one_more}
+use Rattle.ctl_io.specs.ReadHalf.{ReadHalf}
+use Rattle.ctl_io.specs.Sink.{appended}
+use Rattle.history_lock.specs.History.{entries_of}
+use Rattle.history_lock.specs.Locks.{LockData}
+use Rattle.plant_config.specs.IsPlant.{IsPlant}
 use Rattle.plant_config.specs.Plant.{PlantData}
-use Rattle.plant_core.specs.declared.answer.Answer.{Answer}
-use Rattle.plant_core.specs.declared.request.Request.{Request}
-use Rattle.plant_core.specs.declared.request.Request.TheVariants.{Told, Poll, Leave, DisplayPoll}
-use Rattle.panel_session.specs.declared.serve.SessionEnd.{SessionEnd}
-use Rattle.panel_session.specs.declared.serve.SessionEnd.TheVariants.{Ended, ReadFault, WriteFault, TraceFault, IdleOut, Spent, Full}
-use Rattle.panel_session.specs.declared.session.act.Act.TheVariants.{Ask, Rest}
+use Rattle.plant_core.specs.State.{State, start}
+use Rattle.panel_session.specs.declared.engine.at_lock.AtLock.{AtLock}
+use Rattle.panel_session.specs.declared.engine.outlet.WriteHalf.{WriteHalf}
+use Rattle.panel_session.specs.declared.serve.SessionEnd.TheVariants.{WriteFault, TraceFault, Full}
+use Rattle.panel_session.specs.declared.session.cut.Cut.{Cut}
+use Rattle.panel_session.specs.declared.session.cut.Cut.TheVariants.{Refused, Untraced, Unsent}
 use Rattle.panel_session.specs.declared.session.Session.{Session}
-use Rattle.panel_session.specs.Acting.{Acts, IsInPlace, MayGoOn}
-use Rattle.panel_session.specs.Run.{turned}
-use Rattle.panel_session.specs.Served.{PlantSeat, was_cut, write_failed_at}
-use Rattle.panel_session.specs.ServedInside.{Outside, EndsAtRequest, HasServed, IsTraced, IsServing, KeepsAnswered, WasStopped, outside}
-use Rattle.panel_session.specs.Session.{StandsFor}
-use Rattle.panel_session.specs.SoFar.{Progress, entries_so_far, read_so_far, unstarted, with_bytes, with_entry, with_sent}
-use Rattle.panel_session.specs.Text.{IsText}
-use Rattle.panel_session.specs.Turns.{Turn, bytes_read, entries_in, entries_of_turns}
-use Rattle.panel_session.proofs.AnsweredLemmas.{answered_bytes, answered_entry, answered_same, answered_sent, awaits_counted}
-use Rattle.panel_session.proofs.BrokenOffLemmas.{broken_asked, broken_both, broken_full, broken_sent}
-use Rattle.panel_session.proofs.GoneOnLemmas.{appended-none, entries-more, gone_asked, gone_both, gone_sent, sees_none, sees_own}
-use Rattle.panel_session.proofs.KeptTurnLemmas.{bytes_of-append, entries_of-append}
-use Rattle.panel_session.proofs.RunLemmas.{drop-none, drop_all}
+use Rattle.panel_session.specs.Acting.{MayGoOn}
+use Rattle.panel_session.specs.Answering.{AnswersAt, FailedOver, GivenOver, RefusesAt, ServesAt, TracesPartAt}
+use Rattle.panel_session.specs.AnsweringLaws.{appended-both, lines-behind, mark-both, sees_both}
+use Rattle.panel_session.specs.Engine.{HasRun, IsRefused, IsUnsent, IsUntraced, MayTurn, WasCut}
+use Rattle.panel_session.specs.Entry.{PlantEntry}
+use Rattle.panel_session.specs.Served.{AnsweredButLast, PlantSeat, mark_after, own_lines, trace_failed_at, write_failed_at}
+use Rattle.panel_session.specs.ServedInside.{HasBrokenOff, HasGoneOn, HasServed, KeepsAnswered, MayServeTurn, SeesMore, WasStopped, ended_by, outside}
+use Rattle.panel_session.specs.Session.{StandsFor, plant_of}
+use Rattle.panel_session.specs.SoFar.{Progress, entries_so_far, read_so_far, unstarted}
+use Rattle.panel_session.specs.TraceLine.{trace_line}
+use Rattle.panel_session.specs.Turns.{Turn, entries_in, entries_of_turns}
+use Rattle.panel_session.proofs.ActsLemmas.{no_bytes}
+use Rattle.panel_session.proofs.AnsweredLemmas.{answered_front}
+use Rattle.panel_session.proofs.AnsweringLemmas.{entered}
+use Rattle.panel_session.proofs.BrokenOffLemmas.{broken_both, broken_full}
+use Rattle.panel_session.proofs.GoneOnLemmas.{own-behind}
+use Rattle.panel_session.proofs.KeptTurnLemmas.{entries_of-append}
 
--- more of the piece was used
-more_used : (piece front rest : List ℕ) (used : ℕ) → front ++ rest ≡ piece → (front ++ take used rest) ++ drop used rest ≡ piece
-more_used piece front rest used is = append_assoc front (take used rest) (drop used rest) ∙ ap (λ (bytes : List ℕ). front ++ bytes) (take-append-drop used rest) ∙ is
+-- A session stands for pasts of one plant.
+plant_is : (plant : PlantData) (panel : ℕ) (session : Session) (past : Progress) → StandsFor plant panel session past → plant_of session ≡ plant
+unfolding StandsFor
+plant_is plant panel session past stands = stands.0.plant_is
 
--- A request leaves the piece as it is, and nothing of it is left behind a poll.
-asked_piece : (request : Request) (seat : ℕ) (answers : List Answer) (past : Progress) → (with_entry (record { seat = seat; request = request; answers = answers }) past).now.piece ≡ past.now.piece
-asked_piece (Told panel item message) seat answers past = refl
-asked_piece (Poll panel item turn) seat answers past = refl
-asked_piece (Leave panel) seat answers past = refl
-asked_piece (DisplayPoll screen refresh) seat answers past = refl
+-- A session that is served may have a turn behind each past that it stands for.
+pub may_turn : {W K : Type 0} {lock : LockData State} {seat : PlantSeat} (plant : PlantData) (panel : ℕ) (session : Session) (past : Progress) (piece : List ℕ) (at : AtLock W K) → MayServeTurn session lock seat piece
+    → at.lock.now ≡ lock → at.seat.now ≡ seat → StandsFor plant panel session past → past.now ≡ unstarted → MayGoOn past piece
+    → MayTurn (λ (at : AtLock W K) (seat : ℕ). at.seat.now.number ≡ seat) (λ (plant : PlantData) (at : AtLock W K). ServesAt plant at.lock.now at.seat.now) plant panel at.seat.now.number session past at piece
+may_turn plant panel session past piece at may lock seat stands begins goes_on =
+    let same : may.plant ≡ plant = sym (plant_is may.plant may.panel session may.past may.stands) ∙ plant_is plant panel session past stands in
+    record {
+      stands = stands;
+      begins = begins;
+      may = goes_on;
+      seated = refl;
+      serves = record {
+        is_plant = subst IsPlant same may.is_plant;
+        seat_of = ap (λ (seat : PlantSeat). seat.lock) seat ∙ may.seat_of ∙ ap (λ (lock : LockData State). lock.id) (sym lock);
+        first_is = ap (λ (seat : PlantSeat). seat.first) seat ∙ may.first ∙ ap start same;
+      };
+    }
 
-asked_idle : (request : Request) (seat : ℕ) (answers : List Answer) (past : Progress) (used : ℕ) (rest : List ℕ) → IsInPlace past request used rest
-    → (with_entry (record { seat = seat; request = request; answers = answers }) past).now.polls ≢ [] → drop used rest ≡ []
-asked_idle (Told panel item message) seat answers past used rest place some = absurd (some place)
-asked_idle (Poll panel item turn) seat answers past used rest place some = drop_all used rest place
-asked_idle (Leave panel) seat answers past used rest place some = absurd place
-asked_idle (DisplayPoll screen refresh) seat answers past used rest place some = absurd place
+-- What is outside of a session is the same.
+pub same_outside : {seat seat_then : PlantSeat} {written written_then traced traced_then : Option (List ℕ)} → seat ≡ seat_then → written ≡ written_then → traced ≡ traced_then → outside seat written traced ≡ outside seat_then written_then traced_then
+same_outside {seat_then = seat_then} {written = written} {written_then = written_then} {traced = traced} seats writes traces =
+    ap (λ (seat : PlantSeat). outside seat written traced) seats
+    ∙ ap (λ (written : Option (List ℕ)). outside seat_then written traced) writes
+    ∙ ap (λ (traced : Option (List ℕ)). outside seat_then written_then traced) traces
 
--- How a session ends at a request: it is cut short, and only the trace may have failed.
-pub ends_cut : (end : SessionEnd) (plant : PlantData) (panel : ℕ) (past : Progress) (request : Request) (session : Session) (seat seat_then : PlantSeat) (traced traced_then : Option (List ℕ))
-    → EndsAtRequest end plant panel past request session seat seat_then traced traced_then → (was_cut end ≡ true) × (write_failed_at end ≡ false)
-ends_cut Ended plant panel past request session seat seat_then traced traced_then ends = absurd ends
-ends_cut ReadFault plant panel past request session seat seat_then traced traced_then ends = absurd ends
-ends_cut WriteFault plant panel past request session seat seat_then traced traced_then ends = absurd ends
-ends_cut TraceFault plant panel past request session seat seat_then traced traced_then ends = (refl, refl)
-ends_cut IdleOut plant panel past request session seat seat_then traced traced_then ends = absurd ends
-ends_cut Spent plant panel past request session seat seat_then traced traced_then ends = absurd ends
-ends_cut Full plant panel past request session seat seat_then traced traced_then ends = (refl, refl)
+-- Its seat began with the start of the plant.
+pub begun_at : {lock : LockData State} {seat : PlantSeat} (plant : PlantData) (panel : ℕ) (session : Session) (past : Progress) (piece : List ℕ) → MayServeTurn session lock seat piece → StandsFor plant panel session past → seat.first ≡ start plant
+begun_at plant panel session past piece may stands =
+    may.first ∙ ap start (sym (plant_is may.plant may.panel session may.past may.stands) ∙ plant_is plant panel session past stands)
 
--- once a request was answered, all was sent that there was to say when it was asked
-given_answered : (plant : PlantData) (panel : ℕ) (now : Progress) (rest : List ℕ) (used seat : ℕ) (request : Request) (answers : List Answer) (asking : Session)
-    → Acts plant panel (with_bytes (take used rest) now) rest used (Ask request) asking
-    → KeepsAnswered plant (with_entry (record { seat = seat; request = request; answers = answers }) (with_bytes (take used rest) now))
-given_answered plant panel now rest used seat request answers asking acts =
-    let used_now = with_bytes (take used rest) now in
-    answered_entry plant (record { seat = seat; request = request; answers = answers }) used_now
-    (entries-more used_now request used rest seat answers acts.3) (asked_piece request seat answers used_now)
-    (awaits_counted plant panel asking used_now request acts.0) acts.4
+-- the entries of a past whose present turn wasn't begun
+entries_before : (past : Progress) → past.now ≡ unstarted → entries_so_far past ≡ entries_of_turns past.turns
+entries_before past begins = ap (λ (now : Turn). entries_of_turns past.turns ++ entries_in now) begins ∙ append-nil (entries_of_turns past.turns)
 
-module _ {plant : PlantData} {panel : ℕ} {past : Progress} {piece : List ℕ} where
-  -- A turn begins.
-  pub serving_begins : (session : Session) (begun : Outside) → StandsFor plant panel session past → past.now ≡ unstarted → KeepsAnswered plant past → IsServing plant panel past piece session begun begun piece
-  serving_begins session begun stands begins keeps = record {
-    now = past;
-    gone = record {
-      new = [];
-      sees = sees_none plant begun.seat;
-      full = refl;
-      entries = sym (append-nil (entries_so_far past));
-      sent = [];
-      sent_is = sym (append-nil past.sent);
-      written = sym (appended-none begun.written);
-      traced = sym (appended-none begun.traced);
-    };
-    stands = stands;
-    answered = keeps;
-    turns = refl;
-    piece_is = ap (λ (now : Turn). now.piece ++ piece) begins;
-    idle = λ some. absurd (some (ap (λ (now : Turn). now.polls) begins));
+-- With the present turn they have its entries more.
+entries_now : (past now : Progress) → past.now ≡ unstarted → now.turns ≡ past.turns → entries_so_far now ≡ entries_so_far past ++ entries_in now.now
+entries_now past now begins turns =
+    ap (λ (turns : List Turn). entries_of_turns turns ++ entries_in now.now) turns
+    ∙ ap (λ (entries : List PlantEntry). entries ++ entries_in now.now) (sym (entries_before past begins))
+
+-- What became of a link and a trace in a turn that was cut short.
+pub record KeepsCounts {W K L : Type 0} (kf : K → ℕ) (kn : K → Option (List ℕ)) (lf : L → ℕ) (ln : L → Option (List ℕ)) (lh : L → ReadHalf) (cut : Cut) (first last : AtLock W K) (out out_then : WriteHalf L) : Type 0 where
+  pub link_count : lf out_then.link.now ≡ count_after (write_failed_at (ended_by cut)) (lf out.link.now)
+  pub trace_count : kf last.trace.now ≡ count_after (trace_failed_at (ended_by cut)) (kf first.trace.now)
+  pub read_half : lh out_then.link.now ≡ lh out.link.now
+  pub link_name : ln out_then.link.now ≡ ln out.link.now
+  pub trace_name : kn last.trace.now ≡ kn first.trace.now
+
+module _ {W K L : Type 0} {kw : K → Option (List ℕ)} {kf : K → ℕ} {kn : K → Option (List ℕ)} {lw : L → Option (List ℕ)} {lf : L → ℕ} {ln : L → Option (List ℕ)} {lh : L → ReadHalf}
+    {plant : PlantData} {panel : ℕ} {past : Progress} {first : AtLock W K} where
+  -- A request was refused.
+  refused_of : {now : Progress} {given : List ℕ} {last : AtLock W K} {session : Session} {out out_then : WriteHalf L}
+      → first.seat.now.first ≡ start plant → past.now ≡ unstarted → now.turns ≡ past.turns
+      → AnsweredButLast plant (read_so_far now) (entries_so_far now) (past.sent ++ given)
+      → IsRefused (AnswersAt kw kf kn) (RefusesAt kf kn) (GivenOver lw lf ln lh) plant panel past now [] given session first last out out_then
+      → HasBrokenOff plant Full (outside first.seat.now (lw out.link.now) (kw first.trace.now)) (outside last.seat.now (lw out_then.link.now) (kw last.trace.now)) past now
+  refused_of {now = now} {given = given} {last = last} {out = out} {out_then = out_then} begun begins turns answered ends =
+      let has = ends.answers.has plant begun in
+      let there = outside ends.between.seat.now (lw out_then.link.now) (kw ends.between.trace.now) in
+      let Sent : List ℕ → Type 0 = λ sent. AnsweredButLast plant (read_so_far now) (entries_so_far now) sent in
+      let gone : HasGoneOn plant (outside first.seat.now (lw out.link.now) (kw first.trace.now)) there past now = record {
+        new = has.new;
+        sees = has.sees;
+        full = has.full;
+        entries = entries_now past now begins turns ∙ ap (λ (entries : List PlantEntry). entries_so_far past ++ entries) (sym has.own);
+        sent = given;
+        sent_is = ends.sent;
+        written = ends.gave.writes;
+        traced = has.traces;
+      } in
+      let To : Progress → Type 0 = λ now. HasBrokenOff plant Full (outside first.seat.now (lw out.link.now) (kw first.trace.now)) (outside last.seat.now (lw out_then.link.now) (kw last.trace.now)) past now in
+      subst To (no_bytes now)
+      (broken_both plant Full (outside first.seat.now (lw out.link.now) (kw first.trace.now)) there (outside last.seat.now (lw out_then.link.now) (kw last.trace.now)) past now _ gone
+      (broken_full plant now [] ends.between.seat.now last.seat.now (lw out_then.link.now) (kw ends.between.trace.now) (kw last.trace.now) ends.refuses.full (ap kw ends.refuses.trace_is) (subst Sent (sym ends.sent) answered)))
+
+  -- A line wasn't traced.
+  untraced_of : {now : Progress} {given : List ℕ} {last : AtLock W K} {session : Session} {out out_then : WriteHalf L}
+      → first.seat.now.first ≡ start plant → past.now ≡ unstarted → now.turns ≡ past.turns
+      → AnsweredButLast plant (read_so_far now) (entries_so_far now) (past.sent ++ given)
+      → IsUntraced (AnswersAt kw kf kn) (TracesPartAt kw kf kn) (GivenOver lw lf ln lh) plant panel past now [] given session first last out out_then
+      → HasBrokenOff plant TraceFault (outside first.seat.now (lw out.link.now) (kw first.trace.now)) (outside last.seat.now (lw out_then.link.now) (kw last.trace.now)) past now
+  untraced_of {now = now} {given = given} {last = last} {out = out} {out_then = out_then} begun begins turns answered ends =
+      let has = ends.answers.has plant begun in
+      let part = ends.traces in
+      let entry = ends.entry in
+      let seat = first.seat.now in
+      let one = entered plant part.enters (ends.answers.same.first_is ∙ begun) in
+      let line = trace_line plant part.position entry.request entry.answers in
+      let lines = own_lines plant seat.number (length seat.seen) has.new in
+      let cut = part.part plant in
+      let front = take cut.count line in
+      let behind = lines-behind plant seat ends.between.seat.now has.new one.new has.sees in
+      let all : lines ++ line ≡ own_lines plant seat.number (length seat.seen) (has.new ++ one.new) = ap (λ (line : List ℕ). lines ++ line) (sym one.lines) ∙ sym behind in
+      record {
+        new = has.new ++ one.new;
+        sees = sees_both plant seat ends.between.seat.now last.seat.now has.new one.new has.sees (subst (λ (there : PlantSeat). SeesMore plant ends.between.seat.now there one.new) (sym part.seat_is) one.sees);
+        full = ap (λ (there : PlantSeat). there.ticket_full) part.seat_is ∙ one.full ∙ ap (mark_after one.new) has.full ∙ sym (mark-both has.new one.new seat.ticket_full);
+        entries = own-behind plant seat ends.between.seat.now has.new one.new (entries_so_far past) (entries_so_far past ++ ends.front) (entries_so_far now) has.sees
+            (ap (λ (entries : List PlantEntry). entries_so_far past ++ entries) (sym has.own))
+            (entries_now past now begins turns
+            ∙ ap (λ (entries : List PlantEntry). entries_so_far past ++ entries) (ends.entries_are ∙ ap (λ (entries : List PlantEntry). ends.front ++ entries) (sym one.own))
+            ∙ sym (append_assoc (entries_so_far past) ends.front (entries_of ends.between.seat.now.number one.new)));
+        bytes = given;
+        front = ends.sent;
+        answered = answered;
+        written = ends.gave.writes;
+        lines = lines ++ front;
+        traced = cut.appends ∙ ap (λ (traced : Option (List ℕ)). appended traced front) has.traces ∙ appended-both (kw first.trace.now) lines front;
+        traces = (
+          (drop cut.count line, append_assoc lines front (drop cut.count line) ∙ ap (λ (line : List ℕ). lines ++ line) (take-append-drop cut.count line) ∙ all),
+          λ whole. absurd (false≢true (sym whole)),
+        );
+      }
+
+  -- Bytes weren't sent as a whole.
+  unsent_of : {now : Progress} {given : List ℕ} {last : AtLock W K} {session : Session} {out out_then : WriteHalf L}
+      → first.seat.now.first ≡ start plant → past.now ≡ unstarted → now.turns ≡ past.turns
+      → AnsweredButLast plant (read_so_far now) (entries_so_far now) (past.sent ++ given)
+      → IsUnsent (AnswersAt kw kf kn) (GivenOver lw lf ln lh) (FailedOver lw lf ln lh) plant panel past now [] given session first last out out_then
+      → HasBrokenOff plant WriteFault (outside first.seat.now (lw out.link.now) (kw first.trace.now)) (outside last.seat.now (lw out_then.link.now) (kw last.trace.now)) past now
+  unsent_of {now = now} {given = given} {out = out} begun begins turns answered ends =
+      let has = ends.answers.has plant begun in
+      let fails = ends.fails in
+      let cut = fails.failed.part in
+      let front = take cut.count fails.part in
+      let later = drop cut.count fails.part ++ fails.later in
+      let lines = own_lines plant first.seat.now.number (length first.seat.now.seen) has.new in
+      let bytes : (past.sent ++ (given ++ front)) ++ later ≡ past.sent ++ ends.bytes =
+      append_assoc past.sent (given ++ front) later
+      ∙ ap (λ (bytes : List ℕ). past.sent ++ bytes)
+      (append_assoc given front later
+      ∙ ap (λ (bytes : List ℕ). given ++ bytes) (sym (append_assoc front (drop cut.count fails.part) fails.later) ∙ ap (λ (bytes : List ℕ). bytes ++ fails.later) (take-append-drop cut.count fails.part))
+      ∙ sym fails.bytes_are) in
+      record {
+        new = has.new;
+        sees = has.sees;
+        full = has.full;
+        entries = entries_now past now begins turns ∙ ap (λ (entries : List PlantEntry). entries_so_far past ++ entries) (sym has.own);
+        bytes = given ++ front;
+        front = (later, bytes ∙ sym ends.sent);
+        answered = answered_front plant (read_so_far now) (entries_so_far now) (past.sent ++ given) (past.sent ++ (given ++ front)) (front, append_assoc past.sent given front) answered;
+        written = cut.appends ∙ ap (λ (written : Option (List ℕ)). appended written front) fails.gave.writes ∙ appended-both (lw out.link.now) given front;
+        lines = lines;
+        traced = has.traces;
+        traces = (([], append-nil lines), λ whole. refl);
+      }
+
+module _ {W K L : Type 0} {kw : K → Option (List ℕ)} {kf : K → ℕ} {kn : K → Option (List ℕ)} {lw : L → Option (List ℕ)} {lf : L → ℕ} {ln : L → Option (List ℕ)} {lh : L → ReadHalf}
+    {plant : PlantData} {panel seat : ℕ} {past : Progress} {piece : List ℕ} {first : AtLock W K} where
+  -- A turn was worked.
+  pub served_of : {last : AtLock W K} {session : Session} {more : List ℕ} {out out_then : WriteHalf L}
+      → first.seat.now.first ≡ start plant → past.now ≡ unstarted → KeepsAnswered plant past → GivenOver lw lf ln lh out more out_then
+      → HasRun (AnswersAt kw kf kn) true plant panel seat past piece first last session more
+      → HasServed plant panel past piece session (outside first.seat.now (lw out.link.now) (kw first.trace.now)) (outside last.seat.now (lw out_then.link.now) (kw last.trace.now))
+  served_of {more = more} begun begins keeps gave ran =
+      let has = ran.answers.has plant begun in
+      record {
+        turn = ran.turn;
+        sent = more;
+        piece_is = ran.piece_is;
+        gone = record {
+          new = has.new;
+          sees = has.sees;
+          full = has.full;
+          entries = append-nil (entries_of_turns (past.turns ++ ran.turn ∷ []))
+              ∙ entries_of-append past.turns ran.turn
+              ∙ ap (λ (entries : List PlantEntry). entries ++ entries_in ran.turn) (sym (entries_before past begins))
+              ∙ ap (λ (entries : List PlantEntry). entries_so_far past ++ entries) (sym has.own);
+          sent = more;
+          sent_is = refl;
+          written = gave.writes;
+          traced = has.traces;
+        };
+        stands = ran.stands;
+        answered = ran.answered refl keeps;
+        text = ran.text;
+      }
+
+  -- A turn was cut short.
+  pub stopped_of : (cut : Cut) {last : AtLock W K} {session : Session} {out out_then : WriteHalf L}
+      → first.seat.now.first ≡ start plant → past.now ≡ unstarted → KeepsAnswered plant past
+      → WasCut (AnswersAt kw kf kn) (TracesPartAt kw kf kn) (RefusesAt kf kn) true (GivenOver lw lf ln lh) (FailedOver lw lf ln lh) cut plant panel seat past piece [] first last session out out_then
+      → WasStopped plant panel (ended_by cut) past piece session (outside first.seat.now (lw out.link.now) (kw first.trace.now)) (outside last.seat.now (lw out_then.link.now) (kw last.trace.now))
+  stopped_of Refused begun begins keeps was = record {
+    now = was.now;
+    rest = was.rest;
+    broken = refused_of begun begins was.come.turns (was.answered refl keeps) was.ends;
+    left = inr (was.ends.request, was.ends.awaits);
+    turns = was.come.turns;
+    piece_is = was.come.piece_is;
+    idle = was.come.idle;
+  }
+  stopped_of Untraced begun begins keeps was = record {
+    now = was.now;
+    rest = was.rest;
+    broken = untraced_of begun begins was.come.turns (was.answered refl keeps) was.ends;
+    left = inl was.ends.stands;
+    turns = was.come.turns;
+    piece_is = was.come.piece_is;
+    idle = was.come.idle;
+  }
+  stopped_of Unsent begun begins keeps was = record {
+    now = was.now;
+    rest = was.rest;
+    broken = unsent_of begun begins was.come.turns (was.answered refl keeps) was.ends;
+    left = inl was.ends.stands;
+    turns = was.come.turns;
+    piece_is = was.come.piece_is;
+    idle = was.come.idle;
   }
 
-  -- What is left of the piece may go on the turn so far.
-  pub serving_may : {session : Session} {begun now_outside : Outside} {rest : List ℕ} (w : IsServing plant panel past piece session begun now_outside rest) → past.now ≡ unstarted → MayGoOn past piece → MayGoOn w.now rest
-  serving_may {rest = rest} w begins may =
-      let now = w.now in
-      let read : read_so_far now ++ rest ≡ read_so_far past ++ piece =
-      append_assoc (bytes_read now.turns) now.now.piece rest
-      ∙ ap (λ (bytes : List ℕ). bytes_read now.turns ++ bytes) w.piece_is
-      ∙ ap (λ (turns : List Turn). bytes_read turns ++ piece) w.turns
-      ∙ ap (λ (bytes : List ℕ). bytes ++ piece)
-      (sym (append-nil (bytes_read past.turns)) ∙ ap (λ (turn : Turn). bytes_read past.turns ++ turn.piece) (sym begins)) in
-      let Few : List ℕ → Type 0 = λ text. length (items text) < 2 ^ 62 in
-      let FewTurns : ℕ → Type 0 = λ n. n < 2 ^ 62 in
+  pub counts_of : (cut : Cut) {last : AtLock W K} {session : Session} {before : List ℕ} {out out_then : WriteHalf L}
+      → WasCut (AnswersAt kw kf kn) (TracesPartAt kw kf kn) (RefusesAt kf kn) true (GivenOver lw lf ln lh) (FailedOver lw lf ln lh) cut plant panel seat past piece before first last session out out_then
+      → KeepsCounts kf kn lf ln lh cut first last out out_then
+  counts_of Refused was =
+      let ends = was.ends in
       record {
-        items = subst Few (sym read) may.items;
-        turns = subst FewTurns (sym (ap length w.turns)) may.turns;
-        rest = w.idle;
+        link_count = ends.gave.count;
+        trace_count = ends.refuses.same.count ∙ ends.answers.same.count;
+        read_half = ends.gave.half_is;
+        link_name = ends.gave.name_is;
+        trace_name = ends.refuses.same.trace_name ∙ ends.answers.same.trace_name;
       }
-
-  -- Bytes were written,
-  pub serving_sent : {session : Session} {begun : Outside} {seat : PlantSeat} {written traced : Option (List ℕ)} {rest left : List ℕ} (after : Session) (written_then : Option (List ℕ)) (used : ℕ) (bytes : List ℕ)
-      (w : IsServing plant panel past piece session begun (outside seat written traced) rest) → left ≡ drop used rest
-      → StandsFor plant panel after (with_sent bytes (with_bytes (take used rest) w.now)) → written_then ≡ appended written bytes
-      → IsServing plant panel past piece after begun (outside seat written_then traced) left
-  serving_sent {begun = begun} {seat = seat} {written = written} {traced = traced} {rest = rest} after written_then used bytes w is stands wrote =
-      let used_now = with_bytes (take used rest) w.now in
-      let now = with_sent bytes used_now in
+  counts_of Untraced was =
+      let ends = was.ends in
       record {
-        now = now;
-        gone = gone_both plant begun (outside seat written traced) (outside seat written_then traced) past w.now now w.gone (gone_sent plant seat written written_then traced w.now bytes (take used rest) wrote);
-        stands = stands;
-        answered = answered_sent plant used_now bytes (answered_bytes plant w.now (take used rest) w.answered);
-        turns = w.turns;
-        piece_is = ap (λ (left : List ℕ). (w.now.now.piece ++ take used rest) ++ left) is ∙ more_used piece w.now.now.piece rest used w.piece_is;
-        idle = λ some. is ∙ drop-none used rest (w.idle some);
+        link_count = ends.gave.count;
+        trace_count = ends.traces.count ∙ ap one_more ends.answers.same.count;
+        read_half = ends.gave.half_is;
+        link_name = ends.gave.name_is;
+        trace_name = ends.traces.trace_name ∙ ends.answers.same.trace_name;
       }
-
-  -- or a front of them.
-  pub serving_unsent : {session : Session} {begun : Outside} {seat : PlantSeat} {written traced : Option (List ℕ)} {rest : List ℕ} (after : Session) (written_then : Option (List ℕ)) (used : ℕ) (bytes : List ℕ)
-      (w : IsServing plant panel past piece session begun (outside seat written traced) rest) → StandsFor plant panel after (with_sent bytes (with_bytes (take used rest) w.now)) → AppendsPart bytes written written_then
-      → WasStopped plant panel WriteFault past piece after begun (outside seat written_then traced)
-  serving_unsent {begun = begun} {seat = seat} {written = written} {traced = traced} {rest = rest} after written_then used bytes w stands part =
-      let now = with_sent bytes (with_bytes (take used rest) w.now) in
+  counts_of Unsent was =
+      let ends = was.ends in
+      let fails = ends.fails in
       record {
-        now = now;
-        rest = drop used rest;
-        broken = broken_both plant WriteFault begun (outside seat written traced) (outside seat written_then traced) past w.now now w.gone
-            (broken_sent plant seat written written_then traced w.now bytes (take used rest) w.answered part);
-        left = inl stands;
-        turns = w.turns;
-        piece_is = more_used piece w.now.now.piece rest used w.piece_is;
-        idle = λ some. drop-none used rest (w.idle some);
-      }
-
-  -- A request was answered and traced,
-  pub serving_asked : {session : Session} {begun : Outside} {seat : PlantSeat} {written traced : Option (List ℕ)} {rest left : List ℕ} (asking after : Session) (seat_then : PlantSeat) (traced_then : Option (List ℕ)) (used : ℕ) (request : Request)
-      (w : IsServing plant panel past piece session begun (outside seat written traced) rest) → left ≡ drop used rest → Acts plant panel (with_bytes (take used rest) w.now) rest used (Ask request) asking
-      → IsTraced plant panel (with_bytes (take used rest) w.now) request after seat seat_then traced traced_then
-      → IsServing plant panel past piece after begun (outside seat_then written traced_then) left
-  serving_asked {begun = begun} {seat = seat} {written = written} {traced = traced} {rest = rest} {left = left} asking after seat_then traced_then used request w is acts asked =
-      let used_now = with_bytes (take used rest) w.now in
-      let now = with_entry (asked_by seat request asked.answers) used_now in
-      record {
-        now = now;
-        gone = gone_both plant begun (outside seat written traced) (outside seat_then written traced_then) past w.now now w.gone
-            (gone_asked plant w.now (take used rest) request asked.answers asked.number used rest seat seat_then written traced traced_then acts.3
-            (sees_own plant panel used_now request asked.answers asked.number after seat seat_then asked.given) asked.line);
-        stands = asked.given.stands;
-        answered = given_answered plant panel w.now rest used seat.number request asked.answers asking acts;
-        turns = w.turns;
-        piece_is = ap (λ (front : List ℕ). front ++ left) (asked_piece request seat.number asked.answers used_now)
-            ∙ ap (λ (left : List ℕ). (w.now.now.piece ++ take used rest) ++ left) is
-            ∙ more_used piece w.now.now.piece rest used w.piece_is;
-        idle = λ some. is ∙ asked_idle request seat.number asked.answers used_now used rest acts.3 some;
-      }
-
-  -- or not.
-  pub serving_ends : {session : Session} {begun : Outside} {seat : PlantSeat} {written traced : Option (List ℕ)} {rest : List ℕ} (end : SessionEnd) (asking after : Session) (seat_then : PlantSeat) (traced_then : Option (List ℕ)) (used : ℕ) (request : Request)
-      (w : IsServing plant panel past piece session begun (outside seat written traced) rest) → Acts plant panel (with_bytes (take used rest) w.now) rest used (Ask request) asking
-      → EndsAtRequest end plant panel (with_bytes (take used rest) w.now) request after seat seat_then traced traced_then
-      → WasStopped plant panel end past piece after begun (outside seat_then written traced_then)
-  serving_ends Ended asking after seat_then traced_then used request w acts ends = absurd ends
-  serving_ends ReadFault asking after seat_then traced_then used request w acts ends = absurd ends
-  serving_ends WriteFault asking after seat_then traced_then used request w acts ends = absurd ends
-  serving_ends IdleOut asking after seat_then traced_then used request w acts ends = absurd ends
-  serving_ends Spent asking after seat_then traced_then used request w acts ends = absurd ends
-  serving_ends {begun = begun} {seat = seat} {written = written} {traced = traced} {rest = rest} TraceFault asking after seat_then traced_then used request w acts ends =
-      let used_now = with_bytes (take used rest) w.now in
-      let now = with_entry (asked_by seat request ends.answers) used_now in
-      record {
-        now = now;
-        rest = drop used rest;
-        broken = broken_both plant TraceFault begun (outside seat written traced) (outside seat_then written traced_then) past w.now now w.gone
-            (broken_asked plant w.now (take used rest) request ends.answers ends.number used rest seat seat_then written traced traced_then acts.3
-            (sees_own plant panel used_now request ends.answers ends.number after seat seat_then ends.given) ends.part
-            (given_answered plant panel w.now rest used seat.number request ends.answers asking acts));
-        left = inl ends.given.stands;
-        turns = w.turns;
-        piece_is = ap (λ (front : List ℕ). front ++ drop used rest) (asked_piece request seat.number ends.answers used_now) ∙ more_used piece w.now.now.piece rest used w.piece_is;
-        idle = λ some. asked_idle request seat.number ends.answers used_now used rest acts.3 some;
-      }
-  serving_ends {begun = begun} {seat = seat} {written = written} {traced = traced} {rest = rest} Full asking after seat_then traced_then used request w acts ends =
-      let used_now = with_bytes (take used rest) w.now in
-      record {
-        now = used_now;
-        rest = drop used rest;
-        broken = broken_both plant Full begun (outside seat written traced) (outside seat_then written traced_then) past w.now used_now w.gone
-            (broken_full plant w.now (take used rest) seat seat_then written traced traced_then ends.0 ends.1 w.answered);
-        left = inr (request, ends.2);
-        turns = w.turns;
-        piece_is = more_used piece w.now.now.piece rest used w.piece_is;
-        idle = λ some. drop-none used rest (w.idle some);
-      }
-
-  -- The turn is over.
-  pub serving_over : {session : Session} {begun now_outside : Outside} {rest : List ℕ} (after : Session) (used : ℕ) (w : IsServing plant panel past piece session begun now_outside rest)
-      → Acts plant panel (with_bytes (take used rest) w.now) rest used Rest after → HasServed plant panel past piece after begun now_outside
-  serving_over {rest = rest} after used w acts =
-      let now = w.now in
-      let used_now = with_bytes (take used rest) now in
-      let turn : Turn = record now.now { piece = now.now.piece ++ take used rest } in
-      let all : take used rest ≡ rest = take_all used rest (omega (arith, acts.0)) in
-      let sent = w.gone.sent in
-      let later = turned turn sent past in
-      let read : read_so_far later ≡ read_so_far used_now =
-      append-nil (bytes_read (past.turns ++ turn ∷ [])) ∙ bytes_of-append past.turns turn ∙ ap (λ (turns : List Turn). bytes_read turns ++ turn.piece) (sym w.turns) in
-      let entries : entries_so_far later ≡ entries_so_far now =
-      append-nil (entries_of_turns (past.turns ++ turn ∷ [])) ∙ entries_of-append past.turns turn
-      ∙ ap (λ (turns : List Turn). entries_of_turns turns ++ entries_in now.now) (sym w.turns) in
-      let TextBehind : List Turn → Type 0 = λ turns. IsText plant (items (bytes_read turns ++ turn.piece)) (entries_of_turns turns ++ entries_in turn) now.sent in
-      let TextOf : List ℕ → Type 0 = λ sent. IsText plant (items (bytes_read past.turns ++ turn.piece)) (entries_of_turns past.turns ++ entries_in turn) sent in
-      let At : Progress → Type 0 = λ past. StandsFor plant panel after past in
-      record {
-        turn = turn;
-        sent = sent;
-        piece_is = ap (λ (bytes : List ℕ). now.now.piece ++ bytes) all ∙ w.piece_is;
-        gone = record {
-          new = w.gone.new;
-          sees = w.gone.sees;
-          full = w.gone.full;
-          entries = entries ∙ w.gone.entries;
-          sent = sent;
-          sent_is = refl;
-          written = w.gone.written;
-          traced = w.gone.traced;
-        };
-        stands = subst At
-            (ap (λ (turns : List Turn). record { turns = turns ++ turn ∷ []; now = unstarted; sent = now.sent }) w.turns
-            ∙ ap (λ (sent : List ℕ). record { turns = past.turns ++ turn ∷ []; now = unstarted; sent = sent }) w.gone.sent_is) acts.2;
-        answered = answered_same plant used_now later read entries (sym w.gone.sent_is) (answered_bytes plant now (take used rest) w.answered);
-        text = subst TextOf w.gone.sent_is (subst TextBehind w.turns acts.1.text);
+        link_count = fails.failed.count ∙ ap one_more fails.gave.count;
+        trace_count = ends.answers.same.count;
+        read_half = fails.failed.half_is ∙ fails.gave.half_is;
+        link_name = fails.failed.name_is ∙ fails.gave.name_is;
+        trace_name = ends.answers.same.trace_name;
       }

@@ -3,15 +3,12 @@ use Rattle.std.proofs.Common.{◌≡◌, ◌<◌, ◌≤◌, false, true, IfSome
 use Rattle.std.proofs.lemmas.Grind.{flat_map-append}
 use Rattle.swp08_messages.specs.Field.{wide_numbers}
 use Rattle.plant_config.specs.Plant.{PlantData}
+use Rattle.panel_session.specs.EngineInside.{IsButBytes}
 use Rattle.panel_session.specs.MovesInside.{IsReadOrLeft, NamesOn}
 use Rattle.panel_session.specs.NamePagesInside.{GoesOnWith, IsFarBehind, IsNamePage, frames_left, numbers_left}
 use Rattle.panel_session.specs.NamesLeftInside.{NamesNone, left_at, stage_of, with_left}
 use Rattle.panel_session.specs.OneSend.{bytes_in}
 use Rattle.panel_session.specs.OutgoingInside.{emptied}
-use Rattle.history_lock.specs.Step.{Stepped}
-use Rattle.plant_core.specs.declared.answer.Answer.{Answer}
-use Rattle.plant_core.specs.declared.request.Request.{Request}
-use Rattle.panel_session.specs.RunInside.{IsUnderWay}
 use Rattle.panel_session.specs.SenderKept.{sending}
 use Rattle.panel_session.specs.Session.{StandsFor, made_by}
 use Rattle.panel_session.specs.SoFar.{Progress}
@@ -141,33 +138,18 @@ reads_then (Tell message) may other = absurd may
 reads_then PollStage may other = absurd may
 reads_then End may other = absurd may
 
--- The same of a turn that is worked at once.
-module _ {State : Type 0} {step : State → Request → Stepped State Answer} {Fits : State → Request → Type 0}
-    {plant : PlantData} {panel : ℕ} {past : Progress} {piece : List ℕ} {machine : State} where
-  -- Pages of names that were left were handed out, part by part, behind what was spelled of them.
-  pub way_spelled : {machine_now : State} {now : Progress} {rest : List ℕ} (session after : Session) (more added made left : List ℕ)
-      → IsUnderWay step Fits plant panel past piece machine machine_now (spelled_all session) rest now (more ++ (added ++ made_by (spelled_all session)))
-      → session.unsent ≡ false → NamesNone (stage_of session.phase) → IsSpelled session after → made_by (spelled_all session) ≡ made ++ left
-      → IsUnderWay step Fits plant panel past piece machine machine_now after rest now (more ++ (added ++ (made ++ left)))
-  way_spelled {machine_now = machine_now} {now = now} {rest = rest} session after more added made left way none plain spelled is =
-      let More : List ℕ → Type 0 = λ made. IsUnderWay step Fits plant panel past piece machine machine_now (spelled_all session) rest now (more ++ (added ++ made)) in
-      let way_then = subst More is way in
-      let After : Session → Type 0 = λ session. StandsFor plant panel session now in
-      record {
-        turns = way_then.turns;
-        piece_is = way_then.piece_is;
-        idle = way_then.idle;
-        sent = way_then.sent;
-        seats = way_then.seats;
-        legal = way_then.legal;
-        machine_is = way_then.machine_is;
-        stands = subst After (sym spelled.same) (stands_whatever plant panel (spelled_all session) now spelled.bytes spelled.parted way_then.stands none plain);
-      }
+-- A session that has spelled what an item asks is one that has done it.
+pub is_done : (session after : Session) → after ≡ session → IsButBytes session after
+is_done session after is = record { bytes = made_by session; parted = session.parted; same = is }
 
-  -- Where no pages were left, it was spelled before.
-  pub way_plain : {machine_now : State} {now : Progress} {rest more : List ℕ} (session : Session) → session.phase ≡ Read
-      → IsUnderWay step Fits plant panel past piece machine machine_now (spelled_all session) rest now more
-      → IsUnderWay step Fits plant panel past piece machine machine_now session rest now more
-  way_plain {machine_now = machine_now} {now = now} {rest = rest} {more = more} session read way =
-      let Of : Session → Type 0 = λ session. IsUnderWay step Fits plant panel past piece machine machine_now session rest now more in
-      subst Of (spelled_plain session (subst NamesNone (sym read) tt)) way
+pub done_spelled : (before session after : Session) → spelled_all before ≡ session → IsSpelled before after → IsButBytes session after
+done_spelled before session after is spelled =
+    let Of : Session → Type 0 = λ session. IsButBytes session after in
+    subst Of is (record { bytes = spelled.bytes; parted = spelled.parted; same = spelled.same })
+
+-- It stands for what that stands for.
+pub done_stands : (plant : PlantData) (panel : ℕ) (past : Progress) (session after : Session) → IsButBytes session after → after.phase ≡ Read → session.unsent ≡ false → StandsFor plant panel session past → StandsFor plant panel after past
+done_stands plant panel past session after done reads none stands =
+    let Of : Session → Type 0 = λ session. StandsFor plant panel session past in
+    let read : session.phase ≡ Read = ap (λ (session : Session). session.phase) (sym done.same) ∙ reads in
+    subst Of (sym done.same) (stands_whatever plant panel session past done.bytes done.parted stands none (subst NamesNone (sym read) tt))

@@ -1,74 +1,99 @@
--- A turn that is on its way, from its begin.
-use Rattle.std.proofs.Common.{◌≡◌, ℕ, true, false, if◌then◌else◌, Bool, List, [], ◌++◌, refl, sym, ◌∙◌, subst}
-use Rattle.history_lock.specs.Step.{Stepped}
+-- A turn that is on its way, from its begin, and on from where it came to.
+use Rattle.std.proofs.Common.{◌≡◌, ℕ, true, false, if◌then◌else◌, Bool, List, [], ◌++◌, refl, sym, subst}
+use Rattle.std.proofs.lemmas.List.{append_assoc, append-nil}
 use Rattle.plant_config.specs.Plant.{PlantData}
-use Rattle.plant_core.specs.declared.answer.Answer.{Answer}
-use Rattle.plant_core.specs.declared.request.Request.{Request}
 use Rattle.panel_session.specs.declared.session.Session.{Session}
 use Rattle.panel_session.specs.declared.session.phase.Phase.TheVariants.{Read}
-use Rattle.panel_session.specs.Run.{MayTurn}
-use Rattle.panel_session.specs.RunInside.{IsUnderWay}
+use Rattle.panel_session.specs.Engine.{MayTurn}
+use Rattle.panel_session.specs.EngineInside.{GoesTo, HasSent, IsOnItsWay, IsUnderWay}
+use Rattle.panel_session.specs.Entry.{PlantEntry}
 use Rattle.panel_session.specs.Session.{later_of}
 use Rattle.panel_session.specs.SoFar.{Progress}
-use Rattle.panel_session.specs.WorkInside.{unsent_bytes, IsOnItsWay, HasCome}
+use Rattle.panel_session.specs.WorkInside.{unsent_bytes}
 use Rattle.panel_session.proofs.RunLemmas.{way_begins, way_sent}
 use Rattle.panel_session.proofs.SentLemmas.{reads_unread}
 use Rattle.panel_session.proofs.SessionLemmas.{sends_unsent}
 
+-- no bytes more are sent
+pub more_none : {Answerer : Type 0} {Answers : Answerer → List PlantEntry → Answerer → Type 0} {sf : Bool} {plant : PlantData} {panel seat : ℕ} {past : Progress} {piece : List ℕ} {first answerer : Answerer} {session : Session} {rest : List ℕ} {now : Progress} {more : List ℕ}
+    → IsUnderWay Answers sf plant panel seat past piece first answerer session rest now more → IsUnderWay Answers sf plant panel seat past piece first answerer session rest now (more ++ [])
+more_none {Answers = Answers} {sf = sf} {plant = plant} {panel = panel} {seat = seat} {past = past} {piece = piece} {first = first} {answerer = answerer} {session = session} {rest = rest} {now = now} {more = more} way =
+    let More : List ℕ → Type 0 = λ more. IsUnderWay Answers sf plant panel seat past piece first answerer session rest now more in
+    subst More (sym (append-nil more)) way
+
 -- A turn that has come so far is on its way there.
-abbrev pub further : {State : Type 0} {step : State → Request → Stepped State Answer} {Fits : State → Request → Type 0} {most : State → ℕ} {session session_then : Session} {machine machine_then : State} {rest rest_then : List ℕ}
-    (on : IsOnItsWay step Fits most session machine rest) (now_then : Progress) (added : List ℕ) → HasCome on session_then machine_then rest_then now_then added
-    → ((request : Request) → Fits machine request → Fits machine_then request) → most machine_then ≡ most machine → IsOnItsWay step Fits most session_then machine_then rest_then
-further on now_then added come fits room = record {
+abbrev pub further : {Answerer Outlet : Type 0} {IsSeat : Answerer → ℕ → Type 0} {Serves : PlantData → Answerer → Type 0} {Answers : Answerer → List PlantEntry → Answerer → Type 0} {sf : Bool} {Given : Outlet → List ℕ → Outlet → Type 0}
+    {session session_then : Session} {answerer answerer_then : Answerer} {rest rest_then : List ℕ} {out out_then : Outlet}
+    (on : IsOnItsWay IsSeat Serves Answers sf session answerer rest)
+    → GoesTo Answers sf Given on.plant on.panel on.seat on.past on.piece on.more on.first answerer_then session_then rest_then out out_then
+    → IsOnItsWay IsSeat Serves Answers sf session_then answerer_then rest_then
+further on come = record {
   plant = on.plant;
   panel = on.panel;
+  seat = on.seat;
   begun = on.begun;
   past = on.past;
   piece = on.piece;
   first = on.first;
-  now = now_then;
-  more = on.more ++ added;
+  now = come.now;
+  more = on.more ++ come.added;
   may = on.may;
-  way = come;
-  fits = λ request first. fits request (on.fits request first);
-  room = room ∙ on.room;
+  way = come.way;
 }
 
-module _ {State : Type 0} {step : State → Request → Stepped State Answer} {Fits : State → Request → Type 0}
-    {plant : PlantData} {panel : ℕ} {past : Progress} {piece : List ℕ} {machine : State} where
-  -- A turn begins, and what was not yet sent is.
-  way_given : {most : State → ℕ} {begun : Session} (unsent : Bool) → begun.unsent ≡ unsent → MayTurn step Fits most plant panel begun past machine piece
-      → (now : Progress) × IsUnderWay step Fits plant panel past piece machine machine (record begun { unsent = false }) piece now (if unsent then later_of begun else [])
-  way_given {begun = begun} true is may = (_, way_sent 0 (later_of begun) (way_begins may) refl (sends_unsent plant panel begun past piece may.stands is).1)
-  way_given {begun = begun} false is may =
-      let At : Bool → Type 0 = λ unsent. IsUnderWay step Fits plant panel past piece machine machine (record begun { unsent = unsent }) piece past [] in
-      (past, subst At is (way_begins may))
+-- It comes on, and then on again.
+pub goes_both : {Answerer Outlet : Type 0} {Answers : Answerer → List PlantEntry → Answerer → Type 0} {sf : Bool} {Given : Outlet → List ℕ → Outlet → Type 0}
+    {plant : PlantData} {panel seat : ℕ} {past : Progress} {piece : List ℕ} {first answerer answerer_then : Answerer} {session session_then : Session} {rest rest_then : List ℕ} {out between out_then : Outlet}
+    (before : List ℕ) → ((one next last : Outlet) (bytes more : List ℕ) → Given one bytes next → Given next more last → Given one (bytes ++ more) last)
+    → (come : GoesTo Answers sf Given plant panel seat past piece before first answerer session rest out between)
+    → GoesTo Answers sf Given plant panel seat past piece (before ++ come.added) first answerer_then session_then rest_then between out_then
+    → GoesTo Answers sf Given plant panel seat past piece before first answerer_then session_then rest_then out out_then
+goes_both {Answers = Answers} {sf = sf} {plant = plant} {panel = panel} {seat = seat} {past = past} {piece = piece} {first = first} {answerer_then = answerer_then} {session_then = session_then} {rest_then = rest_then} {out = out} {between = between} {out_then = out_then} before more come on =
+    let More : List ℕ → Type 0 = λ more. IsUnderWay Answers sf plant panel seat past piece first answerer_then session_then rest_then on.now more in
+    record {
+      now = on.now;
+      added = come.added ++ on.added;
+      gave = more out between out_then come.added on.added come.gave on.gave;
+      way = subst More (append_assoc before come.added on.added) on.way;
+    }
 
-  pub way_begun : {most : State → ℕ} {begun : Session} → MayTurn step Fits most plant panel begun past machine piece
-      → (now : Progress) × IsUnderWay step Fits plant panel past piece machine machine (record begun { unsent = false }) piece now (unsent_bytes begun)
-  way_begun {begun = begun} may = way_given begun.unsent refl may
+module _ {Answerer : Type 0} {Answers : Answerer → List PlantEntry → Answerer → Type 0} {sf : Bool}
+    {plant : PlantData} {panel seat : ℕ} {past : Progress} {piece : List ℕ} {first : Answerer} {IsSeat : Answerer → ℕ → Type 0} {Serves : PlantData → Answerer → Type 0} where
+  -- A turn begins, and what was not yet sent is.
+  way_given : {begun : Session} (unsent : Bool) → begun.unsent ≡ unsent → ((answerer : Answerer) → Answers answerer [] answerer) → MayTurn IsSeat Serves plant panel seat begun past first piece
+      → HasSent Answers sf plant panel seat past piece first first (record begun { unsent = false }) piece [] (if unsent then later_of begun else [])
+  way_given {begun = begun} true is none may = way_sent 0 (later_of begun) (way_begins none may) refl (sends_unsent plant panel begun past piece may.stands is).1
+  way_given {begun = begun} false is none may =
+      let At : Bool → Type 0 = λ unsent. IsUnderWay Answers sf plant panel seat past piece first first (record begun { unsent = unsent }) piece past [] in
+      let way : IsUnderWay Answers sf plant panel seat past piece first first begun piece past [] = way_begins none may in
+      record { now = past; way = subst At is way; earlier = way.answered }
+
+  pub way_begun : {begun : Session} (session : Session) → ((answerer : Answerer) → Answers answerer [] answerer) → MayTurn IsSeat Serves plant panel seat begun past first piece → session ≡ record begun { unsent = false }
+      → HasSent Answers sf plant panel seat past piece first first session piece [] (unsent_bytes begun)
+  way_begun {begun = begun} session none may is =
+      let On : Session → Type 0 = λ session. HasSent Answers sf plant panel seat past piece first first session piece [] (unsent_bytes begun) in
+      subst On (sym is) (way_given begun.unsent refl none may)
 
   -- It is on its way then.
-  abbrev pub on_its_way : {most : State → ℕ} {begun : Session} (session : Session) → MayTurn step Fits most plant panel begun past machine piece
-      → session ≡ record begun { unsent = false } → IsOnItsWay step Fits most session machine piece
-  on_its_way {begun = begun} session may is =
-      let given = way_begun may in
-      let On : Session → Type 0 = λ session. IsUnderWay step Fits plant panel past piece machine machine session piece given.0 (unsent_bytes begun) in
+  abbrev pub on_its_way : {begun : Session} (session : Session) → ((answerer : Answerer) → Answers answerer [] answerer) → MayTurn IsSeat Serves plant panel seat begun past first piece
+      → session ≡ record begun { unsent = false } → IsOnItsWay IsSeat Serves Answers sf session first piece
+  on_its_way {begun = begun} session none may is =
+      let given = way_begun session none may is in
       record {
         plant = plant;
         panel = panel;
+        seat = seat;
         begun = begun;
         past = past;
         piece = piece;
-        first = machine;
-        now = given.0;
+        first = first;
+        now = given.now;
         more = unsent_bytes begun;
         may = may;
-        way = subst On (sym is) given.1;
-        fits = λ request fits. fits;
-        room = refl;
+        way = given.way;
       }
 
-  -- A session reads at the beginning of a turn.
-  pub begins_reading : {most : State → ℕ} {begun : Session} → MayTurn step Fits most plant panel begun past machine piece → begun.phase ≡ Read
-  begins_reading {begun = begun} may = reads_unread plant panel begun past begun.phase refl may.stands may.begins
+-- A session reads at the beginning of a turn.
+pub begins_reading : {Answerer : Type 0} {IsSeat : Answerer → ℕ → Type 0} {Serves : PlantData → Answerer → Type 0} {plant : PlantData} {panel seat : ℕ} {past : Progress} {piece : List ℕ} {first : Answerer} {begun : Session}
+    → MayTurn IsSeat Serves plant panel seat begun past first piece → begun.phase ≡ Read
+begins_reading {plant = plant} {panel = panel} {past = past} {begun = begun} may = reads_unread plant panel begun past begun.phase refl may.stands may.begins

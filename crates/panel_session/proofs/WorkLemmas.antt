@@ -1,9 +1,11 @@
--- A turn that is worked at once.
-use Rattle.std.proofs.Common.{◌≡◌, ℕ, ◌+◌, ◌-◌, ◌%◌, ◌^◌, ◌<◌, ◌≤◌, true, false, if◌then◌else◌, Bool, List, [], ◌∷◌, ◌++◌, length, take, drop, refl, sym, ap, ◌∙◌, subst, arith}
+-- What a turn does for its items and its polls.
+use Rattle.std.proofs.Common.{◌≡◌, ◌≢◌, ℕ, ◌+◌, ◌-◌, ◌%◌, ◌^◌, ◌<◌, ◌≤◌, true, false, Bool, List, [], ◌∷◌, ◌++◌, length, take, drop, Some, refl, sym, ap, ◌∙◌, subst, arith}
 use Rattle.std.proofs.Math.Nat.{mod-eq_of_lt}
-use Rattle.std.proofs.lemmas.List.{append_assoc, append-nil}
-use Rattle.history_lock.specs.History.{entry_at}
-use Rattle.history_lock.specs.Step.{Stepped}
+use Rattle.std.proofs.lemmas.List.{append_assoc}
+use Rattle.std.proofs.lemmas.Bool.{false≢true}
+use Rattle.dle_framing.specs.Framer as framer
+use Rattle.dle_framing.specs.Framer.{GoesOver}
+use Rattle.dle_framing.specs.declared.framer.Framer.{Framer}
 use Rattle.plant_config.specs.Plant.{PlantData}
 use Rattle.plant_core.specs.Answer.{room_of}
 use Rattle.plant_core.specs.declared.answer.Answer.{Answer}
@@ -11,267 +13,259 @@ use Rattle.plant_core.specs.declared.request.Request.{Request}
 use Rattle.plant_core.specs.declared.request.Request.TheVariants.{Told, Poll}
 use Rattle.swp08_messages.specs.declared.message.Message.{Message}
 use Rattle.panel_session.specs.declared.session.act.Act.TheVariants.{Ask}
+use Rattle.panel_session.specs.declared.session.asked.Asked.{Asked}
+use Rattle.panel_session.specs.declared.session.asked.Asked.TheVariants.{Nothing, Repeat, Refused, Noted, Named, Sent}
 use Rattle.panel_session.specs.declared.session.Session.{Session}
 use Rattle.panel_session.specs.declared.session.phase.Phase.{Phase}
-use Rattle.panel_session.specs.declared.session.phase.Phase.TheVariants.{Read, Tell, Poll as PollStage, End}
+use Rattle.panel_session.specs.declared.session.phase.Phase.TheVariants.{Read, Tell, End}
 use Rattle.panel_session.specs.Acting.{Acts}
-use Rattle.panel_session.specs.MovesInside.{answered_too, silenced, ended_turn}
+use Rattle.panel_session.specs.Answering.{entry_of}
+use Rattle.panel_session.specs.AskedInside.{FoundAsks}
+use Rattle.panel_session.specs.Engine.{HasCome, HasRun, MayTurn}
+use Rattle.panel_session.specs.EngineInside.{HasAsked, HasSent, IsOnItsWay, IsUnderWay, sent_ahead}
+use Rattle.panel_session.specs.Entry.{PlantEntry}
+use Rattle.panel_session.specs.MovesInside.{answered_too, ended_turn, phase_with, silenced, took}
+use Rattle.panel_session.specs.NamesLeftInside.{NamesNone}
 use Rattle.panel_session.specs.OutgoingInside.{emptied}
 use Rattle.panel_session.specs.PolledInside.{HasPolled}
 use Rattle.panel_session.specs.ReadingInside.{HasTaken, HasTakenOn}
 use Rattle.panel_session.specs.RoomsInside.{fitting}
-use Rattle.panel_session.specs.Run.{MayTurn, HasRun}
-use Rattle.panel_session.specs.RunInside.{IsUnderWay}
-use Rattle.panel_session.specs.SenderKept.{sending}
 use Rattle.panel_session.specs.Session.{StandsFor, made_by}
 use Rattle.panel_session.specs.SoFar.{Progress, with_bytes, with_sent, with_entry}
 use Rattle.panel_session.specs.StandsInside.{behind}
+use Rattle.panel_session.specs.TakenInside.{sent_by}
 use Rattle.panel_session.specs.Text.{Output, frames_of, with_frames}
 use Rattle.panel_session.specs.WorkInside.{polling_at}
 use Rattle.panel_session.proofs.ActsLemmas.{no_bytes}
+use Rattle.panel_session.proofs.AheadLemmas.{answer_frames}
+use Rattle.panel_session.proofs.AnsweredLemmas.{answered_entry, awaits_counted}
+use Rattle.panel_session.proofs.GoneOnLemmas.{entries-more}
 use Rattle.panel_session.proofs.NamesLeftLemmas.{polled_plain}
 use Rattle.panel_session.proofs.OutputLemmas.{behind_frames}
-use Rattle.panel_session.proofs.RunLemmas.{asked_behind, drop-none, goes_none, may_go_on, told_behind, used_more, way_over, way_sent}
+use Rattle.panel_session.proofs.ReadLemmas.{has_taken, output_is}
+use Rattle.panel_session.proofs.RunLemmas.{come_asked, come_used, holds_read, may_go_on, told_behind, way_over, way_for, way_sent}
 use Rattle.panel_session.proofs.SentLemmas.{polled_sent, polls_none, reading_stands, stands_whatever, taken_stands, told_is, told_sent}
 use Rattle.panel_session.proofs.SessionLemmas.{asks_first_poll, asks_poll, asks_told, is_reading, rests}
+use Rattle.panel_session.proofs.WayLemmas.{more_none}
 
-module _ {State : Type 0} {step : State → Request → Stepped State Answer} {Fits : State → Request → Type 0}
-    {plant : PlantData} {panel : ℕ} {past : Progress} {piece : List ℕ} {machine : State} where
-  -- What was read of the rest, where the session reads.
-  has_read : {most : State → ℕ} {begun : Session} {machine_now : State} {session_now : Session} {now : Progress} {rest more : List ℕ} (after : Session) (used : ℕ) (send : Bool)
-      → MayTurn step Fits most plant panel begun past machine piece
-      → IsUnderWay step Fits plant panel past piece machine machine_now session_now rest now more
-      → session_now.phase ≡ Read → session_now.unsent ≡ false → HasTakenOn session_now rest used send after
-      → HasTaken plant panel (with_bytes (take used rest) now) send after
-  has_read {session_now = session_now} {now = now} after used send may way read none reads =
-      reads plant panel now (is_reading plant panel session_now now way.stands read none) (may_go_on may way).items
-
-  -- nothing is to be sent for what was read
-  pub way_read : {most : State → ℕ} {begun : Session} {machine_now : State} {session_now : Session} {now : Progress} {rest left more : List ℕ} (after : Session) (used : ℕ)
-      → MayTurn step Fits most plant panel begun past machine piece
-      → IsUnderWay step Fits plant panel past piece machine machine_now session_now rest now more → left ≡ drop used rest
-      → session_now.phase ≡ Read → session_now.unsent ≡ false → HasTakenOn session_now rest used false after
-      → IsUnderWay step Fits plant panel past piece machine machine_now after left (with_bytes (take used rest) now) more
-  way_read {now = now} {rest = rest} {left = left} after used may way is read none reads = record {
-    turns = way.turns;
-    piece_is = ap (λ (left : List ℕ). (now.now.piece ++ take used rest) ++ left) is ∙ used_more used way;
-    idle = λ some. is ∙ drop-none used rest (way.idle some);
-    sent = way.sent;
-    seats = way.seats;
-    legal = way.legal;
-    machine_is = way.machine_is;
-    stands = reading_stands plant panel after (with_bytes (take used rest) now)
-        (has_read after used false may way read none reads);
-  }
-
-  -- something is, and it is sent
-  pub way_read_sent : {most : State → ℕ} {begun : Session} {machine_now : State} {session_now : Session} {now : Progress} {rest left more : List ℕ} (after : Session) (used : ℕ)
-      → MayTurn step Fits most plant panel begun past machine piece
-      → IsUnderWay step Fits plant panel past piece machine machine_now session_now rest now more → left ≡ drop used rest
-      → session_now.phase ≡ Read → session_now.unsent ≡ false → HasTakenOn session_now rest used true after
-      → IsUnderWay step Fits plant panel past piece machine machine_now after left
-      (with_sent (made_by after) (with_bytes (take used rest) now)) (more ++ made_by after)
-  way_read_sent {now = now} {rest = rest} after used may way is read none reads =
-      way_sent used (made_by after) way is (taken_stands plant panel after (with_bytes (take used rest) now) (has_read after used true may way read none reads))
-
-  -- The last item's message is asked.
-  pub asks_to_tell : {most : State → ℕ} {begun : Session} {machine_now : State} {session_now : Session} {now : Progress} {rest more : List ℕ} (request : Request) (message : Message)
-      → MayTurn step Fits most plant panel begun past machine piece
-      → IsUnderWay step Fits plant panel past piece machine machine_now session_now rest now more
-      → session_now.phase ≡ Tell message → session_now.unsent ≡ false
-      → (0 < session_now.items → session_now.items < 2 ^ 62 → request ≡ Told session_now.panel (session_now.items - 1) message)
-      → Acts plant panel now rest 0 (Ask request) session_now
-  asks_to_tell {session_now = session_now} {now = now} {rest = rest} request message may way tell none is =
-      let At : Progress → Type 0 = λ now. Acts plant panel now rest 0 (Ask request) session_now in
-      subst At (no_bytes now) (asks_told plant panel session_now now rest request message way.stands (may_go_on may way) tell none is)
-
-  -- It was answered, and the frames of the answers are sent.
-  told_on : {machine_now machine_then : State} {session_now : Session} {now : Progress} {rest more : List ℕ} (message : Message)
-      → IsUnderWay step Fits plant panel past piece machine machine_now session_now rest now more
-      → session_now.phase ≡ Tell message → session_now.unsent ≡ false
-      → let request = Told session_now.panel (session_now.items - 1) message in
-      let answers = (step machine_now request).answers in
-      let sent = (with_frames (frames_of (fitting session_now.sender.names answers)) (emptied session_now.sender.output)).bytes in
-      Acts plant panel now rest 0 (Ask request) session_now → Fits machine_now request → machine_then ≡ (step machine_now request).state → length answers ≤ room_of plant
-      → IsUnderWay step Fits plant panel past piece machine machine_then (answered_too answers (record session_now { phase = Read })) rest
-      (with_sent sent (with_entry (entry_at step machine_now panel request) now)) (more ++ sent)
-  told_on {machine_now = machine_now} {session_now = session_now} {now = now} message way tell none acts fits state few =
-      let request = Told session_now.panel (session_now.items - 1) message in
-      let entry = entry_at step machine_now panel request in
-      let answers = (step machine_now request).answers in
-      let frames = frames_of (fitting session_now.sender.names answers) in
-      let output = session_now.sender.output in
-      let sent = (with_frames frames (emptied output)).bytes in
+module _ {seat : ℕ} {past : Progress} {piece : List ℕ} {plant : PlantData} {panel : ℕ} where
+  -- An item's request was answered.
+  told_at : (session : Session) {now : Progress} {rest : List ℕ} (message : Message) (answers : List Answer)
+      → HasCome seat past piece now rest → session.phase ≡ Tell message → session.unsent ≡ false
+      → let request = Told session.panel (session.items - 1) message in
+      Acts plant panel now rest 0 (Ask request) session → length answers ≤ room_of plant
+      → HasAsked plant panel seat past piece now rest (entry_of seat request answers) (answer_frames session answers) (answered_too answers (record session { phase = Read }))
+  told_at session {now = now} {rest = rest} message answers come tell none acts few =
+      let request = Told session.panel (session.items - 1) message in
+      let entry : PlantEntry = entry_of seat request answers in
+      let frames = frames_of (fitting session.sender.names answers) in
+      let output = session.sender.output in
+      let sent = answer_frames session answers in
       let later = with_sent sent (with_entry entry now) in
-      let after : Bool → Output → Session = λ unsent output. record session_now {
+      let after : Bool → Output → Session = λ unsent output. record session {
         phase = Read;
-        sender = sending output session_now.sender;
-        outbox = record session_now.outbox { items = [] };
+        sender = record session.sender { output = output };
+        outbox = record session.outbox { items = [] };
         unsent = unsent;
       } in
       let At : Session → Type 0 = λ session. StandsFor plant panel session later in
       let stands : At (after false (behind output.bytes (with_frames frames (emptied output)))) =
-      stands_whatever plant panel (record (after false (with_frames frames (emptied output))) { parted = false }) later (output.bytes ++ sent) session_now.parted
-      (told_sent plant panel panel session_now now request message answers acts.0 few tell) refl tt in
-      asked_behind 0 request sent way refl fits state
-      (subst At (ap (after false) (sym (behind_frames frames output)) ∙ ap (λ (unsent : Bool). after unsent (with_frames frames output)) (sym none)) stands)
-      refl (sym (append-nil now.now.piece)) refl (told_behind now.now.told now.now.polls entry acts.3) (λ some. absurd (some acts.3))
+      stands_whatever plant panel (record (after false (with_frames frames (emptied output))) { parted = false }) later (output.bytes ++ sent) session.parted
+      (told_sent plant panel seat session now request message answers acts.0 few tell) refl tt in
+      record {
+        later = later;
+        come = come_asked {later = later} entry come refl refl refl (told_behind now.now.told now.now.polls entry acts.3) (λ some. absurd (some acts.3));
+        stands = subst At (ap (after false) (sym (behind_frames frames output)) ∙ ap (λ (unsent : Bool). after unsent (with_frames frames output)) (sym none)) stands;
+        sent = refl;
+        entries = told_behind now.now.told now.now.polls entry acts.3;
+        answered = answered_entry plant entry now (entries-more now request 0 rest seat answers acts.3) refl (awaits_counted plant panel session now request acts.0) acts.4;
+      }
 
-  -- So it is with a request that is that, behind bytes that were sent before the ACK.
-  pub way_told : {machine_now machine_then : State} {session_now : Session} {now : Progress} {rest : List ℕ} (before : List ℕ) (request : Request) (message : Message)
-      → let answers = (step machine_now request).answers in
-      let answered = answered_too answers (record session_now { phase = Read }) in
-      IsUnderWay step Fits plant panel past piece machine machine_now session_now rest now (before ++ made_by session_now)
-      → session_now.phase ≡ Tell message → session_now.unsent ≡ false → Acts plant panel now rest 0 (Ask request) session_now
-      → Fits machine_now request → machine_then ≡ (step machine_now request).state → length answers ≤ room_of plant
-      → (now_then : Progress) × IsUnderWay step Fits plant panel past piece machine machine_then answered rest now_then (before ++ made_by answered)
-  way_told {machine_now = machine_now} {machine_then = machine_then} {session_now = session_now} {now = now} {rest = rest} before request message way tell none acts fits state few =
-      let told = Told session_now.panel (session_now.items - 1) message in
-      let Goes : Request → Type 0 = λ request.
-      let answers = (step machine_now request).answers in
-      let answered = answered_too answers (record session_now { phase = Read }) in
-      Acts plant panel now rest 0 (Ask request) session_now → Fits machine_now request → machine_then ≡ (step machine_now request).state → length answers ≤ room_of plant
-      → (now_then : Progress) × IsUnderWay step Fits plant panel past piece machine machine_then answered rest now_then (before ++ made_by answered) in
-      let goes : Goes told = λ acts fits state few.
-      let answers = (step machine_now told).answers in
-      let answered = answered_too answers (record session_now { phase = Read }) in
-      let frames = frames_of (fitting session_now.sender.names answers) in
-      let sent = (with_frames frames (emptied session_now.sender.output)).bytes in
-      let later = with_sent sent (with_entry (entry_at step machine_now panel told) now) in
-      let More : List ℕ → Type 0 = λ more. IsUnderWay step Fits plant panel past piece machine machine_then answered rest later more in
-      let same : (before ++ made_by session_now) ++ sent ≡ before ++ made_by answered =
-      append_assoc before (made_by session_now) sent ∙ ap (λ (output : Output). before ++ output.bytes) (sym (behind_frames frames session_now.sender.output)) in
-      (later, subst More same (told_on message way tell none acts fits state few)) in
-      subst Goes (sym (told_is plant panel session_now now request message acts.0 tell)) goes acts fits state few
+  pub told_asked : (session : Session) {now : Progress} {rest : List ℕ} (request : Request) (message : Message) (answers : List Answer)
+      → HasCome seat past piece now rest → session.phase ≡ Tell message → session.unsent ≡ false
+      → Acts plant panel now rest 0 (Ask request) session → length answers ≤ room_of plant
+      → HasAsked plant panel seat past piece now rest (entry_of seat request answers) (answer_frames session answers) (answered_too answers (record session { phase = Read }))
+  told_asked session {now = now} {rest = rest} request message answers come tell none acts few =
+      let Asked : Request → Type 0 = λ request. Acts plant panel now rest 0 (Ask request) session
+      → HasAsked plant panel seat past piece now rest (entry_of seat request answers) (answer_frames session answers) (answered_too answers (record session { phase = Read })) in
+      let told : Asked (Told session.panel (session.items - 1) message) = λ acts. told_at session message answers come tell none acts few in
+      subst Asked (sym (told_is plant panel session now request message acts.0 tell)) told acts
 
-  -- A session that has read the piece polls for the first time,
-  pub asks_first : {machine_now : State} {session_now : Session} {now : Progress} {more : List ℕ}
-      → IsUnderWay step Fits plant panel past piece machine machine_now session_now [] now more
-      → session_now.phase ≡ Read → session_now.unsent ≡ false
-      → Acts plant panel now [] 0 (Ask (Poll session_now.panel session_now.items session_now.counts.turns)) (polling_at 0 session_now)
-  asks_first {session_now = session_now} {now = now} way read none =
-      let request = Poll session_now.panel session_now.items session_now.counts.turns in
-      let reading = is_reading plant panel session_now now way.stands read none in
-      let After : ℕ → Type 0 = λ polls. Acts plant panel now [] 0 (Ask request) (polling_at polls session_now) in
-      subst After (polls_none plant panel session_now now reading) (asks_first_poll plant panel session_now now [] 0 request reading refl refl)
-
-  -- or once more.
-  pub asks_again : {most : State → ℕ} {begun : Session} {machine_now : State} {now : Progress} {more : List ℕ} (session_now : Session) (polls : ℕ)
-      → MayTurn step Fits most plant panel begun past machine piece
-      → IsUnderWay step Fits plant panel past piece machine machine_now (polling_at polls session_now) [] now more
-      → session_now.unsent ≡ false
-      → Acts plant panel now [] 0 (Ask (Poll session_now.panel session_now.items session_now.counts.turns)) (polling_at polls session_now)
-  asks_again {now = now} session_now polls may way none =
-      let request = Poll session_now.panel session_now.items session_now.counts.turns in
-      let At : Progress → Type 0 = λ now. Acts plant panel now [] 0 (Ask request) (polling_at polls session_now) in
-      subst At (no_bytes now) (asks_poll plant panel (polling_at polls session_now) now [] request way.stands (may_go_on may way) refl none refl)
-
-  -- A poll was answered, and the frames of its answers are sent.
-  pub way_polled : {machine_now machine_then : State} {session_now : Session} {now : Progress} {more : List ℕ} (asking : Session) (polls : ℕ) (phase : Phase)
+  -- A poll was answered.
+  polled_at : {now : Progress} (asking : Session) (polls : ℕ) (phase : Phase) (answers : List Answer)
       → let request = Poll asking.panel asking.items asking.counts.turns in
-      let answers = (step machine_now request).answers in
       let answered = answered_too answers (silenced asking) in
-      IsUnderWay step Fits plant panel past piece machine machine_now session_now [] now more
-      → Acts plant panel now [] 0 (Ask request) (polling_at polls asking) → asking.unsent ≡ false → polls < 32
-      → Fits machine_now request → machine_then ≡ (step machine_now request).state → length answers ≤ room_of plant → HasPolled answers (polls + 1) phase
-      → (now_then : Progress) × IsUnderWay step Fits plant panel past piece machine machine_then (record answered { phase = phase; polls = polls + 1 }) [] now_then (more ++ answered.sender.output.bytes)
-  way_polled {machine_now = machine_now} {now = now} asking polls phase way acts none below fits state few polled =
+      HasCome seat past piece now [] → Acts plant panel now [] 0 (Ask request) (polling_at polls asking) → asking.unsent ≡ false → polls < 32
+      → length answers ≤ room_of plant → HasPolled answers (polls + 1) phase
+      → HasAsked plant panel seat past piece now [] (entry_of seat request answers) (made_by answered) (record answered { phase = phase; polls = polls + 1 })
+  polled_at {now = now} asking polls phase answers come acts none below few polled =
       let request = Poll asking.panel asking.items asking.counts.turns in
-      let entry = entry_at step machine_now panel request in
-      let answers = (step machine_now request).answers in
+      let entry : PlantEntry = entry_of seat request answers in
       let answered = answered_too answers (silenced asking) in
-      let sent = answered.sender.output.bytes in
+      let sent = made_by answered in
       let later = with_sent sent (with_entry entry now) in
       let after : Session = record answered { phase = phase; polls = polls + 1; unsent = false } in
       let At : Bool → Type 0 = λ unsent. StandsFor plant panel (record after { unsent = unsent }) later in
-      let counted : polls + 1 ≡ (polls + 1) % 2 ^ 32 = sym (mod-eq_of_lt (omega arith)) in (
-        later,
-        asked_behind 0 request sent way refl fits state
-            (subst At (sym none) (stands_whatever plant panel (record after { parted = false }) later sent asking.parted
-            (polled_sent plant panel panel (polling_at polls asking) now request phase (polls + 1) answers acts.0 few refl counted polled) refl (polled_plain answers (polls + 1) phase polled)))
-            refl (sym (append-nil now.now.piece)) refl (sym (append_assoc now.now.told now.now.polls (entry ∷ []))) (λ _. refl),
-      )
+      let counted : polls + 1 ≡ (polls + 1) % 2 ^ 32 = sym (mod-eq_of_lt (omega arith)) in
+      record {
+        later = later;
+        come = come_asked {later = later} entry come refl refl refl (sym (append_assoc now.now.told now.now.polls (entry ∷ []))) (λ _. refl);
+        stands = subst At (sym none) (stands_whatever plant panel (record after { parted = false }) later sent asking.parted
+            (polled_sent plant panel seat (polling_at polls asking) now request phase (polls + 1) answers acts.0 few refl counted polled) refl (polled_plain answers (polls + 1) phase polled));
+        sent = refl;
+        entries = sym (append_assoc now.now.told now.now.polls (entry ∷ []));
+        answered = answered_entry plant entry now (entries-more now request 0 [] seat answers acts.3) refl (awaits_counted plant panel (polling_at polls asking) now request acts.0) acts.4;
+      }
 
-  -- So it is with a request that is that.
-  polled_by : {machine_now machine_then : State} {session_now : Session} {now : Progress} {more : List ℕ} (asking : Session) (polls : ℕ) (phase : Phase) (request : Request)
-      → let answers = (step machine_now request).answers in
-      let answered = answered_too answers (silenced asking) in
-      IsUnderWay step Fits plant panel past piece machine machine_now session_now [] now more
-      → request ≡ Poll asking.panel asking.items asking.counts.turns → Acts plant panel now [] 0 (Ask (Poll asking.panel asking.items asking.counts.turns)) (polling_at polls asking)
-      → asking.unsent ≡ false → polls < 32
-      → Fits machine_now request → machine_then ≡ (step machine_now request).state → length answers ≤ room_of plant → HasPolled answers (polls + 1) phase
-      → (now_then : Progress) × IsUnderWay step Fits plant panel past piece machine machine_then (record answered { phase = phase; polls = polls + 1 }) [] now_then (more ++ made_by answered)
-  polled_by {machine_now = machine_now} {machine_then = machine_then} {more = more} asking polls phase request way is acts none below =
-      let Goes : Request → Type 0 = λ request.
-      let answers = (step machine_now request).answers in
-      let answered = answered_too answers (silenced asking) in
-      Fits machine_now request → machine_then ≡ (step machine_now request).state → length answers ≤ room_of plant → HasPolled answers (polls + 1) phase
-      → (now_then : Progress) × IsUnderWay step Fits plant panel past piece machine machine_then (record answered { phase = phase; polls = polls + 1 }) [] now_then (more ++ made_by answered) in
-      let goes : Goes (Poll asking.panel asking.items asking.counts.turns) = λ fits state few polled. way_polled asking polls phase way acts none below fits state few polled in
-      subst Goes (sym is) goes
+  pub polled_asked : {now : Progress} (asking after : Session) (polls : ℕ) (phase : Phase) (request : Request) (answers : List Answer)
+      → HasCome seat past piece now [] → request ≡ Poll asking.panel asking.items asking.counts.turns
+      → Acts plant panel now [] 0 (Ask (Poll asking.panel asking.items asking.counts.turns)) (polling_at polls asking) → asking.unsent ≡ false → polls < 32
+      → length answers ≤ room_of plant → HasPolled answers (polls + 1) phase → after ≡ answered_too answers (silenced asking)
+      → HasAsked plant panel seat past piece now [] (entry_of seat request answers) (made_by after) (record after { phase = phase; polls = polls + 1 })
+  polled_asked {now = now} asking after polls phase request answers come is acts none below few polled same =
+      let Asked : Request → Session → Type 0 = λ request after. HasAsked plant panel seat past piece now [] (entry_of seat request answers) (made_by after) (record after { phase = phase; polls = polls + 1 }) in
+      let Of : Session → Type 0 = λ after. Asked request after in
+      let By : Request → Type 0 = λ request. Asked request (answered_too answers (silenced asking)) in
+      subst Of (sym same) (subst By (sym is) (polled_at asking polls phase answers come acts none below few polled))
+
+module _ {Answerer : Type 0} {Answers : Answerer → List PlantEntry → Answerer → Type 0} {sf : Bool}
+    {plant : PlantData} {panel seat : ℕ} {past : Progress} {piece : List ℕ} {first : Answerer} where
+  -- Where all is sent first, what was made goes ahead of it.
+  pub way_ahead : {answerer : Answerer} {session : Session} {now : Progress} {rest more : List ℕ} (ahead : Bool) (message : Message)
+      → IsUnderWay Answers sf plant panel seat past piece first answerer session rest now more → session.phase ≡ Tell message → session.unsent ≡ false
+      → IsUnderWay Answers sf plant panel seat past piece first answerer (sent_ahead ahead session) rest now more
+  way_ahead {session = session} {now = now} true message way tell none =
+      way_for (silenced session) way (stands_whatever plant panel session now [] session.parted way.stands none (subst NamesNone (sym tell) tt))
+  way_ahead false message way tell none = way
+
+  -- A session that has read the piece polls for the first time,
+  pub asks_first : {answerer : Answerer} {session : Session} {now : Progress} {more : List ℕ}
+      → IsUnderWay Answers sf plant panel seat past piece first answerer session [] now more
+      → session.phase ≡ Read → session.unsent ≡ false
+      → Acts plant panel now [] 0 (Ask (Poll session.panel session.items session.counts.turns)) (polling_at 0 session)
+  asks_first {session = session} {now = now} way read none =
+      let request = Poll session.panel session.items session.counts.turns in
+      let reading = is_reading plant panel session now way.stands read none in
+      let After : ℕ → Type 0 = λ polls. Acts plant panel now [] 0 (Ask request) (polling_at polls session) in
+      subst After (polls_none plant panel session now reading) (asks_first_poll plant panel session now [] 0 request reading refl refl)
+
+module _ {Answerer : Type 0} {Answers : Answerer → List PlantEntry → Answerer → Type 0} {sf : Bool} {IsSeat : Answerer → ℕ → Type 0} {Serves : PlantData → Answerer → Type 0}
+    {plant : PlantData} {panel seat : ℕ} {past : Progress} {piece : List ℕ} {first : Answerer} {begun : Session} where
+  -- What was read of the rest, where the session reads.
+  has_read : {answerer : Answerer} {session : Session} {now : Progress} {rest more : List ℕ} (after : Session) (used : ℕ) (send : Bool)
+      → MayTurn IsSeat Serves plant panel seat begun past first piece
+      → IsUnderWay Answers sf plant panel seat past piece first answerer session rest now more
+      → session.phase ≡ Read → session.unsent ≡ false → HasTakenOn session rest used send after
+      → HasTaken plant panel (with_bytes (take used rest) now) send after
+  has_read {session = session} {now = now} after used send may way read none reads =
+      reads plant panel now (is_reading plant panel session now way.stands read none) (may_go_on may way.come).items
+
+  -- nothing is to be sent for what was read
+  pub way_read : {answerer : Answerer} {session : Session} {now : Progress} {rest more : List ℕ} (after : Session) (used : ℕ)
+      → MayTurn IsSeat Serves plant panel seat begun past first piece
+      → IsUnderWay Answers sf plant panel seat past piece first answerer session rest now more
+      → session.phase ≡ Read → session.unsent ≡ false → HasTakenOn session rest used false after
+      → HasSent Answers sf plant panel seat past piece first answerer after (drop used rest) more []
+  way_read {answerer = answerer} {now = now} {rest = rest} {more = more} after used may way read none reads =
+      let used_now = with_bytes (take used rest) now in
+      let holds = holds_read sf plant past now more (take used rest) way.answered in
+      let way_then : IsUnderWay Answers sf plant panel seat past piece first answerer after (drop used rest) used_now more = record {
+        come = come_used used way.come refl;
+        sent = way.sent;
+        answers = way.answers;
+        stands = reading_stands plant panel after used_now (has_read after used false may way read none reads);
+        answered = holds;
+      } in
+      record { now = used_now; way = more_none way_then; earlier = holds }
+
+  -- something is, and it is sent
+  pub way_read_sent : {answerer : Answerer} {session : Session} {now : Progress} {rest more : List ℕ} (after : Session) (used : ℕ)
+      → MayTurn IsSeat Serves plant panel seat begun past first piece
+      → IsUnderWay Answers sf plant panel seat past piece first answerer session rest now more
+      → session.phase ≡ Read → session.unsent ≡ false → HasTakenOn session rest used true after
+      → HasSent Answers sf plant panel seat past piece first answerer after (drop used rest) more (made_by after)
+  way_read_sent {now = now} {rest = rest} after used may way read none reads =
+      way_sent used (made_by after) way refl (taken_stands plant panel after (with_bytes (take used rest) now) (has_read after used true may way read none reads))
+
+  -- The last item's message is asked.
+  pub asks_to_tell : {answerer : Answerer} {session : Session} {now : Progress} {rest more : List ℕ} (request : Request) (message : Message)
+      → MayTurn IsSeat Serves plant panel seat begun past first piece
+      → IsUnderWay Answers sf plant panel seat past piece first answerer session rest now more
+      → session.phase ≡ Tell message → session.unsent ≡ false
+      → (0 < session.items → session.items < 2 ^ 62 → request ≡ Told session.panel (session.items - 1) message)
+      → Acts plant panel now rest 0 (Ask request) session
+  asks_to_tell {session = session} {now = now} {rest = rest} request message may way tell none is =
+      let At : Progress → Type 0 = λ now. Acts plant panel now rest 0 (Ask request) session in
+      subst At (no_bytes now) (asks_told plant panel session now rest request message way.stands (may_go_on may way.come) tell none is)
+
+  -- It polls once more.
+  pub asks_again : {answerer : Answerer} {now : Progress} {more : List ℕ} (session : Session) (polls : ℕ)
+      → MayTurn IsSeat Serves plant panel seat begun past first piece
+      → IsUnderWay Answers sf plant panel seat past piece first answerer (polling_at polls session) [] now more
+      → session.unsent ≡ false
+      → Acts plant panel now [] 0 (Ask (Poll session.panel session.items session.counts.turns)) (polling_at polls session)
+  asks_again {now = now} session polls may way none =
+      let request = Poll session.panel session.items session.counts.turns in
+      let At : Progress → Type 0 = λ now. Acts plant panel now [] 0 (Ask request) (polling_at polls session) in
+      subst At (no_bytes now) (asks_poll plant panel (polling_at polls session) now [] request way.stands (may_go_on may way.come) refl none refl)
 
   -- The turn is over.
-  pub way_ends : {most : State → ℕ} {begun : Session} {machine_now : State} {now : Progress} {more : List ℕ} (session_now : Session) (polls : ℕ)
-      → MayTurn step Fits most plant panel begun past machine piece
-      → IsUnderWay step Fits plant panel past piece machine machine_now (record session_now { phase = End; polls = polls }) [] now more
-      → session_now.unsent ≡ false
-      → HasRun step Fits plant panel past piece machine machine_now (ended_turn session_now) more
-  way_ends {now = now} session_now polls may way none =
-      way_over 0 way (rests plant panel (record session_now { phase = End; polls = polls }) now [] way.stands (may_go_on may way) refl none)
+  pub way_ends : {answerer : Answerer} {now : Progress} {more : List ℕ} (session : Session) (polls : ℕ)
+      → MayTurn IsSeat Serves plant panel seat begun past first piece
+      → IsUnderWay Answers sf plant panel seat past piece first answerer (record session { phase = End; polls = polls }) [] now more
+      → session.unsent ≡ false
+      → HasRun Answers sf plant panel seat past piece first answerer (ended_turn session) more
+  way_ends {now = now} session polls may way none =
+      way_over 0 way (rests plant panel (record session { phase = End; polls = polls }) now [] way.stands (may_go_on may way.come) refl none)
 
-  -- What an item asks that sends the plant a message, once its ACK is sent.
-  pub asks_item : {most : State → ℕ} {begun : Session} {machine_now : State} {session_now : Session} {now : Progress} {rest more : List ℕ} (after : Session) (used : ℕ) (request : Request) (message : Message)
-      → MayTurn step Fits most plant panel begun past machine piece
-      → IsUnderWay step Fits plant panel past piece machine machine_now session_now rest now more
-      → session_now.phase ≡ Read → session_now.unsent ≡ false → HasTakenOn session_now rest used true after → after.phase ≡ Tell message → after.unsent ≡ false
-      → (0 < after.items → after.items < 2 ^ 62 → request ≡ Told after.panel (after.items - 1) message)
-      → (now_then : Progress) × IsUnderWay step Fits plant panel past piece machine machine_now after (drop used rest) now_then (more ++ made_by after)
-      × Acts plant panel now_then (drop used rest) 0 (Ask request) after
-  asks_item after used request message may way read none reads tell quiet is =
-      let sent = way_read_sent after used may way refl read none reads in
-      (_, sent, asks_to_tell request message may sent tell quiet is)
+  -- An item that sends the plant nothing was done, and what is sent for it is sent.
+  taken_at : {answerer : Answerer} {session : Session} {now : Progress} {rest more : List ℕ} (after : Session) (used : ℕ) (bytes : List ℕ)
+      → MayTurn IsSeat Serves plant panel seat begun past first piece
+      → IsUnderWay Answers sf plant panel seat past piece first answerer session rest now more
+      → session.phase ≡ Read → session.unsent ≡ false
+      → ((send : Bool) → (send ≡ true → bytes ≢ []) → (send ≡ false → bytes ≡ []) → HasTakenOn session rest used send after)
+      → (bytes ≢ [] → made_by after ≡ bytes)
+      → HasSent Answers sf plant panel seat past piece first answerer after (drop used rest) more bytes
+  taken_at after used [] may way read none takes made = way_read after used may way read none (takes false (λ no. absurd (false≢true no)) (λ _. refl))
+  taken_at {answerer = answerer} {rest = rest} {more = more} after used (byte ∷ bytes) may way read none takes made =
+      let some : byte ∷ bytes ≢ [] = λ no. cc in
+      let Bytes : List ℕ → Type 0 = λ bytes. HasSent Answers sf plant panel seat past piece first answerer after (drop used rest) more bytes in
+      subst Bytes (made some) (way_read_sent after used may way read none (takes true (λ _. some) (λ no. absurd (false≢true (sym no)))))
 
-  -- An item that asks nothing of the plant was worked.
-  pub way_item : {most : State → ℕ} {begun : Session} {machine_now : State} {session_now : Session} {now : Progress} {rest more : List ℕ} (after : Session) (used : ℕ) (send : Bool)
-      → MayTurn step Fits most plant panel begun past machine piece
-      → IsUnderWay step Fits plant panel past piece machine machine_now session_now rest now more
-      → session_now.phase ≡ Read → session_now.unsent ≡ false → HasTakenOn session_now rest used send after
-      → (now_then : Progress) × IsUnderWay step Fits plant panel past piece machine machine_now after (drop used rest) now_then (more ++ (if send then made_by after else []))
-  way_item after used true may way read none reads = (_, way_read_sent after used may way refl read none reads)
-  way_item after used false may way read none reads = (_, goes_none (way_read after used may way refl read none reads))
+  pub way_taken : {answerer : Answerer} {session : Session} {now : Progress} {rest more : List ℕ} (framer_then : Framer) (used : ℕ) (asked : Asked)
+      → MayTurn IsSeat Serves plant panel seat begun past first piece
+      → IsUnderWay Answers sf plant panel seat past piece first answerer session rest now more
+      → session.phase ≡ Read → session.unsent ≡ false → ((message : Message) → asked ≡ Sent message → ⊥)
+      → GoesOver (take used rest) session.framer framer_then → ((text : List ℕ) → framer.StandsFor session.framer text → FoundAsks text rest used (Some asked))
+      → HasSent Answers sf plant panel seat past piece first answerer (took session.sender.names asked (record session { framer = framer_then })) (drop used rest) more (sent_by session.sender.names asked session.sender.output)
+  way_taken {session = session} {rest = rest} framer_then used asked may way read none other over finds =
+      let after : Session = took session.sender.names asked (record session { framer = framer_then }) in
+      taken_at after used (sent_by session.sender.names asked session.sender.output) may way read none
+      (λ send some quiet. has_taken session after framer_then rest used asked send over finds refl some quiet (λ _. stays asked session.phase other))
+      (λ some. output_is session.sender.names asked session.sender.output some)
+    where
+      stays : (asked : Asked) (phase : Phase) → ((message : Message) → asked ≡ Sent message → ⊥) → phase_with asked phase ≡ phase
+      stays Nothing phase other = refl
+      stays Repeat phase other = refl
+      stays Refused phase other = refl
+      stays Noted phase other = refl
+      stays (Named message) phase other = refl
+      stays (Sent message) phase other = absurd (other message refl)
 
-  -- What comes behind a poll: another is asked,
-  pub polls_on : {most : State → ℕ} {begun : Session} {machine_now machine_then : State} {session_now : Session} {now : Progress} {more : List ℕ} (asking after : Session) (polls : ℕ) (phase : Phase) (request : Request)
-      → let answers = (step machine_now request).answers in
-      MayTurn step Fits most plant panel begun past machine piece
-      → IsUnderWay step Fits plant panel past piece machine machine_now session_now [] now more
-      → request ≡ Poll asking.panel asking.items asking.counts.turns → Acts plant panel now [] 0 (Ask (Poll asking.panel asking.items asking.counts.turns)) (polling_at polls asking)
-      → asking.unsent ≡ false → polls < 32
-      → Fits machine_now request → machine_then ≡ (step machine_now request).state → length answers ≤ room_of plant → HasPolled answers (polls + 1) phase
-      → after ≡ answered_too answers (silenced asking) → phase ≡ PollStage
-      → (now_then : Progress) × IsUnderWay step Fits plant panel past piece machine machine_then (polling_at (polls + 1) after) [] now_then (more ++ made_by after)
-      × Acts plant panel now_then [] 0 (Ask (Poll after.panel after.items after.counts.turns)) (polling_at (polls + 1) after)
-  polls_on {machine_now = machine_now} {machine_then = machine_then} {now = now} {more = more} asking after polls phase request may way is acts none below fits state few polled same poll =
-      let done = polled_by asking polls phase request way is acts none below fits state few polled in
-      let Way : Session → Phase → Type 0 = λ session phase. IsUnderWay step Fits plant panel past piece machine machine_then (record session { phase = phase; polls = polls + 1 }) [] done.0 (more ++ made_by session) in
-      let AtStage : Phase → Type 0 = λ phase. Way (answered_too (step machine_now request).answers (silenced asking)) phase in
-      let Of : Session → Type 0 = λ session. Way session PollStage in
-      let way_then = subst Of (sym same) (subst AtStage poll done.1) in
-      (done.0, way_then, asks_again after (polls + 1) may way_then (ap (λ (session : Session). session.unsent) same ∙ none))
-
-  -- or the turn ends.
-  pub polls_end : {most : State → ℕ} {begun : Session} {machine_now machine_then : State} {session_now : Session} {now : Progress} {more : List ℕ} (asking after : Session) (polls : ℕ) (phase : Phase) (request : Request)
-      → let answers = (step machine_now request).answers in
-      MayTurn step Fits most plant panel begun past machine piece
-      → IsUnderWay step Fits plant panel past piece machine machine_now session_now [] now more
-      → request ≡ Poll asking.panel asking.items asking.counts.turns → Acts plant panel now [] 0 (Ask (Poll asking.panel asking.items asking.counts.turns)) (polling_at polls asking)
-      → asking.unsent ≡ false → polls < 32
-      → Fits machine_now request → machine_then ≡ (step machine_now request).state → length answers ≤ room_of plant → HasPolled answers (polls + 1) phase
-      → after ≡ answered_too answers (silenced asking) → phase ≡ End
-      → HasRun step Fits plant panel past piece machine machine_then (ended_turn after) (more ++ made_by after)
-  polls_end {machine_now = machine_now} {machine_then = machine_then} {now = now} {more = more} asking after polls phase request may way is acts none below fits state few polled same over =
-      let done = polled_by asking polls phase request way is acts none below fits state few polled in
-      let Way : Session → Phase → Type 0 = λ session phase. IsUnderWay step Fits plant panel past piece machine machine_then (record session { phase = phase; polls = polls + 1 }) [] done.0 (more ++ made_by session) in
-      let AtStage : Phase → Type 0 = λ phase. Way (answered_too (step machine_now request).answers (silenced asking)) phase in
-      let Of : Session → Type 0 = λ session. Way session End in
-      way_ends after (polls + 1) may (subst Of (sym same) (subst AtStage over done.1)) (ap (λ (session : Session). session.unsent) same ∙ none)
+-- A turn whose last item asks the plant something, of which the ACK counts as sent.
+abbrev pub telling : {Answerer : Type 0} {Answers : Answerer → List PlantEntry → Answerer → Type 0} {sf : Bool} {IsSeat : Answerer → ℕ → Type 0} {Serves : PlantData → Answerer → Type 0} {session : Session} {answerer : Answerer} {rest left : List ℕ} (after : Session)
+    (on : IsOnItsWay IsSeat Serves Answers sf session answerer rest) → HasSent Answers sf on.plant on.panel on.seat on.past on.piece on.first answerer after left on.more (made_by after)
+    → IsOnItsWay IsSeat Serves Answers sf after answerer left
+telling after on sent = record {
+  plant = on.plant;
+  panel = on.panel;
+  seat = on.seat;
+  begun = on.begun;
+  past = on.past;
+  piece = on.piece;
+  first = on.first;
+  now = sent.now;
+  more = on.more ++ made_by after;
+  may = on.may;
+  way = sent.way;
+}

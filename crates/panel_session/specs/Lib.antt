@@ -32,8 +32,11 @@ pub mod DisplayPacketInside
 pub mod TraceLine
 pub mod TraceInside
 pub mod TraceLaws
-pub mod RunInside
 pub mod Served
 pub mod ServedInside
+pub mod Answering
+pub mod AnsweringLaws
+pub mod Engine
+pub mod EngineInside
 pub mod WorkInside
 pub mod SettledInside

@@ -3,86 +3,29 @@ use Rattle.std.specs.Prelude.{◌≡◌, ◌≢◌, ℕ, ◌≤◌, List, [], �
 use Rattle.std.specs.Option.{option_map}
 use mathlib.Core.List.{IsPrefix}
 use Rattle.ctl_io.specs.Faults.{one_more}
-use Rattle.ctl_io.specs.Sink.{appended, AppendsPart}
+use Rattle.ctl_io.specs.Sink.{appended}
 use Rattle.ctl_io.specs.Source.{IsAtEnd}
 use Rattle.ctl_net.specs.Acceptor.{LinkEnd}
 use Rattle.dle_framing.specs.Items.{items}
-use Rattle.history_lock.specs.Calls.{AddsOwn, FoundFull, IsNumbered, OnlyCalled, SeesAnswers, asked_by}
 use Rattle.history_lock.specs.History.{entries_of, IsLegal}
 use Rattle.history_lock.specs.Locks.{LockData}
 use Rattle.plant_config.specs.IsPlant.{IsPlant}
 use Rattle.plant_config.specs.Plant.{PlantData}
-use Rattle.plant_core.specs.Answer.{room_of}
-use Rattle.plant_core.specs.State.{State, FitsPlant, start, Fits as Takes}
+use Rattle.plant_core.specs.State.{State, start, Fits as Takes}
 use Rattle.plant_core.specs.Step.{step}
-use Rattle.plant_core.specs.declared.answer.Answer.{Answer}
-use Rattle.plant_core.specs.declared.request.Request.{Request}
 use Rattle.panel_session.specs.declared.session.Session.{Session}
 use Rattle.panel_session.specs.Acting.{MayGoOn}
 use Rattle.panel_session.specs.Run.{CompletesText, turned}
 use Rattle.panel_session.specs.Turns.{Turn, bytes_read, entries_of_turns}
 use Rattle.panel_session.specs.declared.serve.SessionEnd.{SessionEnd}
-use Rattle.panel_session.specs.declared.serve.SessionEnd.TheVariants.{Ended, ReadFault, TraceFault, Full}
+use Rattle.panel_session.specs.declared.serve.SessionEnd.TheVariants.{Ended, ReadFault, WriteFault, TraceFault, Full}
+use Rattle.panel_session.specs.declared.session.cut.Cut.{Cut}
+use Rattle.panel_session.specs.declared.session.cut.Cut.TheVariants.{Refused, Untraced, Unsent}
 use Rattle.panel_session.specs.Entry.{PlantEntry}
 use Rattle.panel_session.specs.Served.{PlantSeat, TraceData, AnsweredButLast, AreTaken, StandsOrAwaits, TracesUnless, all_read, full_after, idles_after, mark_after, own_lines, read_of, read_room, trace_failed_at}
-use Rattle.panel_session.specs.Session.{StandsFor, Awaits, outbox_of}
+use Rattle.panel_session.specs.Session.{StandsFor}
 use Rattle.panel_session.specs.Text.{IsText}
-use Rattle.panel_session.specs.TraceLine.{trace_line}
-use Rattle.panel_session.specs.SoFar.{Progress, nothing_yet, entries_so_far, read_so_far, unstarted, with_entry}
-
--- A session waits for the answers to this request, which it may ask its plant's lock by its seat.
-pub record MayCall (session : Session) (lock : LockData State) (seat : PlantSeat)
-    (request : Request) : Type 0 where
-  pub plant : PlantData
-  pub panel : ℕ
-  pub past : Progress
-  pub awaits : Awaits plant panel session past request
-  pub box : outbox_of session ≡ record { items = []; places = room_of plant }
-  pub fits : FitsPlant plant request
-  pub is_plant : IsPlant plant
-  pub seat_of : seat.lock ≡ lock.id
-  pub first : seat.first ≡ start plant
-
--- The lock answered a request of a session behind a past: its entry is the last of a legal history that goes on from the one
--- that the seat had seen, and the seat's only new one. The session took the answers.
-pub record IsGiven (plant : PlantData) (panel : ℕ) (past : Progress) (request : Request)
-    (answers : List Answer) (number : ℕ) (session_then : Session) (seat seat_then : PlantSeat)
-    : Type 0 where
-  pub numbered : IsNumbered number seat_then.seen
-  pub legal : IsLegal step Takes (start plant) seat_then.seen
-  pub sees : SeesAnswers seat request answers seat_then
-  pub own : AddsOwn seat request answers seat_then
-  pub rest : OnlyCalled seat seat_then
-  pub stands : StandsFor plant panel session_then
-      (with_entry (asked_by seat request answers) past)
-
--- The lock answered a request, and the line of the entry was traced.
-pub record IsTraced (plant : PlantData) (panel : ℕ) (past : Progress) (request : Request)
-    (session_then : Session) (seat seat_then : PlantSeat) (traced traced_then : Option (List ℕ))
-    : Type 0 where
-  pub answers : List Answer
-  pub number : ℕ
-  pub given : IsGiven plant panel past request answers number session_then seat seat_then
-  pub line : traced_then ≡ appended traced (trace_line plant number request answers)
-
--- The lock answered a request, but the line of the entry wasn't traced as a whole.
-pub record IsUntraced (plant : PlantData) (panel : ℕ) (past : Progress) (request : Request)
-    (session_then : Session) (seat seat_then : PlantSeat) (traced traced_then : Option (List ℕ))
-    : Type 0 where
-  pub answers : List Answer
-  pub number : ℕ
-  pub given : IsGiven plant panel past request answers number session_then seat seat_then
-  pub part : AppendsPart (trace_line plant number request answers) traced traced_then
-
--- How a session ends at a request: its line wasn't traced, or the history has no place for its entry.
-abbrev pub EndsAtRequest : SessionEnd → PlantData → ℕ → Progress → Request → Session → PlantSeat
-    → PlantSeat → Option (List ℕ) → Option (List ℕ) → Type 0
-EndsAtRequest TraceFault plant panel past request session_then seat seat_then traced traced_then =
-    IsUntraced plant panel past request session_then seat seat_then traced traced_then
-EndsAtRequest Full plant panel past request session_then seat seat_then traced traced_then =
-    FoundFull seat seat_then × (traced_then ≡ traced)
-    × Awaits plant panel session_then past request
-EndsAtRequest other plant panel past request session_then seat seat_then traced traced_then = ⊥
+use Rattle.panel_session.specs.SoFar.{Progress, nothing_yet, entries_so_far, read_so_far, unstarted}
 
 -- what is outside of a session: its seat, what was written over its link, and what was written of its trace
 pub record Outside : Type 0 where
@@ -153,17 +96,6 @@ pub record MayServeTurn (session : Session) (lock : LockData State) (seat : Plan
   pub seat_of : seat.lock ≡ lock.id
   pub first : seat.first ≡ start plant
 
--- A turn is on its way behind a past: the session has gone on to this past, and this is left of the piece.
-pub record IsServing (plant : PlantData) (panel : ℕ) (past : Progress) (piece : List ℕ)
-    (session_now : Session) (before now_outside : Outside) (rest : List ℕ) : Type 0 where
-  pub now : Progress
-  pub gone : HasGoneOn plant before now_outside past now
-  pub stands : StandsFor plant panel session_now now
-  pub answered : KeepsAnswered plant now
-  pub turns : now.turns ≡ past.turns
-  pub piece_is : now.now.piece ++ rest ≡ piece
-  pub idle : now.now.polls ≢ [] → rest ≡ []
-
 -- A turn with this piece was worked behind a past: the session has gone on to the past with one turn more, in which all of its
 -- text was written.
 pub record HasServed (plant : PlantData) (panel : ℕ) (past : Progress) (piece : List ℕ)
@@ -186,6 +118,12 @@ pub record WasStopped (plant : PlantData) (panel : ℕ) (end : SessionEnd) (past
   pub turns : now.turns ≡ past.turns
   pub piece_is : now.now.piece ++ rest ≡ piece
   pub idle : now.now.polls ≢ [] → rest ≡ []
+
+-- how a session ends whose turn was cut short so
+abbrev pub ended_by : Cut → SessionEnd
+ended_by Refused = Full
+ended_by Untraced = TraceFault
+ended_by Unsent = WriteFault
 
 -- A read of a link gave this piece.
 pub record GavePiece (piece : List ℕ) (link link_then : LinkEnd) : Type 0 where

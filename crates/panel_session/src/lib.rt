@@ -4,23 +4,26 @@
 //! `specs/Text.antt`, the bytes that it sends, and `specs/DisplayPacket.antt`, the packet.
 #![tactic(auto)]
 
+mod engine;
 mod laws;
-mod outlet;
 mod packet;
 mod sending;
 mod serve;
 mod session;
 mod traces;
 
+pub use engine::answerer::Answerer;
+pub use engine::drain::Drain;
+pub use engine::outlet::Outlet;
 pub use laws::{
     display_poll_answers_are_lamps, one_turn, so_far_fits, stands_so_far, texts_go_on, turns_fit,
 };
-pub use outlet::Outlet;
 pub use packet::display_packet;
 pub use serve::{SessionEnd, serve_session};
 pub use session::Session;
 pub use session::act::Act;
 pub use session::counts::Counts;
-pub use session::turn::run_turn;
+pub use session::cut::Cut;
+pub use traces::line_room::LineRoom;
 pub use traces::trace_laws::{lines_end_once, one_entry};
 pub use traces::trace_line::TraceLines;

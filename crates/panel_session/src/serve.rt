@@ -3,24 +3,23 @@
 ghost use Rattle.std.specs.Prelude.{◌≡◌, ℕ, ◌+◌, ◌-◌, ◌^◌, ◌<◌, ◌≤◌, true, take, length};
 ghost use Rattle.std.specs.Prelude.{IfErr, IfOk, OnOk};
 ghost use Rattle.ctl_io.specs.Faults.{count_after};
-ghost use Rattle.plant_core.specs.declared.request.Request.{Request};
 ghost use Rattle.plant_config.specs.Plant.{PlantData};
 ghost use Rattle.panel_session.specs.Served.{MayServe, Served, link_shows, trace_shows, read_room};
 ghost use Rattle.panel_session.specs.Served.{trace_failed_at, was_cut, write_failed_at};
-ghost use Rattle.panel_session.specs.CallsLeft.{IsNearer};
-ghost use Rattle.panel_session.specs.ServedInside.{EndsAtRequest, IsTraced, MayCall};
 ghost use Rattle.panel_session.specs.ServedInside.{HasServed, MayServeTurn, WasStopped, outside};
-ghost use Rattle.panel_session.specs.ServedInside.{EndsAtRead, GavePiece, KeepsAnswered};
+ghost use Rattle.panel_session.specs.ServedInside.{EndsAtRead, GavePiece, KeepsAnswered, ended_by};
 ghost use Rattle.panel_session.specs.Acting.{MayGoOn};
-ghost use Rattle.panel_session.specs.Session.{Awaits, StandsFor};
+ghost use Rattle.panel_session.specs.Session.{StandsFor};
 ghost use Rattle.panel_session.specs.SoFar.{Progress, nothing_yet, unstarted};
 
+use crate::engine::at_lock::AtLock;
+use crate::engine::outlet::WriteHalf;
 use crate::session::Session;
-use crate::session::act::Act;
-use ctl_io::{Sink, write_all};
+use crate::session::cut::Cut;
+use ctl_io::Sink;
 use ctl_net::{Link, LinkRead};
 use history_lock::{HistoryLock, Seat};
-use plant_core::{PlantState, Request};
+use plant_core::PlantState;
 use std::sync::Wait;
 
 // The most bytes of a read.
@@ -152,56 +151,26 @@ fn serve_turn<W: Wait, L: Link, K: Sink>(
     ensures link_name { L.name link.new ≡ L.name link.old }
     ensures trace_name { K.name trace.new ≡ K.name trace.old }
 {
-    let mut rest = piece;
-    loop {
-        let (used, act) = session.act(rest);
-        rest = &rest[used..];
-        match act {
-            Act::Send => {
-                if !write_all(link, session.outgoing()) {
-                    return Err(SessionEnd::WriteFault);
-                }
-            }
-            Act::Ask(request) => ask_lock(rt, session, lock, seat, trace, &request)?,
-            Act::Rest => return Ok(()),
-        }
+    let mut at_lock = AtLock {
+        rt,
+        lock,
+        seat,
+        trace,
+    };
+    let mut out = WriteHalf { link };
+    match session.work_turn(&mut at_lock, piece, &mut out) {
+        Ok(()) => Ok(()),
+        Err(cut) => Err(ended_by(cut)),
     }
 }
 
-// Asks the lock what a session asks, and traces the entry before its answers are sent. The error is how the session ends.
-fn ask_lock<W: Wait, K: Sink>(
-    rt: &W,
-    session: &mut Session<'_>,
-    lock: &HistoryLock<PlantState>,
-    seat: &mut Seat<PlantState>,
-    trace: &mut K,
-    request: &Request,
-) -> Result<(), SessionEnd>
-    requires may { MayCall session.old lock.now seat.old request.now }
-    ensures asked { OnOk result ((plant : PlantData) (panel : ℕ) (past : Progress)
-        → Awaits plant panel session.old past request.now
-        → IsTraced plant panel past request.now session.new seat.old seat.new
-        (K.written trace.old) (K.written trace.new)) }
-    ensures count { OnOk result (K.faults trace.new ≡ K.faults trace.old) }
-    ensures ends { IfErr result (λ end. (plant : PlantData) (panel : ℕ) (past : Progress)
-        → Awaits plant panel session.old past request.now
-        → EndsAtRequest end plant panel past request.now session.new seat.old seat.new
-        (K.written trace.old) (K.written trace.new)) }
-    ensures cause { IfErr result (λ end.
-        K.faults trace.new ≡ count_after (trace_failed_at end) (K.faults trace.old)) }
-    ensures nearer { OnOk result (IsNearer session.old request.now session.new) }
-    ensures name { K.name trace.new ≡ K.name trace.old }
+// How a session ends whose turn was cut short so.
+fn ended_by(cut: Cut) -> SessionEnd
+    ensures { result ≡ ended_by cut }
 {
-    match lock.call(rt, seat, request, session.outbox()) {
-        Ok(position) => {
-            session.answered();
-            let traced = session.trace_answered(position, request, trace);
-            if traced {
-                Ok(())
-            } else {
-                Err(SessionEnd::TraceFault)
-            }
-        }
-        Err(_) => Err(SessionEnd::Full),
+    match cut {
+        Cut::Refused => SessionEnd::Full,
+        Cut::Untraced => SessionEnd::TraceFault,
+        Cut::Unsent => SessionEnd::WriteFault,
     }
 }

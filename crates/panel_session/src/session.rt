@@ -12,12 +12,12 @@ ghost use Rattle.panel_session.specs.TraceLine.{trace_line};
 pub(crate) mod act;
 pub(crate) mod asked;
 pub(crate) mod counts;
+pub(crate) mod cut;
+mod engine;
+mod giving;
 mod moves;
 pub(crate) mod phase;
 mod requests;
-mod traced;
-pub(crate) mod turn;
-mod work;
 
 use crate::sending::sender::Sender;
 use crate::session::act::Act;
@@ -64,7 +64,7 @@ impl<'p> Session<'p> {
     ghost use Rattle.panel_session.specs.CallsLeft.{phase_left, IsNearer, LeavesLess};
     ghost use Rattle.panel_session.specs.declared.session.phase.Phase.TheVariants.{Read};
     ghost use Rattle.panel_session.specs.ReadingInside.{ReadsOn, HasReadOn};
-    ghost use Rattle.panel_session.specs.Session.{outgoing_of, outbox_of};
+    ghost use Rattle.panel_session.specs.Session.{outgoing_of, outbox_of, plant_of};
     ghost use Rattle.panel_session.specs.Session.{StandsFor, Awaits};
     ghost use Rattle.panel_session.specs.Session.{MakesAnswers, TakesAnswers};
     ghost use Rattle.panel_session.specs.Session.{BeginsAnew, BeginsAnewUnanswered};
@@ -131,6 +131,13 @@ impl<'p> Session<'p> {
             → Awaits plant panel self.now past request → result ≡ panel }
     {
         self.panel
+    }
+
+    // After how many idle reads, one behind the other, it ends.
+    pub(crate) fn idle_limit(&self) -> u32
+        ensures { result ≡ (plant_of self.now).server.idle_limit }
+    {
+        self.plant.server().idle_limit
     }
 
     /// What came since the start or the last reset.

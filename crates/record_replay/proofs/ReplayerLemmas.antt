@@ -1,6 +1,6 @@
 -- What works make of the plant and the sessions.
 use Rattle.std.proofs.Common.{◌≡◌, ◌≢◌, ℕ, ◌+◌, ◌^◌, ◌≤◌, ◌<◌, ◌==◌, Bool, true, false, cond, List, [], length, refl, sym, ap, ◌∙◌, subst, arith}
-use Rattle.std.specs.Prelude.{slice_index_or, slice_set}
+use Rattle.std.specs.Prelude.{slice_index_or, slice_set, IfErr, OnOk, Result, Ok, Err}
 use Rattle.std.proofs.lemmas.Bool.{eqb-true, eqb-false}
 use Rattle.std.proofs.lemmas.List.{get_or-set_same, get_or-set_other, length-set}
 use Rattle.history_lock.specs.History.{run}
@@ -13,7 +13,12 @@ use Rattle.plant_core.specs.declared.request.Request.TheVariants as requests
 use Rattle.panel_session.specs.DisplayPacket.{AreLamps}
 use Rattle.panel_session.proofs.LampLemmas.{display_poll-lamps}
 use Rattle.panel_session.specs.declared.session.Session.{Session}
-use Rattle.panel_session.specs.Run.{IsWorked, HasRun, IsReady, MayTurn, Serves, turned}
+use Rattle.panel_session.specs.Answering.{AnswersOf, AnySeat, ServesOf}
+use Rattle.panel_session.specs.Engine.{HasRun, IsReady, MayTurn, RunsOn, StopsIn}
+use Rattle.panel_session.specs.declared.session.cut.Cut.{Cut}
+use Rattle.panel_session.specs.declared.session.cut.Cut.TheVariants.{Refused, Untraced, Unsent}
+use Rattle.panel_session.specs.Entry.{PlantEntry}
+use Rattle.panel_session.specs.Run.{IsWorked, turned}
 use Rattle.panel_session.specs.Session.{StandsFor}
 use Rattle.panel_session.specs.SettledInside.{Settled}
 use Rattle.panel_session.specs.SoFar.{Progress}
@@ -21,7 +26,6 @@ use Rattle.panel_session.specs.Turns.{entries_in}
 use Rattle.plant_core.proofs.HistoryLemmas.{fits-run, run-valid, run-short}
 use Rattle.plant_core.proofs.ShortLemmas.{StaysShort-step}
 use Rattle.plant_core.proofs.StepValidity.{IsValid-step}
-use Rattle.panel_session.proofs.ServesLemmas.{serves}
 use Rattle.panel_session.proofs.TurnExists.{turn_exists}
 use Rattle.panel_session.proofs.TurnOnce.{one_turn_lem}
 use Rattle.record_replay.specs.declared.replayer.Replayer.{Replayer}
@@ -41,28 +45,45 @@ with_one P panel past pasts here others other =
 
 -- A session of a replayer may have a turn,
 pub may_turn : (plant : PlantData) (panel : ℕ) (piece : List ℕ) (replayer : Replayer) (session : Session) (stand : ReplayState) (used : ℕ) → panel < length plant.panels → StandsAt plant replayer stand used → used + need_of (Read panel piece) < 2 ^ 63
-    → session ≡ slice_index_or replayer.sessions.items panel session → MayTurn step Fits (λ (state : State). room_of state.plant) plant panel session (stand.pasts panel) replayer.state piece
+    → session ≡ slice_index_or replayer.sessions.items panel session → MayTurn AnySeat ServesOf plant panel panel session (stand.pasts panel) replayer.state piece
 may_turn plant panel piece replayer session stand used has stands within is =
+    let serves : ServesOf plant stand.state = record { plant_is = stands.settled.plant_is; valid = stands.valid; short = stands.short } in
     record {
       stands = subst (λ (session : Session). StandsFor plant panel session (stand.pasts panel)) (sym is) (stands.each panel session has);
       begins = (stands.settled.each panel).begins;
       may = may_go_on used (stand.pasts panel) piece (stands.settled.each panel).begins (stands.small panel) within;
-      serves = subst (λ (state : State). Serves step Fits (λ (state : State). room_of state.plant) plant state) (sym stands.state_is) (serves plant stand.state stands.settled.plant_is stands.valid stands.short);
+      seated = tt;
+      serves = subst (λ (state : State). ServesOf plant state) (sym stands.state_is) serves;
     }
 
 -- and is ready for it.
 pub ready : (plant : PlantData) (panel : ℕ) (piece : List ℕ) (replayer : Replayer) (session : Session) → panel < length plant.panels → MayDo (need_of (Read panel piece)) plant replayer
-    → session ≡ slice_index_or replayer.sessions.items panel session → IsReady step Fits (λ (state : State). room_of state.plant) session replayer.state piece
-ready plant panel piece replayer session has may is = record { plant = plant; panel = panel; past = may.stand.pasts panel; may = may_turn plant panel piece replayer session may.stand may.used has may.stands may.within is }
+    → session ≡ slice_index_or replayer.sessions.items panel session → IsReady AnySeat ServesOf session replayer.state piece
+ready plant panel piece replayer session has may is = record { plant = plant; panel = panel; seat = panel; past = may.stand.pasts panel; may = may_turn plant panel piece replayer session may.stand may.used has may.stands may.within is }
+
+-- Neither the plant nor an output cuts a turn short.
+pub replay_runs : {Outlet : Type 0} (Given : Outlet → List ℕ → Outlet → Type 0) (piece : List ℕ) (session session_then : Session) (state state_then : State) (out out_then : Outlet) (result : Result (Unit {0}) Cut)
+    → OnOk result (RunsOn AnySeat ServesOf AnswersOf false Given piece session session_then state state_then out out_then)
+    → IfErr result (λ cut. StopsIn AnySeat ServesOf AnswersOf (λ (first : State) (entry : PlantEntry) (last : State). ⊥) (λ (first last : State). ⊥) false Given (λ (first : Outlet) (bytes : List ℕ) (last : Outlet). ⊥) cut piece session session_then state state_then out out_then)
+    → RunsOn AnySeat ServesOf AnswersOf false Given piece session session_then state state_then out out_then
+replay_runs Given piece session session_then state state_then out out_then (Ok done) runs cut = runs
+replay_runs Given piece session session_then state state_then out out_then (Err Refused) runs cut = λ plant panel seat past may. absurd (cut plant panel seat past may).ends.refuses
+replay_runs Given piece session session_then state state_then out out_then (Err Untraced) runs cut = λ plant panel seat past may. absurd (cut plant panel seat past may).ends.traces
+replay_runs Given piece session session_then state state_then out out_then (Err Unsent) runs cut = λ plant panel seat past may. absurd (cut plant panel seat past may).ends.fails.failed
+
+-- A turn that was worked over the plant is one that a replay works.
+run_is_worked : {plant : PlantData} {panel : ℕ} {past : Progress} {piece : List ℕ} {state state_then : State} {session : Session} {more : List ℕ} (ran : HasRun AnswersOf false plant panel panel past piece state state_then session more)
+    → IsWorked step Fits plant panel past state ran.turn more
+run_is_worked ran = record { is_turn = ran.is_turn; seats = ran.seats; legal = ran.answers.0; text = ran.text }
 
 -- A turn was worked.
 pub turn_done : (plant : PlantData) (panel : ℕ) (piece : List ℕ) (before after : Replayer) (session : Session) (stand : ReplayState) (used : ℕ) (more : List ℕ) → panel < length plant.panels
-    → StandsAt plant before stand used → HasRun step Fits plant panel (stand.pasts panel) piece before.state after.state session more
+    → StandsAt plant before stand used → HasRun AnswersOf false plant panel panel (stand.pasts panel) piece before.state after.state session more
     → after.plant ≡ before.plant → after.sessions.items ≡ slice_set before.sessions.items panel session → after.outbox ≡ before.outbox
     → HasDone plant (Read panel piece) stand used after (turn_line panel more)
 turn_done plant panel piece before after session stand used more has stands ran same_plant set same_outbox =
     let worked : IsWorked step Fits plant panel (stand.pasts panel) stand.state ran.turn more =
-    subst (λ (state : State). IsWorked step Fits plant panel (stand.pasts panel) state ran.turn more) stands.state_is ran.is_worked in
+    subst (λ (state : State). IsWorked step Fits plant panel (stand.pasts panel) state ran.turn more) stands.state_is (run_is_worked ran) in
     let made = turn_exists step Fits plant panel (stand.pasts panel) stand.state piece has (stands.settled.each panel)
     (λ history request legal fits. fits-run plant stand.state history request stands.settled.plant_is fits) in
     let same = one_turn_lem step Fits plant panel (stand.pasts panel) stand.state made.0 ran.turn made.1 more made.3 worked (made.2 ∙ sym ran.piece_is) in
@@ -74,7 +95,7 @@ turn_done plant panel piece before after session stand used more has stands ran 
       works = (ran.turn, more, ran.piece_is, worked, refl, refl);
       stands = record {
         plant_is = ap (λ plant. plant.now) same_plant ∙ stands.plant_is;
-        state_is = ran.machine_is ∙ ap (λ (state : State). run step state (entries_in ran.turn)) stands.state_is;
+        state_is = ran.answers.1 ∙ ap (λ (state : State). run step state (entries_in ran.turn)) stands.state_is;
         valid = run-valid stand.state (entries_in ran.turn) stands.valid;
         short = run-short stand.state (entries_in ran.turn) stands.valid stands.short worked.legal;
         settled = settled-turn plant panel ran.turn more stand stands.settled settled;

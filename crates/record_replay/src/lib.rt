@@ -5,7 +5,6 @@
 
 mod check;
 mod digits;
-mod drain;
 mod first;
 mod laws;
 mod line;

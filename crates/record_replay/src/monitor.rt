@@ -16,11 +16,11 @@ ghost use Rattle.record_replay.specs.Monitor.{read_lines, screen_told, displays_
 ghost use Rattle.record_replay.specs.Monitor.{display_line, index_text, lamps_text, shown_text};
 ghost use Rattle.record_replay.specs.MonitorInside.{TellsOn, count_in};
 
-use crate::drain::Drain;
 use crate::output::Output;
 use crate::room::Room;
 use ctl_io::Sink;
 use itoa::Buffer;
+use panel_session::Drain;
 use std::alloc::{AllocError, Global};
 use tsl_stream::{StreamItem, StreamReader};
 use tsl_umd5::{Packet, Shown, TslFault, read_packet};

@@ -1,6 +1,7 @@
 //! The output lines of a replay, given to a sink in large pieces.
 
-ghost use Rattle.std.specs.Prelude.{◌≡◌, ◌+◌, ◌*◌, ◌≤◌, [], length, false};
+ghost use Rattle.std.specs.Prelude.{◌≡◌, ◌+◌, ◌*◌, ◌≤◌, [], length, false, refl};
+ghost use Rattle.std.proofs.Common.{◌∙◌};
 ghost use Rattle.std.specs.Bool.{OnTrue, OnFalse};
 ghost use Rattle.std.specs.Fmt.{decimal};
 ghost use Rattle.hex.specs.Hex.{encode_upper};
@@ -9,10 +10,9 @@ ghost use Rattle.record_replay.specs.OutputInside.{HasNothing, Puts, Gives, IsAl
 ghost use Rattle.record_replay.specs.OutputInside.{IsCutShort, turn_head, turn_end};
 ghost use Rattle.record_replay.specs.OutputLaws.{gives_none, gives_more};
 
-use crate::drain::Drain;
 use crate::room::Room;
 use itoa::Buffer;
-use panel_session::Outlet;
+use panel_session::{Drain, Outlet};
 use plant_config::PanelNo;
 
 // The most bytes whose hexadecimal has room in an empty buffer.
@@ -203,18 +203,28 @@ impl<'k, K: Drain> Output<'k, K> {
 }
 
 impl<K: Drain> Outlet for Output<'_, K> {
+    ghost IsSame = { λ first last. last.out.ghost_name ≡ first.out.ghost_name };
+
     ghost Given = { λ old bytes new. Gives K.written K.faults bytes old new };
+
+    // It takes all: whether a write failed it keeps to itself, and its owner asks for it.
+    ghost Failed = { λ old bytes new. ⊥ };
 
     // Out of line, where the loop's values stay in registers.
     #[inline(never)]
-    fn give(&mut self, bytes: &[u8]) {
+    fn give(&mut self, bytes: &[u8]) -> bool {
         self.some = self.some || !bytes.is_empty();
         if bytes.len() <= MOST_BYTES && self.buffer.has_room(2 * bytes.len()) {
             self.push_hex(bytes);
         } else {
             self.put_pieces(bytes);
         }
+        true
     }
+
+    ghost same_none = { λ outlet. refl };
+
+    ghost same_more = { λ first next last one other. other ∙ one };
 
     ghost given_none = { gives_none K.written K.faults };
 

@@ -13,7 +13,6 @@ ghost use Rattle.record_replay.specs.PortInside.{SendsAll, SendsUntil, LeavesNon
 ghost use Rattle.record_replay.specs.ReplayerInside.{AreNew};
 
 use crate::digits::Digits;
-use crate::drain::Drain;
 use crate::first::take_turn;
 use crate::line::{Line, read_line};
 use crate::output::Output;
@@ -21,7 +20,7 @@ use crate::show::{PacketRoom, tell_show};
 use ctl_net::DisplayPort;
 use history_lock::OutBox;
 use line_text::split_line;
-use panel_session::Session;
+use panel_session::{Drain, Session};
 use plant_config::{PanelNo, Plant};
 use plant_core::{Answer, PlantState, Request};
 use plant_names::Names;
@@ -209,7 +208,8 @@ impl<'p> Replayer<'p> {
             (λ text packets. Puts K.written K.faults text out.old out.new) }
     {
         out.begin_turn(panel);
-        self.sessions[panel.get() as usize].work_turn(&mut self.state, piece, out);
+        // Neither the plant nor an output cuts a turn short: each such end of it is an empty type there.
+        let _ = self.sessions[panel.get() as usize].work_turn(&mut self.state, piece, out);
         out.end_turn();
     }
 

@@ -12,11 +12,10 @@ ghost use Rattle.record_replay.specs.Replay.{show_line};
 ghost use Rattle.record_replay.specs.Streamed.{TakesLamps, packets_told};
 ghost use Rattle.record_replay.specs.PortInside.{SendsAll, SendsUntil};
 
-use crate::drain::Drain;
 use crate::output::Output;
 use ctl_net::{DisplayPort, Sent};
 use itoa::Buffer;
-use panel_session::display_packet;
+use panel_session::{Drain, display_packet};
 use plant_config::Plant;
 use plant_core::Answer;
 use std::alloc::{AllocError, Global};

@@ -1,6 +1,6 @@
 //! What a session sends next, with the names of its plant.
 
-ghost use Rattle.std.specs.Prelude.{◌≡◌, ◌≢◌, ◌≤◌, true, false, [], length, All, IfOk, IfSome};
+ghost use Rattle.std.specs.Prelude.{◌≡◌, ◌≢◌, ◌+◌, ◌≤◌, true, false, [], length, All, IfOk, IfSome};
 ghost use Rattle.dle_framing.specs.Numbers.{ack, nak};
 ghost use Rattle.swp08_messages.specs.Text.{InRange};
 ghost use Rattle.plant_config.specs.IsPlant.{IsPlant};
@@ -161,8 +161,10 @@ impl<'p> Sender<'p> {
     pub(crate) fn answer_too(&mut self, answers: &[Answer])
         requires sayable { All IsSayable answers.now }
         requires front { length self.old.output.bytes ≤ 2 }
-        ensures { self.new ≡ sending (with_frames
+        ensures output { self.new ≡ sending (with_frames
             (frames_of (fitting self.old.names answers.now)) self.old.output) self.old }
+        ensures most { length self.new.output.bytes
+            ≤ length self.old.output.bytes + answer_bytes (length answers.now) }
     {
         if answers.len() <= self.most {
             self.outgoing.answer_too(answers);

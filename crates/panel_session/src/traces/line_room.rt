@@ -16,9 +16,9 @@ use std::marker::Model;
 // The most bytes of a line.
 const MAX_LINE: usize = 65_537;
 
-// What a line is written in, and the DATA of its message before. All memory is taken by `new`.
+/// What a line is written in, and the DATA of its message before. All memory is taken by `new`.
 #[derive(Drop)]
-pub(crate) struct LineRoom {
+pub struct LineRoom {
     spelled: Vec<u8>,
     bytes: Vec<u8>,
 }

@@ -1,174 +1,121 @@
-use Rattle.std.proofs.Common.{◌≡◌, ℕ, ◌-◌, ◌^◌, ◌<◌, ◌≤◌, false, List, [], length, drop, All, Option, Some, refl, sym, ap, ◌∙◌, subst, arith}
-use Rattle.history_lock.specs.Places.{Placed}
-use Rattle.plant_core.specs.Answer.{IsSayable, room_of}
-use Rattle.plant_core.specs.declared.answer.Answer.{Answer}
-use Rattle.plant_core.specs.declared.request.Request.TheVariants.{Told}
+use Rattle.std.proofs.Common.{rules, ◌≡◌, ℕ, Err, List, [], length, drop, Option, Some, refl, sym, ap, ◌∙◌, subst, arith}
 use Rattle.panel_session.specs.AskedInside.{FoundAsks}
 use Rattle.panel_session.specs.declared.session.asked.Asked.{Asked}
 use Rattle.panel_session.specs.declared.session.asked.Asked.TheVariants.{Sent}
 use Rattle.panel_session.specs.declared.session.Session.{Session}
-use Rattle.panel_session.specs.declared.session.phase.Phase.{Phase}
-use Rattle.panel_session.specs.declared.session.phase.Phase.TheVariants.{Read}
-use Rattle.panel_session.specs.MovesInside.{IsReadOrLeft, answered_too}
-use Rattle.panel_session.specs.NamePagesInside.{IsNamePage}
-use Rattle.panel_session.specs.NamesLeftInside.{NamesNone}
-use Rattle.panel_session.specs.Session.{made_by, with_outbox}
-use Rattle.panel_session.specs.WorkInside.{HasCome, spelled_all}
-use Rattle.panel_session.proofs.HandedLemmas.{stays}
-use Rattle.panel_session.proofs.NamesLeftLemmas.{none_left}
-use Rattle.panel_session.proofs.ReadLemmas.{has_passed, has_taken, has_told, left_is_page, reads_or_left, spelled_is, spelled_plain, told_by}
-use Rattle.panel_session.proofs.RunLemmas.{sayable_now}
-use Rattle.panel_session.proofs.SentLemmas.{taken_too}
-use Rattle.panel_session.proofs.WorkLemmas.{asks_item, way_item, way_told}
+use Rattle.panel_session.specs.declared.session.cut.Cut.{Cut}
+use Rattle.panel_session.specs.declared.session.phase.Phase.TheVariants.{Tell}
+use Rattle.panel_session.specs.Engine.{WasCut}
+use Rattle.panel_session.specs.EngineInside.{HasSent, IsOnItsWay, done_bytes}
+use Rattle.panel_session.specs.MovesInside.{took}
+use Rattle.panel_session.specs.Session.{made_by}
+use Rattle.panel_session.proofs.CutLemmas.{cut_sent}
+use Rattle.panel_session.proofs.ReadLemmas.{has_passed, has_told, told_by}
+use Rattle.panel_session.proofs.RunLemmas.{way_for}
+use Rattle.panel_session.proofs.SpelledLemmas.{done_stands}
+use Rattle.panel_session.proofs.WorkLemmas.{telling, way_read, way_read_sent, way_taken}
 use Rattle.panel_session.proofs.session.Session.work_item.Goals as goal
 
-pub step-requires-clause-fits : goal.step-requires-clause-fits
-step-requires-clause-fits g c =
-    let w = c.requires.way in
-    let framer_then = c.next_asked-used.new.framer in
-    let used = c.next_asked-used.result.0 in
-    let message = c.in-Sent.message in
-    let told = told_by framer_then message c.args.self.now in
-    let request = c.telling-request.result in
-    let Found : List ℕ → Option Asked → Type 0 = λ text asked. FoundAsks text c.args.piece.now used asked in
-    let is : c.next_asked-used.result.1 ≡ Some (Sent message) = c.in-Some.is ∙ ap (λ (asked : Asked). Some asked) c.in-Sent.is in
-    let reads = has_told c.args.self.now framer_then c.args.piece.now used message c.next_asked-used.ensures.stands
-    (λ text stands. subst (Found text) is (c.next_asked-used.ensures.finds text stands)) in
-    let Asks : Session → Type 0 = λ session. 0 < session.items → session.items < 2 ^ 62 → request ≡ Told session.panel (session.items - 1) message in
-    let asks : Asks told = c.telling-request.ensures in
-    let mine = asks_item told used request message w.may w.way c.requires.reads c.requires.none reads refl c.requires.none asks in
-    w.fits request (w.may.serves.takes request mine.2.2)
-
-pub step-requires-clause-empty : goal.step-requires-clause-empty
-step-requires-clause-empty g c =
-    let w = c.requires.way in
-    let framer_then = c.next_asked-used.new.framer in
-    let used = c.next_asked-used.result.0 in
-    let message = c.in-Sent.message in
-    let told = told_by framer_then message c.args.self.now in
-    let request = c.telling-request.result in
-    let Found : List ℕ → Option Asked → Type 0 = λ text asked. FoundAsks text c.args.piece.now used asked in
-    let is : c.next_asked-used.result.1 ≡ Some (Sent message) = c.in-Some.is ∙ ap (λ (asked : Asked). Some asked) c.in-Sent.is in
-    let reads = has_told c.args.self.now framer_then c.args.piece.now used message c.next_asked-used.ensures.stands
-    (λ text stands. subst (Found text) is (c.next_asked-used.ensures.finds text stands)) in
-    let Asks : Session → Type 0 = λ session. 0 < session.items → session.items < 2 ^ 62 → request ≡ Told session.panel (session.items - 1) message in
-    let asks : Asks told = c.telling-request.ensures in
-    let mine = asks_item told used request message w.may w.way c.requires.reads c.requires.none reads refl c.requires.none asks in
-    ap (λ (box : Placed Answer). box.items) mine.2.1
-
-pub step-requires-clause-places : goal.step-requires-clause-places
-step-requires-clause-places g c =
-    let w = c.requires.way in
-    let framer_then = c.next_asked-used.new.framer in
-    let used = c.next_asked-used.result.0 in
-    let message = c.in-Sent.message in
-    let told = told_by framer_then message c.args.self.now in
-    let request = c.telling-request.result in
-    let Found : List ℕ → Option Asked → Type 0 = λ text asked. FoundAsks text c.args.piece.now used asked in
-    let is : c.next_asked-used.result.1 ≡ Some (Sent message) = c.in-Some.is ∙ ap (λ (asked : Asked). Some asked) c.in-Sent.is in
-    let reads = has_told c.args.self.now framer_then c.args.piece.now used message c.next_asked-used.ensures.stands
-    (λ text stands. subst (Found text) is (c.next_asked-used.ensures.finds text stands)) in
-    let Asks : Session → Type 0 = λ session. 0 < session.items → session.items < 2 ^ 62 → request ≡ Told session.panel (session.items - 1) message in
-    let asks : Asks told = c.telling-request.ensures in
-    let mine = asks_item told used request message w.may w.way c.requires.reads c.requires.none reads refl c.requires.none asks in
-    omega (arith, ap (λ (box : Placed Answer). box.places) mine.2.1, w.room, w.may.serves.within)
-
-pub answer_too-requires-clause-sayable : goal.answer_too-requires-clause-sayable
-answer_too-requires-clause-sayable g c =
-    let w = c.requires.way in
-    let framer_then = c.next_asked-used.new.framer in
-    let used = c.next_asked-used.result.0 in
-    let message = c.in-Sent.message in
-    let told = told_by framer_then message c.args.self.now in
-    let request = c.telling-request.result in
-    let Found : List ℕ → Option Asked → Type 0 = λ text asked. FoundAsks text c.args.piece.now used asked in
-    let is : c.next_asked-used.result.1 ≡ Some (Sent message) = c.in-Some.is ∙ ap (λ (asked : Asked). Some asked) c.in-Sent.is in
-    let reads = has_told c.args.self.now framer_then c.args.piece.now used message c.next_asked-used.ensures.stands
-    (λ text stands. subst (Found text) is (c.next_asked-used.ensures.finds text stands)) in
-    let Asks : Session → Type 0 = λ session. 0 < session.items → session.items < 2 ^ 62 → request ≡ Told session.panel (session.items - 1) message in
-    let asks : Asks told = c.telling-request.ensures in
-    let mine = asks_item told used request message w.may w.way c.requires.reads c.requires.none reads refl c.requires.none asks in
-    let Sayable : List Answer → Type 0 = λ answers. All IsSayable answers in
-    subst Sayable (sym (ap (λ (session : Session). session.outbox.items) c.acknowledge.ensures ∙ c.step.ensures.answers)) (sayable_now request w.may mine.1 (w.fits request (w.may.serves.takes request mine.2.2)))
-
-pub returns-clause-works : goal.returns-clause-works
-returns-clause-works g c =
-    let framer_then = c.next_asked-used.new.framer in
-    let used = c.next_asked-used.result.0 in
-    let message = c.in-Sent.message in
-    let told = told_by framer_then message c.args.self.now in
-    let request = c.telling-request.result in
-    let Found : List ℕ → Option Asked → Type 0 = λ text asked. FoundAsks text c.args.piece.now used asked in
-    let is : c.next_asked-used.result.1 ≡ Some (Sent message) = c.in-Some.is ∙ ap (λ (asked : Asked). Some asked) c.in-Sent.is in
-    let reads = has_told c.args.self.now framer_then c.args.piece.now used message c.next_asked-used.ensures.stands
-    (λ text stands. subst (Found text) is (c.next_asked-used.ensures.finds text stands)) in
-    let Asks : Session → Type 0 = λ session. 0 < session.items → session.items < 2 ^ 62 → request ≡ Told session.panel (session.items - 1) message in
-    let asks : Asks told = c.telling-request.ensures in
-    λ on.
-    let asked = asks_item told used request message on.may on.way c.requires.reads c.requires.none reads refl c.requires.none asks in
-    let answers = (g.M.Machine.step c.args.machine.now request).answers in
-    let few : length answers ≤ room_of on.plant = omega (
-      arith,
-      c.step.ensures.at_most,
-      ap (length {A = Answer}) c.step.ensures.answers,
-      on.room,
-      on.may.serves.within,
-    ) in
-    let done = way_told on.more request message asked.1 refl c.requires.none asked.2 (on.fits request (on.may.serves.takes request asked.2.2)) c.step.ensures.state few in
-    let same : c.answer_too.new.self ≡ answered_too answers (record told { phase = Read }) =
-    c.answer_too.ensures
-    ∙ ap (λ (session : Session). answered_too session.outbox.items session) c.acknowledge.ensures
-    ∙ ap (λ (phase : Phase). answered_too c.step.new.out.items (with_outbox (record told { phase = phase }) c.step.new.out)) c.requires.reads
-    ∙ taken_too (record told { phase = Read }) c.step.new.out answers c.step.ensures.answers c.step.ensures.places in
-    let Of : Session → Type 0 = λ session. HasCome on session c.step.new.self (drop used c.args.piece.now) done.0 (made_by session) in
-    let plain : NamesNone c.answer_too.new.self.phase = subst NamesNone (sym (ap (λ (session : Session). session.phase) same)) tt in
-    (done.0, subst Of (sym (spelled_plain c.answer_too.new.self plain)) (subst Of (sym same) done.1))
-
-pub returns-in_default-clause-works : goal.returns-in_default-clause-works
-returns-in_default-clause-works g c = λ on.
+pub returns-in_default-clause-goes_on : goal.returns-in_default-clause-goes_on
+returns-in_default-clause-goes_on g c = λ on.
     let Found : List ℕ → Option Asked → Type 0 = λ text asked. FoundAsks text c.args.piece.now c.next_asked-used.result.0 asked in
     let after : Session = record c.args.self.now { framer = c.next_asked-used.new.framer } in
-    let done = way_item after c.next_asked-used.result.0 false on.may on.way c.requires.reads c.requires.none
+    let sent = way_read after c.next_asked-used.result.0 on.may on.way c.requires.reads c.requires.none
     (has_passed c.args.self.now c.next_asked-used.new.framer c.args.piece.now c.next_asked-used.result.0 c.next_asked-used.ensures.stands
     (λ text stands. subst (Found text) c.in_default.is (c.next_asked-used.ensures.finds text stands))) in
-    let Of : Session → Type 0 = λ session. HasCome on session c.args.machine.now (drop c.next_asked-used.result.0 c.args.piece.now) done.0 [] in
-    (done.0, subst Of (sym (spelled_plain after (subst NamesNone (sym c.requires.reads) tt))) done.1)
+    record { now = sent.now; added = []; gave = g.met.O.Outlet.given_none c.args.out.now; way = sent.way }
 
-pub returns-in_default-asked-clause-works : goal.returns-in_default-asked-clause-works
-returns-in_default-asked-clause-works g c = λ on.
-    let Found : List ℕ → Option Asked → Type 0 = λ text asked. FoundAsks text c.args.piece.now c.next_asked-used.result.0 asked in
-    let framed : Session = record c.args.self.now { framer = c.next_asked-used.new.framer } in
-    let after = c.take.new.self in
-    let spelled = ap spelled_all c.take.ensures.session ∙ spelled_is c.in-Some.asked framed after.sender after.phase c.requires.reads c.take.ensures.to in
-    way_item (spelled_all after) c.next_asked-used.result.0 c.take.result on.may on.way c.requires.reads c.requires.none
-    (has_taken c.args.self.now (spelled_all after) c.next_asked-used.new.framer c.args.piece.now c.next_asked-used.result.0 c.in-Some.asked c.take.result c.next_asked-used.ensures.stands
-    (λ text stands. subst (Found text) c.in-Some.is (c.next_asked-used.ensures.finds text stands))
-    spelled c.take.ensures.some c.take.ensures.none (λ quiet. ap (λ (session : Session). session.phase) spelled ∙ stays c.in-Some.asked framed after.sender after.phase c.take.ensures.to (c.take.ensures.quiet quiet)))
+pub do_item-requires-clause-other : goal.do_item-requires-clause-other
+do_item-requires-clause-other g c = c.in_default-asked.not-Sent
 
-pub returns-in_default-asked-clause-reads : goal.returns-in_default-asked-clause-reads
-returns-in_default-asked-clause-reads g c =
-    reads_or_left c.in-Some.asked (record c.args.self.now { framer = c.next_asked-used.new.framer }) c.take.new.self.sender c.take.new.self.phase c.requires.reads c.in_default-asked.not-Sent c.take.ensures.to
+pub returns-in_err-do_item-clause-cut : goal.returns-in_err-do_item-clause-cut
+returns-in_err-do_item-clause-cut g c =
+    let is : c.from_residual.result ≡ Err c.in_err-do_item.field-0.0 = search rules in
+    rw is (λ on.
+    let self = c.args.self.now in
+    let framer_then = c.next_asked-used.new.framer in
+    let used = c.next_asked-used.result.0 in
+    let asked = c.in-Some.asked in
+    let Found : List ℕ → Option Asked → Type 0 = λ text asked. FoundAsks text c.args.piece.now used asked in
+    let sent = way_taken framer_then used asked on.may on.way c.requires.reads c.requires.none c.in_default-asked.not-Sent c.next_asked-used.ensures.stands
+    (λ text stands. subst (Found text) c.in-Some.is (c.next_asked-used.ensures.finds text stands)) in
+    let cut = c.in_err-do_item.ensures.cut in
+    let stands = done_stands on.plant on.panel sent.now (took self.sender.names asked (record self { framer = framer_then })) c.do_item.new.self c.do_item.ensures.session c.do_item.ensures.reads c.requires.none sent.way.stands in
+    let Was : Cut → Type 0 = λ cut.
+    WasCut g.A.Answerer.Answers g.A.Answerer.TracesPart g.A.Answerer.Refuses g.A.Answerer.sent_first g.O.Outlet.Given g.O.Outlet.Failed cut
+    on.plant on.panel on.seat on.past on.piece on.more on.first c.args.answerer.now c.do_item.new.self c.args.out.now c.do_item.new.out in
+    subst Was (sym cut.0) (cut_sent c.do_item.new.self on.more cut.1.0 sent.way refl sent.earlier stands cut.1.1))
 
-pub returns-in_default-asked-clause-quiet : goal.returns-in_default-asked-clause-quiet
-returns-in_default-asked-clause-quiet g c = λ quiet. c.take.ensures.quiet quiet ∙ c.requires.reads
+pub returns-in_default-asked-clause-goes_on : goal.returns-in_default-asked-clause-goes_on
+returns-in_default-asked-clause-goes_on g c = λ on.
+    let self = c.args.self.now in
+    let framer_then = c.next_asked-used.new.framer in
+    let used = c.next_asked-used.result.0 in
+    let asked = c.in-Some.asked in
+    let Found : List ℕ → Option Asked → Type 0 = λ text asked. FoundAsks text c.args.piece.now used asked in
+    let sent = way_taken framer_then used asked on.may on.way c.requires.reads c.requires.none c.in_default-asked.not-Sent c.next_asked-used.ensures.stands
+    (λ text stands. subst (Found text) c.in-Some.is (c.next_asked-used.ensures.finds text stands)) in
+    let stands = done_stands on.plant on.panel sent.now (took self.sender.names asked (record self { framer = framer_then })) c.do_item.new.self c.do_item.ensures.session c.do_item.ensures.reads c.requires.none sent.way.stands in
+    record { now = sent.now; added = done_bytes asked self; gave = c.in_ok-do_item.ensures.sent; way = way_for c.do_item.new.self sent.way stands }
+
+pub ask_told-requires-clause-way : goal.ask_told-requires-clause-way
+ask_told-requires-clause-way g c =
+    let on = c.requires.way in
+    let framer_then = c.next_asked-used.new.framer in
+    let used = c.next_asked-used.result.0 in
+    let message = c.in-Sent.message in
+    let told = told_by framer_then message c.args.self.now in
+    let Found : List ℕ → Option Asked → Type 0 = λ text asked. FoundAsks text c.args.piece.now used asked in
+    let is : c.next_asked-used.result.1 ≡ Some (Sent message) = c.in-Some.is ∙ ap (λ (asked : Asked). Some asked) c.in-Sent.is in
+    let reads = has_told c.args.self.now framer_then c.args.piece.now used message c.next_asked-used.ensures.stands
+    (λ text stands. subst (Found text) is (c.next_asked-used.ensures.finds text stands)) in
+    let same : record c.acknowledge.new.self { phase = Tell message } ≡ told = ap (λ (session : Session). record session { phase = Tell message }) c.acknowledge.ensures in
+    let Way : Session → Type 0 = λ session. IsOnItsWay g.A.Answerer.IsSeat g.A.Answerer.Serves g.A.Answerer.Answers g.A.Answerer.sent_first session c.args.answerer.now (drop used c.args.piece.now) in
+    (drop used c.args.piece.now, subst Way (sym same) (telling told on (way_read_sent told used on.may on.way c.requires.reads c.requires.none reads)))
+
+pub ask_told-requires-clause-reads : goal.ask_told-requires-clause-reads
+ask_told-requires-clause-reads g c = ap (λ (session : Session). session.phase) c.acknowledge.ensures ∙ c.requires.reads
+
+pub ask_told-requires-clause-none : goal.ask_told-requires-clause-none
+ask_told-requires-clause-none g c = ap (λ (session : Session). session.unsent) c.acknowledge.ensures ∙ c.requires.none
+
+pub ask_told-requires-clause-few : goal.ask_told-requires-clause-few
+ask_told-requires-clause-few g c = omega (arith, ap (λ (session : Session). length (made_by session)) c.acknowledge.ensures)
+
+pub returns-in_err-ask_told-clause-cut : goal.returns-in_err-ask_told-clause-cut
+returns-in_err-ask_told-clause-cut g c =
+    let is : c.from_residual-in_err-ask_told.result ≡ Err c.in_err-ask_told.field-0.0 = search rules in
+    rw is (λ on.
+    let framer_then = c.next_asked-used.new.framer in
+    let used = c.next_asked-used.result.0 in
+    let message = c.in-Sent.message in
+    let told = told_by framer_then message c.args.self.now in
+    let Found : List ℕ → Option Asked → Type 0 = λ text asked. FoundAsks text c.args.piece.now used asked in
+    let is : c.next_asked-used.result.1 ≡ Some (Sent message) = c.in-Some.is ∙ ap (λ (asked : Asked). Some asked) c.in-Sent.is in
+    let reads = has_told c.args.self.now framer_then c.args.piece.now used message c.next_asked-used.ensures.stands
+    (λ text stands. subst (Found text) is (c.next_asked-used.ensures.finds text stands)) in
+    let same : record c.acknowledge.new.self { phase = Tell message } ≡ told = ap (λ (session : Session). record session { phase = Tell message }) c.acknowledge.ensures in
+    let Sent : Session → Type 0 = λ session. HasSent g.A.Answerer.Answers g.A.Answerer.sent_first on.plant on.panel on.seat on.past on.piece on.first c.args.answerer.now session (drop used c.args.piece.now) on.more (made_by session) in
+    let sent = subst Sent (sym same) (way_read_sent told used on.may on.way c.requires.reads c.requires.none reads) in
+    c.in_err-ask_told.ensures.cut (drop used c.args.piece.now) (telling (record c.acknowledge.new.self { phase = Tell message }) on sent) on.more refl sent.earlier)
+
+pub returns-clause-goes_on : goal.returns-clause-goes_on
+returns-clause-goes_on g c = λ on.
+    let framer_then = c.next_asked-used.new.framer in
+    let used = c.next_asked-used.result.0 in
+    let message = c.in-Sent.message in
+    let told = told_by framer_then message c.args.self.now in
+    let Found : List ℕ → Option Asked → Type 0 = λ text asked. FoundAsks text c.args.piece.now used asked in
+    let is : c.next_asked-used.result.1 ≡ Some (Sent message) = c.in-Some.is ∙ ap (λ (asked : Asked). Some asked) c.in-Sent.is in
+    let reads = has_told c.args.self.now framer_then c.args.piece.now used message c.next_asked-used.ensures.stands
+    (λ text stands. subst (Found text) is (c.next_asked-used.ensures.finds text stands)) in
+    let same : record c.acknowledge.new.self { phase = Tell message } ≡ told = ap (λ (session : Session). record session { phase = Tell message }) c.acknowledge.ensures in
+    let Sent : Session → Type 0 = λ session. HasSent g.A.Answerer.Answers g.A.Answerer.sent_first on.plant on.panel on.seat on.past on.piece on.first c.args.answerer.now session (drop used c.args.piece.now) on.more (made_by session) in
+    let sent = subst Sent (sym same) (way_read_sent told used on.may on.way c.requires.reads c.requires.none reads) in
+    c.in_ok-ask_told.ensures.goes_on (drop used c.args.piece.now) (telling (record c.acknowledge.new.self { phase = Tell message }) on sent) on.more refl sent.earlier
+
+pub returns-in_err-do_item-clause-none : goal.returns-in_err-do_item-clause-none
+returns-in_err-do_item-clause-none g c = ap (λ (session : Session). session.unsent) c.do_item.ensures.session.same ∙ c.requires.none
 
 pub returns-in_default-asked-clause-none : goal.returns-in_default-asked-clause-none
-returns-in_default-asked-clause-none g c = ap (λ (session : Session). session.unsent) c.take.ensures.session ∙ c.requires.none
-
-pub returns-in_default-asked-clause-pages : goal.returns-in_default-asked-clause-pages
-returns-in_default-asked-clause-pages g c =
-    left_is_page c.in-Some.asked (record c.args.self.now { framer = c.next_asked-used.new.framer }) c.take.new.self.sender c.take.new.self.phase c.requires.reads c.in_default-asked.not-Sent c.take.ensures.to
-
-pub returns-in_default-clause-reads : goal.returns-in_default-clause-reads
-returns-in_default-clause-reads g c = subst IsReadOrLeft (sym c.requires.reads) tt
-
-pub returns-in_default-clause-pages : goal.returns-in_default-clause-pages
-returns-in_default-clause-pages g c = none_left IsNamePage c.args.self.now.phase (subst NamesNone (sym c.requires.reads) tt)
-
-pub returns-clause-reads : goal.returns-clause-reads
-returns-clause-reads g c = subst IsReadOrLeft (sym (ap (λ (session : Session). session.phase) c.answer_too.ensures ∙ ap (λ (session : Session). session.phase) c.acknowledge.ensures ∙ c.requires.reads)) tt
-
-pub returns-clause-pages : goal.returns-clause-pages
-returns-clause-pages g c =
-    none_left IsNamePage c.answer_too.new.self.phase
-    (subst NamesNone (sym (ap (λ (session : Session). session.phase) c.answer_too.ensures ∙ ap (λ (session : Session). session.phase) c.acknowledge.ensures ∙ c.requires.reads)) tt)
+returns-in_default-asked-clause-none g c = ap (λ (session : Session). session.unsent) c.do_item.ensures.session.same ∙ c.requires.none
