@@ -1,4 +1,4 @@
-//! One short use of each crate, which its PROMISES.md shows word for word.
+//! One short use of each crate, to which its PROMISES.md leads.
 
 mod of_change_boards;
 mod of_crosspoint_state;
@@ -7,7 +7,7 @@ mod of_mixer_effects;
 mod of_plant_config;
 mod of_plant_core;
 mod of_plant_file;
-mod of_plant_names;
+pub(crate) mod of_plant_names;
 mod of_plant_rules;
 mod of_protects;
 mod of_salvo_groups;

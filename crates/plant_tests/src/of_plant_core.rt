@@ -135,46 +135,77 @@ fn message_of(at: Point, reply: Reply) -> Option<Message> {
     })
 }
 
-// The message that is the first answer, `None` where that is none.
-fn said(out: &OutBox<Answer>) -> Option<Message> {
-    match out.items().first() {
-        Some(Answer::Say(message)) => Some(*message),
-        _ => None,
+/// A plant's state, and room for the answers of a step.
+#[derive(Drop)]
+struct Rig {
+    state: PlantState,
+    out: OutBox<Answer>,
+    ghost room: { room_of state.plant ≤ out.places },
+}
+
+impl Rig {
+    // The start of a plant.
+    fn of(alloc: Global, plant: &Plant) -> Result<Rig, AllocError> {
+        let out = OutBox::new(alloc, PlantState::room_of(plant))?;
+        let state = PlantState::start(alloc, plant)?;
+        Ok(Rig { state, out })
+    }
+
+    // The start of a text's plant, and of the bench plant where there is no text.
+    fn start(alloc: Global, text: Option<&str>) -> Result<Rig, Fail> {
+        Ok(Rig::of(alloc, &plant_of(alloc, text)?)?)
+    }
+
+    // An event is asked for, in place of what was answered before.
+    fn ask(&mut self, rt: &impl Abort, request: &Request) {
+        assert!(rt; self.state.fits(request));
+        self.out.clear();
+        self.state.step(request, &mut self.out);
+    }
+
+    // The answers.
+    fn answers(&self) -> &[Answer] {
+        self.out.items()
+    }
+
+    // A row is answered so.
+    fn is_answered(&mut self, rt: &impl Abort, row: &Row) {
+        let (panel, (matrix, level, dest), act, reply) = *row;
+        let at = Point {
+            matrix,
+            level,
+            dest,
+        };
+        self.ask(rt, &request_of(panel, at, act));
+        assert!(rt; said(self.answers()) == message_of(at, reply));
+    }
+
+    // The rows are answered one after the other.
+    fn are_answered(&mut self, rt: &impl Abort, rows: &[Row]) {
+        for row in rows {
+            self.is_answered(rt, row);
+        }
+    }
+
+    fn work(&mut self, rt: &impl Abort, work: Work) {
+        match work {
+            Work::Rows(rows) => self.are_answered(rt, rows),
+            Work::Large => large::is_filled_and_dumped(rt, self),
+            Work::Displays => displays::are_told_until_finished(rt, self),
+            Work::Polls => displays::are_counted(rt, self),
+            Work::QuietPolls => displays::are_quiet(rt, self, 500_000),
+            Work::Day => day::passes(rt, self, 4_000),
+            Work::Turns => long_runs::go_wide(rt, self),
+            Work::Flips => long_runs::flip(rt, self),
+        }
     }
 }
 
-// An event is asked for, in place of what was answered before.
-fn ask(rt: &impl Abort, state: &mut PlantState, out: &mut OutBox<Answer>, request: &Request)
-    requires { room_of state.old.plant ≤ out.old.places }
-    ensures { room_of state.new.plant ≤ out.new.places }
-{
-    assert!(rt; state.fits(request));
-    out.clear();
-    state.step(request, out);
-}
-
-// A row is answered so.
-fn is_answered(rt: &impl Abort, state: &mut PlantState, out: &mut OutBox<Answer>, row: &Row)
-    requires { room_of state.old.plant ≤ out.old.places }
-    ensures { room_of state.new.plant ≤ out.new.places }
-{
-    let (panel, (matrix, level, dest), act, reply) = *row;
-    let at = Point {
-        matrix,
-        level,
-        dest,
-    };
-    ask(rt, state, out, &request_of(panel, at, act));
-    assert!(rt; said(out) == message_of(at, reply));
-}
-
-// The rows are answered one after the other.
-fn are_answered(rt: &impl Abort, state: &mut PlantState, out: &mut OutBox<Answer>, rows: &[Row])
-    requires { room_of state.old.plant ≤ out.old.places }
-    ensures { room_of state.new.plant ≤ out.new.places }
-{
-    for row in rows {
-        is_answered(rt, state, out, row);
+// The message that is the first answer, `None` where that is none.
+fn said(answers: &[Answer]) -> Option<Message> {
+    match answers.first() {
+        Some(Answer::Say(message)) => Some(*message),
+        _ => None,
     }
 }
 
@@ -184,12 +215,6 @@ fn plant_of(alloc: Global, text: Option<&str>) -> Result<Plant, Fail> {
         Some(text) => Ok(Plant::from_toml(alloc, text.as_bytes())?),
         None => Ok(Plant::bench(alloc)?),
     }
-}
-
-// The start of a text's plant, and of the bench plant where there is no text.
-fn start(alloc: Global, text: Option<&str>) -> Result<PlantState, Fail> {
-    let plant = plant_of(alloc, text)?;
-    Ok(PlantState::start(alloc, &plant)?)
 }
 
 /// What is done on a plant from its start on.
@@ -213,37 +238,10 @@ enum Work {
     Flips,
 }
 
-fn work_on(rt: &impl Abort, state: &mut PlantState, out: &mut OutBox<Answer>, work: Work)
-    requires { room_of state.old.plant ≤ out.old.places }
-{
-    match work {
-        Work::Rows(rows) => are_answered(rt, state, out, rows),
-        Work::Large => large::is_filled_and_dumped(rt, state, out),
-        Work::Displays => displays::are_told_until_finished(rt, state, out),
-        Work::Polls => displays::are_counted(rt, state, out),
-        Work::QuietPolls => displays::are_quiet(rt, state, out, 500_000),
-        Work::Day => day::passes(rt, state, out, 4_000),
-        Work::Turns => long_runs::go_wide(rt, state, out),
-        Work::Flips => long_runs::flip(rt, state, out),
-    }
-}
-
-// The work is done with room for the answers.
-fn work_in_room(
-    rt: &impl Abort,
-    alloc: Global,
-    state: &mut PlantState,
-    work: Work,
-) -> Result<(), AllocError> {
-    let mut out = OutBox::new(alloc, state.room())?;
-    work_on(rt, state, &mut out, work);
-    Ok(())
-}
-
 // The work is done from the start of that plant on.
 fn is_worked(rt: &impl Abort, alloc: Global, text: Option<&str>, work: Work) -> Result<(), Fail> {
-    let mut state = start(alloc, text)?;
-    Ok(work_in_room(rt, alloc, &mut state, work)?)
+    Rig::start(alloc, text)?.work(rt, work);
+    Ok(())
 }
 
 // The plants by their texts, none for the bench plant, and what is answered on each from its start.
@@ -258,8 +256,8 @@ const TABLES: [(Option<&str>, &[Row]); 6] = [
 
 #[test]
 fn tables_are_answered(rt: HostRuntime) -> Result<(), Fail> {
-    for (text, rows) in TABLES {
-        is_worked(&rt, rt.alloc(), text, Work::Rows(rows))?;
+    for (text, rows) in &TABLES {
+        is_worked(&rt, rt.alloc(), *text, Work::Rows(rows))?;
     }
     Ok(())
 }

@@ -3,7 +3,6 @@
 use plant_file::PlantFault;
 use plant_rules::read;
 use std::alloc::{AllocError, Global};
-use std::test::Fail;
 
 // A plant file that has each section. Source 3 of matrix 0 stands for source 2 of matrix 1.
 const PLANT: &str = r#"title = "House"
@@ -161,9 +160,8 @@ fn is_told(alloc: Global, edit: &Edit) -> Result<bool, AllocError> {
 }
 
 #[test]
-fn each_edit_is_read_or_refused_with_its_line(rt: HostRuntime) -> Result<(), Fail> {
+fn each_edit_is_read_or_refused_with_its_line(rt: HostRuntime) {
     for edit in EDITS {
-        assert!(rt; is_told(rt.alloc(), edit)?);
+        assert!(rt; is_told(rt.alloc(), edit) == Ok(true));
     }
-    Ok(())
 }

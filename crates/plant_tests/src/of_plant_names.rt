@@ -1,42 +1,50 @@
 //! The destinations of the bench plant: by name, and a page of one name. The names of the widest level.
 
+use crate::examples::of_plant_names::bench_names;
 use crate::of_plant_core::WIDEST;
 use plant_config::{DestId, Plant, SourceId};
 use plant_names::{Names, Paged};
 use std::alloc::{AllocError, Global};
-use std::process::Abort;
 use std::test::Fail;
 
-// A page of the one name behind destination 30, and none of a matrix that isn't there.
-fn is_paged(rt: &impl Abort, alloc: Global, names: &Names) -> Result<(), AllocError> {
+fn are_named(names: &Names) -> bool {
+    names.find_dest(0, 0, b"D31") == Some(DestId::of(31)) && names.find_dest(0, 0, b"D31 ") == None
+}
+
+// Whether there is a page of the one name behind destination 30, and none of a matrix that isn't there.
+fn is_paged(alloc: Global, names: &Names) -> Result<bool, AllocError> {
     let mut out = Vec::with_capacity(alloc, 134)?;
-    assert!(rt; names.dest_page(1, 0, 0, true, &mut out) == Paged::Nothing);
-    assert!(rt; names.dest_page(0, 0, 5, true, &mut out) == Paged::Last);
-    assert!(rt; out.as_slice() == b"\x6B\0\0\0\x05\x01D5  ".as_slice());
-    Ok(())
+    Ok(
+        names.dest_page(1, 0, 0, true, &mut out) == Paged::Nothing
+            && names.dest_page(0, 0, 5, true, &mut out) == Paged::Last
+            && out.as_slice() == b"\x6B\0\0\0\x05\x01D5  ".as_slice(),
+    )
 }
 
 #[test]
-fn destinations_by_name_and_by_page(rt: HostRuntime) -> Result<(), Fail> {
-    let names = Names::new(rt.alloc(), &Plant::bench(rt.alloc())?)?;
-    assert!(rt; names.find_dest(0, 0, b"D31") == Some(DestId::of(31)));
-    assert!(rt; names.find_dest(0, 0, b"D31 ") == None);
-    Ok(is_paged(&rt, rt.alloc(), &names)?)
+fn destinations_by_name_and_by_page(rt: HostRuntime) -> Result<(), AllocError> {
+    let names = bench_names(rt.alloc())?;
+    assert!(rt; are_named(&names) && is_paged(rt.alloc(), &names) == Ok(true));
+    Ok(())
 }
 
-// The last name of the widest level is found, half a million times.
-fn are_found(rt: &impl Abort, names: &Names) {
+fn widest_names(alloc: Global) -> Result<Names, Fail> {
+    Ok(Names::new(alloc, &Plant::from_toml(alloc, WIDEST.as_bytes())?)?)
+}
+
+// Whether the last name of the widest level is found, half a million times.
+fn are_found(names: &Names) -> bool {
     for _turn in 0..500_000_u32 {
-        let found = names.find_source(0, 0, b"S65534");
-        assert!(rt; found == Some(SourceId::of(65_534)));
+        if names.find_source(0, 0, b"S65534") != Some(SourceId::of(65_534)) {
+            return false;
+        }
     }
-    assert!(rt; names.find_source(0, 0, b"S65535") == None);
-    assert!(rt; names.find_dest(0, 0, b"D65535") == Some(DestId::of(65_535)));
+    names.find_source(0, 0, b"S65535") == None
+        && names.find_dest(0, 0, b"D65535") == Some(DestId::of(65_535))
 }
 
 #[test]
 fn the_widest_level_has_names(rt: HostRuntime) -> Result<(), Fail> {
-    let plant = Plant::from_toml(rt.alloc(), WIDEST.as_bytes())?;
-    are_found(&rt, &Names::new(rt.alloc(), &plant)?);
+    assert!(rt; are_found(&widest_names(rt.alloc())?));
     Ok(())
 }

@@ -8,7 +8,6 @@ use plant_config::{PanelNo, Plant};
 use plant_core::{Answer, PlantState, Request};
 use std::alloc::{AllocError, Global};
 use std::process::Abort;
-use std::test::Fail;
 use swp08_messages::{Message, Point};
 
 // The plant answers a request so.
@@ -56,8 +55,13 @@ fn is_heard(rt: &impl Abort, alloc: Global, state: &mut PlantState) -> Result<()
     Ok(())
 }
 
+// The start of the bench plant.
+fn start(alloc: Global) -> Result<PlantState, AllocError> {
+    PlantState::start(alloc, &Plant::bench(alloc)?)
+}
+
 #[test]
-fn one_panel_connects_and_another_hears_of_it(rt: HostRuntime) -> Result<(), Fail> {
-    let mut state = PlantState::start(rt.alloc(), &Plant::bench(rt.alloc())?)?;
-    Ok(is_heard(&rt, rt.alloc(), &mut state)?)
+fn one_panel_connects_and_another_hears_of_it(rt: HostRuntime) -> Result<(), AllocError> {
+    let mut state = start(rt.alloc())?;
+    is_heard(&rt, rt.alloc(), &mut state)
 }

@@ -1,12 +1,7 @@
 //! A day on a pool of four ties of which two are kept: a panel and a master connect, release and go, and are answered as a
 //! plain count says.
 
-ghost use Rattle.std.specs.Prelude.{◌≤◌};
-ghost use Rattle.plant_core.specs.Answer.{room_of};
-
-use super::{Act, Reply, Row, Work, is_answered, is_worked};
-use history_lock::OutBox;
-use plant_core::{Answer, PlantState};
+use super::{Act, Reply, Rig, Row, Work, is_worked};
 use std::process::Abort;
 use std::test::Fail;
 use swp08_messages::GoStatus;
@@ -130,16 +125,14 @@ impl Day {
 }
 
 // A day of so many turns.
-pub(super) fn passes(rt: &impl Abort, state: &mut PlantState, out: &mut OutBox<Answer>, turns: u32)
-    requires { room_of state.old.plant ≤ out.old.places }
-{
+pub(super) fn passes(rt: &impl Abort, rig: &mut Rig, turns: u32) {
     let mut day = Day {
         carried: [None; 8],
         stored: [None; 8],
         number: 1,
     };
     for _turn in 0..turns {
-        is_answered(rt, state, out, &day.turn());
+        rig.is_answered(rt, &day.turn());
     }
 }
 

@@ -1,13 +1,9 @@
 //! What polls of a screen tell, on the studio plant and on one with many displays.
 
-ghost use Rattle.std.specs.Prelude.{◌≤◌};
-ghost use Rattle.plant_core.specs.Answer.{room_of};
-
-use super::{Act, Work, ask, is_worked, request_of};
+use super::{Act, Rig, Work, is_worked, request_of};
 use change_boards::Value;
-use history_lock::OutBox;
 use plant_config::{DestId, PanelNo};
-use plant_core::{Answer, PlantState, Request};
+use plant_core::{Answer, Request};
 use std::alloc::{AllocError, Global};
 use std::process::Abort;
 use std::test::Fail;
@@ -179,58 +175,40 @@ pub(super) fn are_lamps(answers: &[Answer], wanted: &[Shown]) -> bool {
 }
 
 // Panel 0 connects all of these.
-fn connect_all(
-    rt: &impl Abort,
-    state: &mut PlantState,
-    out: &mut OutBox<Answer>,
-    connects: &[(u8, u16, u16)],
-)
-    requires { room_of state.old.plant ≤ out.old.places }
-    ensures { room_of state.new.plant ≤ out.new.places }
-{
-    for (level, dest, source) in connects.iter().copied() {
-        ask(rt, state, out, &connect(level, dest, source));
+fn connect_all(rt: &impl Abort, rig: &mut Rig, connects: &[(u8, u16, u16)]) {
+    for (level, dest, source) in connects {
+        rig.ask(rt, &connect(*level, *dest, *source));
     }
 }
 
-// The rows are told one after the other.
-fn are_told(rt: &impl Abort, state: &mut PlantState, out: &mut OutBox<Answer>)
-    requires { room_of state.old.plant ≤ out.old.places }
-    ensures { room_of state.new.plant ≤ out.new.places }
-{
-    for (connects, refresh, shown) in ROWS {
-        connect_all(rt, state, out, connects);
-        ask(rt, state, out, &shows(refresh));
-        assert!(rt; are_lamps(out.items(), shown));
-    }
+// A row is told.
+fn is_told(rt: &impl Abort, rig: &mut Rig, row: &Row) {
+    let (connects, refresh, shown) = *row;
+    connect_all(rt, rig, connects);
+    rig.ask(rt, &shows(refresh));
+    assert!(rt; are_lamps(rig.answers(), shown));
 }
 
 // Nothing differs any more, and when both panels have left, all is finished.
-fn are_finished(rt: &impl Abort, state: &mut PlantState, out: &mut OutBox<Answer>)
-    requires { room_of state.old.plant ≤ out.old.places }
-{
+fn are_finished(rt: &impl Abort, rig: &mut Rig) {
     for panel in 0..2 {
         let panel = PanelNo::of(panel);
-        ask(rt, state, out, &shows(false));
-        assert!(rt; out.items().is_empty());
-        ask(rt, state, out, &Request::Leave { panel });
+        rig.ask(rt, &shows(false));
+        assert!(rt; rig.answers().is_empty());
+        rig.ask(rt, &Request::Leave { panel });
     }
-    ask(rt, state, out, &shows(false));
-    assert!(rt; out.items() == [Answer::Finished].as_slice());
+    rig.ask(rt, &shows(false));
+    assert!(rt; rig.answers() == [Answer::Finished].as_slice());
 }
 
-// The rows are told, and then all is finished.
-pub(super) fn are_told_until_finished(
-    rt: &impl Abort,
-    state: &mut PlantState,
-    out: &mut OutBox<Answer>,
-)
-    requires { room_of state.old.plant ≤ out.old.places }
-{
-    are_told(rt, state, out);
+// The rows are told one after the other, and then all is finished.
+pub(super) fn are_told_until_finished(rt: &impl Abort, rig: &mut Rig) {
+    for row in &ROWS {
+        is_told(rt, rig, row);
+    }
     let dest = DestId::of(12);
-    assert!(rt; state.is_live(Roots::Air, dest) && !state.is_live(Roots::Preview, dest));
-    are_finished(rt, state, out);
+    assert!(rt; rig.state.is_live(Roots::Air, dest) && !rig.state.is_live(Roots::Preview, dest));
+    are_finished(rt, rig);
 }
 
 #[test]
@@ -255,12 +233,10 @@ fn many(alloc: Global, count: u32) -> Result<String, AllocError> {
 }
 
 // Polls tell the displays of a plant of 70: 64, the others, none, and again 64 where all are told anew.
-pub(super) fn are_counted(rt: &impl Abort, state: &mut PlantState, out: &mut OutBox<Answer>)
-    requires { room_of state.old.plant ≤ out.old.places }
-{
-    for (refresh, count) in [(false, 64), (false, 6), (false, 0), (true, 64)] {
-        ask(rt, state, out, &shows(refresh));
-        assert!(rt; out.items().len() == count);
+pub(super) fn are_counted(rt: &impl Abort, rig: &mut Rig) {
+    for (refresh, count) in &[(false, 64), (false, 6), (false, 0), (true, 64)] {
+        rig.ask(rt, &shows(*refresh));
+        assert!(rt; rig.answers().len() == *count);
     }
 }
 
@@ -271,25 +247,11 @@ fn a_poll_tells_64_displays_at_most(rt: HostRuntime) -> Result<(), Fail> {
 }
 
 // Polls a screen so often. After all of its displays were told, none is.
-pub(super) fn are_quiet(
-    rt: &impl Abort,
-    state: &mut PlantState,
-    out: &mut OutBox<Answer>,
-    count: u32,
-)
-    requires { room_of state.old.plant ≤ out.old.places }
-{
-    poll_often(rt, state, out, count);
-    assert!(rt; out.items().is_empty());
-}
-
-// Polls the screen so often.
-fn poll_often(rt: &impl Abort, state: &mut PlantState, out: &mut OutBox<Answer>, count: u32)
-    requires { room_of state.old.plant ≤ out.old.places }
-{
+pub(super) fn are_quiet(rt: &impl Abort, rig: &mut Rig, count: u32) {
     for _poll in 0..count {
-        ask(rt, state, out, &shows(false));
+        rig.ask(rt, &shows(false));
     }
+    assert!(rt; rig.answers().is_empty());
 }
 
 // If each poll looked at all displays of its screen, these would take minutes.
