@@ -1,9 +1,9 @@
 pub mod DashLemmas
 pub mod FormLemmas
-pub mod GetterLemmas
-pub mod ClapLemmas
-pub mod ClapTaken
 pub mod NamesLemmas
 pub mod WordsLemmas
-pub mod DrillWordsLemmas
-pub mod ServiceWordsLemmas
+pub mod PartsLemmas
+pub mod TableLemmas
+pub mod ClapWalk
+pub mod ClapTable
+pub mod ClapFormLemmas

@@ -1,3 +1,7 @@
 pub mod Words
-pub mod Read
+pub mod Parts
+pub mod ReadParts
+pub mod Table
+pub mod ReadTable
+pub mod ClapForms
 pub mod WordsInside

@@ -1,12 +1,11 @@
-//! The words of the command line of `plantctl`: which commands have which forms, and what the words of a run ask for. The
+//! The words of a command line, read over a table of commands: what stands behind the name of each, and what words ask for. The
 //! plant, the files and the net are not looked at.
 #![tactic(auto)]
 
-mod drill_words;
-mod parsed_words;
-mod service_words;
-mod words;
+mod clap_forms;
+mod names;
+mod parts;
+mod table;
 
-pub use drill_words::{Drill, read_drill};
-pub use service_words::{Service, read_service};
-pub use words::{Command, read_words};
+pub use parts::{FileKind, Last, Low, Part};
+pub use table::{Asked, Line, read_quiet, read_waiting};

@@ -9,7 +9,7 @@ use Rattle.plant_config.specs.Bench.{bench}
 use Rattle.plant_config.specs.PlantOfText.{plant_of_text}
 use Rattle.commands.specs.World.{World, FilesUntouched}
 use Rattle.commands.specs.End.{End, Done, NoMemory, Usage, FileMissing, FileFault, PlantRefused, PlantTooLong, LineRefused, ScriptTooLong, Audited, TraceTooLong, StreamTooLong, StreamFailed, status_of, is_file_fault}
-use Rattle.command_words.specs.Words.{Command, Check, Stream, plant_word, Ask}
+use Rattle.commands.specs.Command.{Command, Check, Stream, plant_word, Ask}
 use Rattle.commands.specs.OpensPlant.{longest_plant, is_bench, OpensBench, OpensFile, OpensPlant}
 use Rattle.commands.specs.Check.{CheckEnds}
 use Rattle.commands.specs.Asked.{AskFile, ShowsFile, ShowsPlant, LeadsTo}
@@ -17,7 +17,7 @@ use Rattle.commands.specs.Run.{RunHasCause, RunEnds}
 use Rattle.commands.specs.Outcomes.{IsRefusedPlant, WasKept}
 use Rattle.commands.proofs.AskedLemmas.{file_of, no_check, no_audit, check_no_monitor, opened_of}
 use Rattle.commands.proofs.CauseLemmas.{Came, at_words, at_plant, in_check, in_replay, in_audit, in_stream, in_monitor, came, asked_end, status_or_7}
-use Rattle.command_words.proofs.WordsLemmas.{same_command}
+use Rattle.commands.proofs.CommandWordsLemmas.{same_command}
 
 -- Of the end of a run: that it has this status, or that the run was kept from another end.
 abbrev pub IsOrKept : ℕ → World → World → End → Type 0

@@ -5,13 +5,13 @@ use Rattle.ctl_io.specs.Held.{Held}
 use Rattle.plant_config.specs.Plant.{PlantData}
 use Rattle.commands.specs.World.{World}
 use Rattle.commands.specs.End.{End}
-use Rattle.command_words.specs.Words.{Command, Check, Replay, Audit, Stream, Monitor, plant_word, Ask}
+use Rattle.commands.specs.Command.{Command, Check, Replay, Audit, Stream, Monitor, plant_word, Ask}
 use Rattle.commands.specs.OpensPlant.{is_bench, OpensBench, OpensFile, OpensPlant}
 use Rattle.commands.specs.Asked.{AskFile, AskScript}
 use Rattle.commands.specs.Run.{CommandEnds}
 use Rattle.commands.proofs.OpensLemmas.{from_false}
 use Rattle.commands.proofs.CauseLemmas.{command_opens}
-use Rattle.command_words.proofs.WordsLemmas.{same_command}
+use Rattle.commands.proofs.CommandWordsLemmas.{same_command}
 
 -- the traces of a command
 abbrev traces_of : Command → List (List ℕ)

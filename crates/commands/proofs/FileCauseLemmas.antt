@@ -8,7 +8,7 @@ use Rattle.plant_config.specs.Plant.{PlantData}
 use Rattle.commands.specs.World.{World, snapshot}
 use Rattle.commands.specs.End.{End, Done, NoMemory, Usage, FileMissing, FileFault, PlantRefused, PlantTooLong, LineRefused, ScriptTooLong, Audited, TraceTooLong, StreamTooLong, StreamFailed, is_file_fault, status_of, end_text}
 use Rattle.commands.specs.Lines.{file_missing, file_fault}
-use Rattle.command_words.specs.Words.{Command, Check, Replay, Audit, Stream, Monitor, plant_word, other_files, Ask}
+use Rattle.commands.specs.Command.{Command, Check, Replay, Audit, Stream, Monitor, plant_word, other_files, Ask}
 use Rattle.commands.specs.OpensPlant.{OpensPlant, ThenEnds, next_opening, plant_files}
 use Rattle.commands.specs.Run.{CommandEnds, RunHasCause, EndsReading, IsWritten, RunEnds}
 use Rattle.commands.specs.Outcomes.{StopsAtFile, WasMissing, HadFileFault, HadStreamFault}

@@ -8,7 +8,7 @@ use Rattle.ctl_io.specs.Held.{Held, Stays}
 use Rattle.ctl_io.specs.WholeFile.{FileReading, Well, Missing, Failed, CameBack, GivenBack}
 use Rattle.commands.specs.World.{World, Snapshot, snapshot}
 use Rattle.commands.specs.End.{End, Done, NoMemory, Usage, FileMissing, FileFault, PlantRefused, PlantTooLong, LineRefused, ScriptTooLong, Audited, TraceTooLong, StreamTooLong, StreamFailed, status_of, is_file_fault}
-use Rattle.command_words.specs.Words.{Command, Stream, plant_word, other_files, made_files, Ask}
+use Rattle.commands.specs.Command.{Command, Stream, plant_word, other_files, made_files, Ask}
 use Rattle.commands.specs.OpensPlant.{is_bench, opened_for, plant_files, files_of, next_opening}
 use Rattle.commands.specs.Asked.{AskFile, NamesFile}
 use Rattle.commands.specs.Run.{ReadsFile, ReadsWell, LeavesFiles, EndsByCommand, EndsByStream, RunHasCause, RunEnds}

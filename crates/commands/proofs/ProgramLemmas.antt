@@ -1,45 +1,26 @@
 -- How a run of the whole program ends, and what its status tells.
-use Rattle.std.proofs.Common.{◌≡◌, ◌≢◌, ◌⊎◌, inl, inr, ℕ, ◌<◌, Bool, true, false, List, length, Option, Some, None, Result, refl, sym, ◌∙◌, ap, subst, arith}
-use Rattle.ctl_io.specs.Faults.{one_more, count_after}
+use Rattle.std.proofs.Common.{◌≡◌, ◌≢◌, ◌⊎◌, inl, inr, ℕ, ◌<◌, List, length, refl, sym, ◌∙◌, ap, subst, arith}
+use Rattle.ctl_io.specs.Faults.{one_more}
 use Rattle.ctl_io.specs.Sink.{appended}
-use Rattle.std.specs.Prelude.{option_map}
-use Rattle.std.proofs.lemmas.Bool.{false≢true}
 use Rattle.panel_server.specs.PlantServed.{NetData}
-use Rattle.command_words.specs.declared.service_words.Service as code
-use Rattle.command_words.specs.declared.drill_words.Drill.{Drill}
-use Rattle.commands.specs.declared.stop.Stop.{Stop}
-use Rattle.commands.specs.World.{World, FilesUntouched}
-use Rattle.command_words.specs.Words.{SaysNumber, AskDrill, Service, AskService}
+use Rattle.commands.specs.Command.{Drill}
+use Rattle.commands.specs.World.{World}
+use Rattle.command_words.specs.Words.{SaysNumber}
+use Rattle.commands.specs.Command.{AskDrill, Service, AskService}
 use Rattle.commands.specs.Lines.{no_memory}
 use Rattle.commands.specs.End.{End, Done, NoMemory, status_of, end_text}
 use Rattle.commands.specs.Drill.{DrillEnds}
 use Rattle.commands.specs.Run.{IsWritten, RunEnds}
 use Rattle.commands.specs.Serve.{serve_status, serve_text}
-use Rattle.command_words.specs.Read.{service_of}
 use Rattle.commands.specs.Program.{DrillRunEnds, ProgramEnds}
 use Rattle.commands.specs.Statuses.{IsKnown}
 use Rattle.commands.specs.ProgramStatuses.{WasDrilled, OthersRunQuietly, OthersLeaveNet, ZeroHasDrilled, OneSaysNoMemory, DrillEndsWithZero, DrillsLeaveFiles, ProgramTwoTellsUsage, NoProgramFormEndsWithTwo, ProgramSevenHasCause, ProgramOthersWriteAll}
-use Rattle.commands.specs.StopInside.{stopped_by_output, StopsFor, Reports}
 use Rattle.commands.proofs.CauseLemmas.{is_written, status_or_7, written-unless-7}
-use Rattle.command_words.proofs.DrillWordsLemmas.{ask_only}
-use Rattle.command_words.proofs.ServiceWordsLemmas.{counted}
+use Rattle.commands.proofs.DrillWordsLemmas.{ask_only}
+use Rattle.commands.proofs.ServiceWordsLemmas.{counted}
 use Rattle.commands.proofs.ServiceEndLemmas.{service_statuses, status_so}
 use Rattle.commands.proofs.RunEndsLemmas.{eight_statuses, output_cause, output_others}
 use Rattle.commands.proofs.StatusesLemmas.{usage_no_form, usage_line, usage_always}
-use Rattle.commands.proofs.StopLemmas.{output_of, is_output}
-
--- a drill that came to its report
-pub drill_ends : {T : Type 0} (result : Result T Stop) (drill : Drill) (before mid now : World) (status : ℕ) → StopsFor result (DrillEnds drill) before.written mid.written
-    → mid.output_faults ≡ count_after (stopped_by_output result) before.output_faults → Reports result status mid.written now.written mid.output_faults now.output_faults → FilesUntouched before now
-    → DrillRunEnds drill before now status
-drill_ends result drill before mid now status stops count reports files = record {
-  end = stops.end;
-  ends = stops.cause;
-  output =
-      is_output (status_of stops.end) (end_text stops.end) before now status
-      (output_of result (status_of stops.end) (end_text stops.end) before.written mid.written now.written before.output_faults mid.output_faults now.output_faults status stops.comes count reports);
-  files = files;
-}
 
 -- words ask for one drill
 
@@ -61,15 +42,6 @@ same_drill words one other a b =
 -- words that ask for a drill ask for no service
 pub not_both : (words : List (List ℕ)) (drill : Drill) (service : Service) → AskDrill words drill → AskService words service → ⊥
 not_both words drill service a b = omega (arith, ap length a.form, (counted words service b).1)
-
--- what isn't read isn't asked for
-abbrev is_there : Option Service → Bool
-is_there None = false
-is_there (Some service) = true
-
-pub not_read : {P : Type 0} (found : Option code.Service) (service : Service) → ((read : code.Service) → found ≡ Some read → ⊥) → option_map service_of found ≡ Some service → P
-not_read None service never is = absurd (let h = ap is_there is in false≢true h)
-not_read (Some read) service never is = absurd (never read refl)
 
 -- what its status tells
 

@@ -13,21 +13,21 @@ use Rattle.panel_server.specs.declared.plant.PlantDone.{PlantDone}
 use Rattle.panel_server.specs.declared.plant.ServeFault.{ServeFault}
 use Rattle.panel_server.specs.declared.plant.ServeFault.TheVariants as answers
 use Rattle.commands.specs.World.{World, Snapshot, snapshot}
-use Rattle.command_words.specs.Words.{Service}
+use Rattle.commands.specs.Command.{Service}
 use Rattle.commands.specs.End.{End, NoMemory, FileMissing, FileFault, PlantRefused, PlantTooLong, status_of, end_text}
 use Rattle.commands.specs.Lines.{file_missing, file_fault, plant_refused, plant_too_long}
 use Rattle.commands.specs.OpensPlant.{longest_plant, OpensPlant, OpensBench, OpensFile, Reads, is_bench, opened_for}
 use Rattle.commands.specs.Traces.{names_for}
 use Rattle.commands.specs.Run.{LeavesOpened, IsWritten, IsCutShort}
-use Rattle.commands.specs.Serve.{Telling, AllWell, NetFailed, LimitsMet, ServeEnd, Unserved, NetRefused, Served, telling_status, telling_of, name_at, answered_end, serve_status, serve_text, EndsServed, EndsAtTrace, PlantServiceEnds, ServiceEnds}
+use Rattle.commands.specs.Serve.{Telling, AllWell, NetFailed, LimitsMet, ServeEnd, Unserved, NetRefused, Served, telling_status, telling_of, name_at, answered_end, serve_status, serve_text, EndsAtTrace, PlantServiceEnds, ServiceEnds}
 use Rattle.commands.specs.Asked.{LeadsTo, PlantMayBeHere}
 use Rattle.commands.specs.Outcomes.{IsRefusedPlant, WasKept}
 use Rattle.commands.specs.Program.{ServiceRunEnds}
-use Rattle.commands.specs.ServiceStatuses.{ServiceRanOut, StopsAtPlant, MakesNoTrace, TellsDone, TellsService, ServiceHasCause, ServicesHaveCauses, NoPlantServedEndsWithThree, RefusedPlantServedEndsWithFour, RefusedNetEndsWithEight}
+use Rattle.commands.specs.ServiceStatuses.{StopsAtPlant, TellsDone, TellsService, ServiceHasCause, ServicesHaveCauses, NoPlantServedEndsWithThree, RefusedPlantServedEndsWithFour, RefusedNetEndsWithEight}
 use Rattle.commands.proofs.OpensLemmas.{from_false, opened_file}
 use Rattle.commands.proofs.StatusesLemmas.{nowhere, led, either}
 use Rattle.commands.proofs.AlwaysLemmas.{no_plant_of}
-use Rattle.commands.proofs.TraceSinkLemmas.{fails_at-faults}
+use Rattle.command_serve.proofs.TraceSinkLemmas.{fails_at-faults}
 use Rattle.commands.proofs.ServiceEndLemmas.{kind, its_end, its_telling, refused}
 use Rattle.commands.proofs.ServiceKeptLemmas.{well-faults}
 use Rattle.commands.proofs.ServiceLawLemmas.{service_of}

@@ -11,7 +11,7 @@ use Rattle.panel_server.specs.declared.plant.PlantDone.{PlantDone}
 use Rattle.panel_server.specs.declared.plant.ServeFault.{ServeFault}
 use Rattle.panel_server.specs.declared.plant.ServeFault.TheVariants as answers
 use Rattle.commands.specs.World.{World, Snapshot, snapshot}
-use Rattle.command_words.specs.Words.{Service}
+use Rattle.commands.specs.Command.{Service}
 use Rattle.commands.specs.End.{End, NoMemory, FileMissing, FileFault, PlantRefused, PlantTooLong, status_of}
 use Rattle.commands.specs.OpensPlant.{OpensPlant, OpensBench, OpensFile, is_bench}
 use Rattle.commands.specs.Serve.{Telling, AllWell, TraceFailed, NetFailed, LimitsMet, ServeEnd, Unserved, NetRefused, Served, telling_status, telling_of, counted_telling, name_at, answered_end, serve_status, serve_text}

@@ -1,5 +1,5 @@
 -- What keeps a service from being served well whose plant the files show.
-use Rattle.std.proofs.Common.{◌≡◌, ◌⊎◌, inl, inr, ℕ, ◌+◌, ◌<◌, ◌≤◌, Bool, true, false, List, [], ◌∷◌, ◌++◌, map, Option, Some, None, Result, Ok, Err, refl, sym, ◌∙◌, ap, subst, arith}
+use Rattle.std.proofs.Common.{◌≡◌, ◌⊎◌, inl, inr, ℕ, ◌+◌, ◌≤◌, Bool, true, false, List, [], ◌∷◌, ◌++◌, map, Option, Some, None, Result, Ok, Err, refl, sym, ◌∙◌, ap, subst, arith}
 use Rattle.std.proofs.lemmas.Bool.{lt-ltb}
 use Rattle.std.specs.Prelude.{MatchBool, if◌then◌else◌, nat_lt}
 use Rattle.ctl_io.specs.Custody.{SinkEnd}
@@ -18,18 +18,18 @@ use Rattle.panel_server.specs.Workers.{trace_of}
 use Rattle.panel_server.specs.declared.plant.PlantDone.{PlantDone}
 use Rattle.panel_server.specs.declared.plant.ServeFault.{ServeFault}
 use Rattle.panel_server.specs.declared.plant.ServeFault.TheVariants as answers
-use Rattle.command_words.specs.Words.{Service}
+use Rattle.commands.specs.Command.{Service}
 use Rattle.commands.specs.World.{World, Snapshot, snapshot}
 use Rattle.commands.specs.End.{End, Done, NoMemory, Usage, FileMissing, FileFault, PlantRefused, PlantTooLong, LineRefused, ScriptTooLong, Audited, TraceTooLong, StreamTooLong, StreamFailed, status_of}
-use Rattle.commands.specs.OpensPlant.{OpensPlant, OpensBench, OpensFile, is_bench, opened_for}
+use Rattle.commands.specs.OpensPlant.{OpensBench, OpensFile, is_bench, opened_for}
 use Rattle.commands.specs.Asked.{ShowsFile, ShowsPlant}
-use Rattle.commands.specs.Run.{ReadsWell, EndsReading, LeavesOpened}
+use Rattle.commands.specs.Run.{ReadsWell, LeavesOpened}
 use Rattle.commands.specs.Traces.{TakesBack, TakesAllBack}
-use Rattle.commands.specs.Serve.{Telling, AllWell, TraceFailed, NetFailed, LimitsMet, ServeEnd, Unserved, NetRefused, Served, telling_status, telling_of, counted_telling, name_at, answered_end, serve_status, serve_text, EndsServed, PlantServiceEnds, ServiceEnds, AreThoseOf}
+use Rattle.commands.specs.Serve.{AllWell, TraceFailed, NetFailed, LimitsMet, ServeEnd, Unserved, NetRefused, Served, telling_status, telling_of, name_at, answered_end, serve_status, serve_text, EndsServed, PlantServiceEnds, ServiceEnds}
 use Rattle.commands.specs.Program.{ServiceRunEnds}
 use Rattle.commands.specs.ProgramStatuses.{IsServedOrKept}
 use Rattle.commands.proofs.CauseLemmas.{wanted-or-7}
-use Rattle.commands.proofs.TraceSinkLemmas.{made-faults, fails_at-faults}
+use Rattle.command_serve.proofs.TraceSinkLemmas.{made-faults, fails_at-faults}
 use Rattle.commands.proofs.ServiceEndLemmas.{kind, its_end, its_telling, rose, refused}
 
 -- the plant's word of a plant that the files show: memory ran out, or its file failed

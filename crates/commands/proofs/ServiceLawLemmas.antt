@@ -2,11 +2,11 @@
 use Rattle.std.proofs.Common.{inl, inr, ℕ, List, subst, arith}
 use Rattle.panel_server.specs.PlantServed.{NetData}
 use Rattle.commands.specs.World.{World}
-use Rattle.command_words.specs.Words.{Service, AskService}
+use Rattle.commands.specs.Command.{Service, AskService}
 use Rattle.commands.specs.Program.{ServiceRunEnds, ProgramEnds}
 use Rattle.commands.specs.ProgramStatuses.{ZeroHasServed, EightHasCause, NineMetLimits, ServiceStatusesAreKnown, ShownPlantIsServed}
 use Rattle.commands.proofs.ProgramLemmas.{not_both, drill_status, quiet_status}
-use Rattle.command_words.proofs.ServiceWordsLemmas.{same_service}
+use Rattle.commands.proofs.ServiceWordsLemmas.{same_service}
 use Rattle.commands.proofs.ServiceEndLemmas.{service_statuses, service_zero, service_eight, service_nine}
 use Rattle.commands.proofs.ServiceKeptLemmas.{served_or_kept}
 

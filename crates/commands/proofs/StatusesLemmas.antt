@@ -12,7 +12,7 @@ use Rattle.trace_audit.specs.declared.verdict.Verdict.TheVariants.{Confirmed, Ba
 use Rattle.commands.specs.World.{World}
 use Rattle.commands.specs.End.{End, Done, NoMemory, Usage, FileMissing, FileFault, PlantRefused, PlantTooLong, LineRefused, ScriptTooLong, Audited, TraceTooLong, StreamTooLong, StreamFailed, status_of, end_text, verdict_line}
 use Rattle.commands.specs.Lines.{no_memory, usage, plant_refused, plant_too_long}
-use Rattle.command_words.specs.Words.{Command, Check, Replay, Audit, Stream, Monitor, plant_word, Ask, HasNoForm}
+use Rattle.commands.specs.Command.{Command, Check, Replay, Audit, Stream, Monitor, plant_word, Ask, HasNoForm}
 use Rattle.commands.specs.OpensPlant.{is_bench, OpensBench, OpensFile, OpensPlant, Reads}
 use Rattle.commands.specs.Asked.{AskFile, FirstMayBeHere, PlantMayBeHere}
 use Rattle.commands.specs.Run.{RunHasCause, CommandEnds, IsWritten, RunEnds}

@@ -5,13 +5,13 @@ use Rattle.ctl_io.specs.Sink.{appended}
 use Rattle.plant_config.specs.Plant.{PlantData}
 use Rattle.commands.specs.World.{World, Snapshot, snapshot}
 use Rattle.commands.specs.End.{End, Done, NoMemory, FileMissing, FileFault, LineRefused, ScriptTooLong, Audited, StreamFailed, status_of, end_text}
-use Rattle.command_words.specs.Words.{Command, Stream, Ask}
+use Rattle.commands.specs.Command.{Command, Stream, Ask}
 use Rattle.commands.specs.OpensPlant.{OpensPlant, ThenEnds, next_opening}
 use Rattle.commands.specs.Replay.{UnreadEnds}
 use Rattle.commands.specs.Stream.{GivesFile, StreamDone, StreamEnds}
 use Rattle.commands.specs.Run.{CommandEnds, RunHasCause, IsWritten, RunEnds}
 use Rattle.commands.specs.Outcomes.{WasStreamed}
-use Rattle.command_words.proofs.WordsLemmas.{same_command}
+use Rattle.commands.proofs.CommandWordsLemmas.{same_command}
 use Rattle.commands.proofs.AskedLemmas.{same_made}
 use Rattle.commands.proofs.CauseLemmas.{asked_end, is_written}
 use Rattle.commands.proofs.StatusesLemmas.{nowhere}

@@ -5,13 +5,13 @@ use Rattle.ctl_io.specs.Faults.{count_after}
 use Rattle.ctl_io.specs.Held.{Held, NoFile, Holds}
 use Rattle.commands.specs.World.{World}
 use Rattle.commands.specs.End.{End, Done, NoMemory, Usage, FileMissing, FileFault, PlantRefused, PlantTooLong, LineRefused, ScriptTooLong, Audited, TraceTooLong, StreamTooLong, StreamFailed, status_of, is_file_fault}
-use Rattle.command_words.specs.Words.{Monitor, plant_word, Ask}
+use Rattle.commands.specs.Command.{Monitor, plant_word, Ask}
 use Rattle.commands.specs.Monitor.{longest_stream, MonitorEnds}
 use Rattle.commands.specs.Run.{RunEnds}
 use Rattle.commands.specs.Outcomes.{WasKept}
 use Rattle.commands.proofs.AskedLemmas.{check_no_monitor, replay_no_monitor, audit_no_monitor, same_stream}
 use Rattle.commands.proofs.CauseLemmas.{Came, at_words, at_plant, in_check, in_replay, in_audit, in_stream, in_monitor, came, asked_end}
-use Rattle.command_words.proofs.WordsLemmas.{same_command}
+use Rattle.commands.proofs.CommandWordsLemmas.{same_command}
 use Rattle.commands.proofs.AlwaysLemmas.{IsOrKept, by_end}
 
 -- how a run ends whose words ask to tell a stream, unless it is kept from that

@@ -10,7 +10,7 @@ use Rattle.trace_audit.specs.Verdict.{IsVerdict}
 use Rattle.trace_audit.proofs.OneVerdict.{one_verdict}
 use Rattle.commands.specs.World.{World}
 use Rattle.commands.specs.End.{End, Done, NoMemory, Usage, FileMissing, FileFault, PlantRefused, PlantTooLong, LineRefused, ScriptTooLong, Audited, TraceTooLong, StreamTooLong, StreamFailed, status_of, is_file_fault, verdict_status}
-use Rattle.command_words.specs.Words.{Audit}
+use Rattle.commands.specs.Command.{Audit}
 use Rattle.commands.specs.OpensPlant.{opened_for}
 use Rattle.commands.specs.Audit.{longest_traces, TraceFile, trace_files, IfAllHeld, total_length, all_lines, AreTooLong, AuditEnds, HoldTexts}
 use Rattle.commands.specs.Asked.{AskTraces}

@@ -32,14 +32,14 @@ use Rattle.panel_server.specs.PlantServed.{DisplayRun, NetData, PanelRun, PlantS
 use Rattle.panel_server.specs.TracesShare.{TracesShareHistory}
 use Rattle.panel_server.proofs.AnswerLemmas.{legal_behind}
 use Rattle.commands.specs.World.{World, Snapshot, snapshot}
-use Rattle.command_words.specs.Words.{Service}
+use Rattle.commands.specs.Command.{Service}
 use Rattle.commands.specs.Lines.{served_lines}
 use Rattle.commands.specs.Traces.{names_for, trace_names, TakesAllBack}
 use Rattle.commands.specs.Serve.{AllWell, Served, name_at, answered_end, AreThoseOf, HaveNames, IsNewTrace, NeverFail, EndsServed, PlantServiceEnds, EndsBehindPlant}
 use Rattle.commands.specs.Asked.{LeadsTo}
 use Rattle.commands.specs.ProgramStatuses.{WasServed}
 use Rattle.commands.specs.ServedWhole.{IsPanelWhole, TellsItsValue, LampsAreFound, WasServedWhole, ZeroServesWhole}
-use Rattle.commands.proofs.ServeLemmas.{names-length}
+use Rattle.command_serve.proofs.ServeLemmas.{names-length}
 use Rattle.commands.proofs.ServiceEndLemmas.{kind, its_telling}
 use Rattle.commands.proofs.ServiceLawLemmas.{zero_served}
 use Rattle.commands.proofs.PanelWholeLemmas.{none_so, sum_none, none_failed, none_first, unfailed, well_told, its_entries, panel_whole}

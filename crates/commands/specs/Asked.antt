@@ -5,7 +5,7 @@ use Rattle.plant_config.specs.Plant.{PlantData}
 use Rattle.plant_config.specs.Bench.{bench}
 use Rattle.plant_config.specs.PlantOfText.{plant_of_text}
 use Rattle.commands.specs.World.{World}
-use Rattle.command_words.specs.Words.{Command, Check, Replay, Audit, Stream, Monitor, plant_word, made_files, Ask}
+use Rattle.commands.specs.Command.{Command, Check, Replay, Audit, Stream, Monitor, plant_word, made_files, Ask}
 use Rattle.commands.specs.OpensPlant.{longest_plant, is_bench, OpensPlant, next_opening, opened_for, files_of}
 use Rattle.commands.specs.Audit.{TraceFile, trace_files, Reaches}
 

@@ -1,27 +1,8 @@
--- The command `check`: what it says of a plant, and how it may end.
-use Rattle.std.specs.Prelude.{◌≡◌, ℕ, List, ◌++◌, length, sum_by, codes}
-use Rattle.std.specs.Fmt.{decimal}
-use Rattle.plant_config.specs.Plant.{PlantData, sources_of, destinations_of}
-use Rattle.commands.specs.Lines.{line}
+-- The command `check`: how it may end.
+use Rattle.std.specs.Prelude.{◌≡◌}
+use Rattle.plant_config.specs.Plant.{PlantData}
+pub use Rattle.command_check.specs.Check.{check_text, ties_of}
 use Rattle.commands.specs.End.{End, Done, NoMemory}
-
--- how many tie-lines all pools of a plant have
-abbrev pub ties_of : PlantData → ℕ
-ties_of plant = sum_by (λ pool. pool.ties) plant.pools
-
--- what a plant has, in ten lines
-abbrev pub check_text : PlantData → List ℕ
-check_text plant =
-    line (codes "plant " ++ plant.title)
-    ++ line (codes "levels " ++ decimal (length plant.levels))
-    ++ line (codes "sources " ++ decimal (sources_of plant))
-    ++ line (codes "destinations " ++ decimal (destinations_of plant))
-    ++ line (codes "pools " ++ decimal (length plant.pools))
-    ++ line (codes "ties " ++ decimal (ties_of plant))
-    ++ line (codes "devices " ++ decimal (length plant.devices))
-    ++ line (codes "buses " ++ decimal (length plant.buses))
-    ++ line (codes "displays " ++ decimal (length plant.displays))
-    ++ line (codes "panels " ++ decimal (length plant.panels))
 
 -- The check of this plant ends so: with exactly these lines, or without memory.
 abbrev pub CheckEnds : PlantData → End → Type 0

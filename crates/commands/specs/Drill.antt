@@ -1,55 +1,16 @@
 -- The command `drill`: what it writes, what stands behind that, and how it may end.
-use Rattle.std.specs.Prelude.{◌≡◌, ℕ, ◌*◌, ◌<◌, ◌≤◌, ◌^◌, List, ◌++◌, All, length, codes}
-use Rattle.std.specs.Fmt.{decimal}
-use Rattle.line_text.specs.Lines.{lines}
-use Rattle.plant_config.specs.DrillPlant.{drill_plant}
-use Rattle.panel_session.specs.Entry.{PlantEntry}
-use Rattle.trace_audit.specs.declared.verdict.Verdict.TheVariants.{Confirmed}
-use Rattle.trace_audit.specs.Laws.{AreLinesOf, IsTraceable}
-use Rattle.trace_audit.specs.Verdict.{IsVerdict}
-use Rattle.drill.specs.Drilled.{FitsItsStream, share_of, stream_tells, told_by}
-use Rattle.drill.specs.Stream.{bad_among, good_among}
-use Rattle.command_words.specs.declared.drill_words.Drill.{Drill}
-use Rattle.commands.specs.Lines.{line}
+use Rattle.std.specs.Prelude.{◌≡◌, ℕ, List}
+use Rattle.command_drill.specs.Drill as row
+use Rattle.command_drill.specs.Drill.{drill_of}
+use Rattle.commands.specs.Command.{Drill}
 use Rattle.commands.specs.End.{End, Done, NoMemory}
 
--- the lines on a drill whose history was confirmed, with how many panels it had, how many messages they sent, how many of these
--- were answered by ACK and how many by NAK, and how many sessions there were
-abbrev pub drill_lines : ℕ → ℕ → ℕ → ℕ → ℕ → List ℕ
-drill_lines panels messages acks naks sessions =
-    line (codes "panels " ++ decimal panels) ++ line (codes "messages " ++ decimal messages)
-    ++ line (codes "acks " ++ decimal acks) ++ line (codes "naks " ++ decimal naks)
-    ++ line (codes "sessions " ++ decimal sessions) ++ line (codes "history confirmed")
-
--- how many messages each panel of a drill sends
-abbrev pub each_sends : Drill → ℕ
-each_sends drill = share_of drill.messages drill.panels
-
--- The lines of a drill. They don't depend on its number: each panel sends as many messages, and of each hundred a bad one.
+-- the lines of a drill, and its traces, by its three numbers
 abbrev pub drill_text : Drill → List ℕ
-drill_text drill =
-    drill_lines drill.panels (drill.panels * each_sends drill)
-    (drill.panels * good_among (each_sends drill))
-    (drill.panels * bad_among (each_sends drill)) drill.panels
+drill_text drill = row.drill_text (drill_of drill.number drill.panels drill.messages)
 
--- A history is that of a drill: it is one of the drill's plant from its start, its entries are those of the drill's panels, and
--- each panel told the plant the messages of its good frames, in order, in a session that read all that the panel sent.
-pub record IsHistoryOf (drill : Drill) (history : List PlantEntry) : Type 0 where
-  pub traceable : IsTraceable (drill_plant drill.panels) history
-  pub few : length history ≤ 2 ^ 62
-  pub by_panels : All (λ entry. entry.seat < drill.panels) history
-  pub entries : (panel : ℕ) → panel < drill.panels
-      → FitsItsStream drill.number panel (each_sends drill) history
-  pub told : (panel : ℕ) → panel < drill.panels
-      → told_by panel history ≡ stream_tells drill.number panel (each_sends drill)
-
--- A trace is that of a drill: its lines are those of a history of the drill, each once, and its audit confirms as many.
-pub record IsTraceOf (drill : Drill) (trace : List ℕ) : Type 0 where
-  pub history : List PlantEntry
-  pub is_history : IsHistoryOf drill history
-  pub all : AreLinesOf (drill_plant drill.panels) history (lines trace)
-  pub confirmed :
-      IsVerdict (drill_plant drill.panels) (lines trace) (Confirmed (length history))
+abbrev pub IsTraceOf : Drill → List ℕ → Type 0
+IsTraceOf drill trace = row.IsTraceOf (drill_of drill.number drill.panels drill.messages) trace
 
 -- The drill ends so: with exactly its lines, and there is a trace of it, or without memory. That trace needn't be the one that the
 -- run made, which stays in its memory: that there is one follows from the drill's numbers alone.

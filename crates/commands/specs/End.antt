@@ -3,9 +3,10 @@ use Rattle.std.specs.Prelude.{ℕ, Bool, true, false, List, ◌++◌}
 use Rattle.plant_file.specs.declared.fault.PlantFault.{PlantFault}
 use Rattle.plant_file.specs.FaultText.{fault_text}
 use Rattle.trace_audit.specs.declared.verdict.Verdict.{Verdict}
-use Rattle.trace_audit.specs.declared.verdict.Verdict.TheVariants.{Confirmed, BadLine, Gap, Repeat, Differs}
 use Rattle.commands.specs.Lines.{usage, no_memory, file_missing, file_fault, plant_refused, plant_too_long, line_refused, script_too_long}
-use Rattle.commands.specs.Lines.{confirmed, trace_line_refused, trace_too_long, stream_too_long, gap_at, repeat_at, differs_at}
+pub use Rattle.command_rows.specs.End.{unwritten_status}
+pub use Rattle.command_audit.specs.Verdict.{verdict_status, verdict_line}
+use Rattle.commands.specs.Lines.{trace_too_long, stream_too_long}
 
 -- An end, with what its text names: the output of what was done, the name of a file, a plant file's fault, the number of a
 -- line, the verdict of an audit. Where a stream's file fails, some of the output may stand in front of the line that names it.
@@ -24,22 +25,6 @@ pub data End : Type 0 where
   StreamTooLong : End
   StreamFailed : (name output : List ℕ) → End
 
--- the exit status of an audit with this verdict: the traces are confirmed, a line of theirs is refused, or something was found
-abbrev pub verdict_status : Verdict → ℕ
-verdict_status (Confirmed count) = 0
-verdict_status (BadLine number) = 5
-verdict_status (Gap position) = 6
-verdict_status (Repeat position) = 6
-verdict_status (Differs position kept wanted) = 6
-
--- the line of a verdict
-abbrev pub verdict_line : Verdict → List ℕ
-verdict_line (Confirmed count) = confirmed count
-verdict_line (BadLine number) = trace_line_refused number
-verdict_line (Gap position) = gap_at position
-verdict_line (Repeat position) = repeat_at position
-verdict_line (Differs position kept wanted) = differs_at position kept wanted
-
 -- the exit status
 abbrev pub status_of : End → ℕ
 status_of (Done output) = 0
@@ -55,10 +40,6 @@ status_of (Audited verdict) = verdict_status verdict
 status_of TraceTooLong = 5
 status_of StreamTooLong = 5
 status_of (StreamFailed name output) = 3
-
--- the status of every end whose text could not be written
-abbrev pub unwritten_status : ℕ
-unwritten_status = 7
 
 -- all that is appended to the output
 abbrev pub end_text : End → List ℕ

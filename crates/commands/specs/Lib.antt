@@ -1,3 +1,5 @@
+pub mod Rows
+pub mod Command
 pub mod World
 pub mod Lines
 pub mod End
@@ -10,6 +12,7 @@ pub mod Drill
 pub mod Traces
 pub mod Stream
 pub mod Run
+pub mod RowRun
 pub mod Serve
 pub mod Program
 pub mod Asked
@@ -19,8 +22,4 @@ pub mod Statuses
 pub mod ProgramStatuses
 pub mod ServiceStatuses
 pub mod ServedWhole
-pub mod StopInside
 pub mod AuditInside
-pub mod DrillInside
-pub mod StreamInside
-pub mod ServeInside

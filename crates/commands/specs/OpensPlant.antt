@@ -1,20 +1,11 @@
 -- What a plant's word leads to: a plant, or the end of the run.
-use Rattle.std.specs.Prelude.{◌≡◌, ℕ, ◌≤◌, Bool, bytes_eq, if◌then◌else◌, MatchBool, List, [], ◌∷◌, ◌++◌, length, codes, Option, None, Some, Result, Ok, Err}
-use Rattle.ctl_io.specs.Held.{Held, IfHeld, IsLonger, MayBeHere, MayBeMissing}
-use Rattle.plant_file.specs.declared.fault.PlantFault.{PlantFault}
+use Rattle.std.specs.Prelude.{◌≡◌, ℕ, ◌+◌, bytes_eq, if◌then◌else◌, MatchBool, List, [], ◌∷◌, ◌++◌, Option, None, Some, Result, Ok, Err}
+use Rattle.ctl_io.specs.Held.{Held, IsLonger, MayBeHere, MayBeMissing}
 use Rattle.plant_config.specs.Plant.{PlantData}
 use Rattle.plant_config.specs.Bench.{bench}
-use Rattle.plant_config.specs.PlantOfText.{plant_of_text}
-use Rattle.command_words.specs.Words.{Command, plant_word, other_files}
+use Rattle.commands.specs.Command.{Command, plant_word, other_files}
+pub use Rattle.command_rows.specs.OpensPlant.{longest_plant, Reads, is_bench}
 use Rattle.commands.specs.End.{End, NoMemory, FileMissing, FileFault, PlantRefused, PlantTooLong}
-
--- the most bytes of a plant file, 4 MiB
-abbrev pub longest_plant : ℕ
-longest_plant = 4194304
-
--- There is a plant file, it isn't too long, and by its text there is this plant, or this fault.
-abbrev pub Reads : Held → Result PlantData PlantFault → Type 0
-Reads held read = IfHeld held (λ text. (length text ≤ longest_plant) × (plant_of_text text ≡ read))
 
 -- The plant file of this name, of which the files hold this, leads to a plant or to an end. That the files had a fault shows
 -- in their count, for every command alike.
@@ -33,10 +24,6 @@ OpensBench (Ok plant) = plant ≡ bench
 OpensBench (Err NoMemory) = Unit {0}
 OpensBench (Err other) = ⊥
 
--- whether a plant's word is that of the bench plant, for which no file is opened
-abbrev pub is_bench : List ℕ → Bool
-is_bench word = bytes_eq word (codes "bench")
-
 -- A plant's word leads to a plant or to an end, where the files hold this of its first opening.
 abbrev pub OpensPlant : List ℕ → Held → Result PlantData End → Type 0
 OpensPlant word held opened =
@@ -51,6 +38,12 @@ ThenEnds Next (Err stopped) end = end ≡ stopped
 -- own name, and the first of every other
 abbrev pub next_opening : List ℕ → List ℕ → ℕ
 next_opening word name = if is_bench word then 0 else (if bytes_eq word name then 1 else 0)
+
+-- Once a plant's word has led to a plant, each opening of a name finds this.
+abbrev pub AreNext : List ℕ → (List ℕ → ℕ → Held) → (List ℕ → ℕ → Held)
+    → Type 0
+AreNext word before now = (name : List ℕ) (opening : ℕ)
+    → now name opening ≡ before name (next_opening word name + opening)
 
 -- the names of the files that are opened for a plant's word: that of the plant file, but none for the bench plant
 abbrev pub opened_for : List ℕ → List (List ℕ)

@@ -15,7 +15,7 @@ use Rattle.trace_audit.specs.declared.verdict.Verdict.TheVariants.{Confirmed, Ba
 use Rattle.commands.specs.World.{World, Snapshot, snapshot, FilesUntouched}
 use Rattle.commands.specs.Lines.{no_memory, file_missing, file_fault, plant_refused, plant_too_long, line_refused, script_too_long, trace_too_long, stream_too_long}
 use Rattle.commands.specs.End.{StreamFailed, verdict_line}
-use Rattle.command_words.specs.Words.{Command, Stream, Ask}
+use Rattle.commands.specs.Command.{Command, Stream, Ask}
 use Rattle.commands.specs.OpensPlant.{longest_plant, Reads, files_of}
 use Rattle.commands.specs.Check.{check_text}
 use Rattle.commands.specs.Replay.{longest_script}

@@ -1,9 +1,9 @@
 -- How a run of the whole program ends: with the drill or the service that the words ask for, or else as a quiet run does.
 use Rattle.std.specs.Prelude.{◌≡◌, ◌⊎◌, ℕ, List}
 use Rattle.panel_server.specs.PlantServed.{NetData}
-use Rattle.command_words.specs.declared.drill_words.Drill.{Drill}
+use Rattle.commands.specs.Command.{Drill}
 use Rattle.commands.specs.World.{World, snapshot, FilesUntouched}
-use Rattle.command_words.specs.Words.{Service, AskDrill, AskNoDrill, AskService, AskNoService}
+use Rattle.commands.specs.Command.{Service, AskDrill, AskNoDrill, AskService, AskNoService}
 use Rattle.commands.specs.End.{End, status_of, end_text}
 use Rattle.commands.specs.Drill.{DrillEnds}
 use Rattle.commands.specs.Serve.{ServeEnd, ServiceEnds, serve_status, serve_text}

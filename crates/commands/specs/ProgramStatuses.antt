@@ -4,9 +4,9 @@ use Rattle.ctl_io.specs.Faults.{Rose, one_more}
 use Rattle.ctl_io.specs.Sink.{appended}
 use Rattle.plant_config.specs.Plant.{PlantData}
 use Rattle.panel_server.specs.PlantServed.{NetData}
-use Rattle.command_words.specs.declared.drill_words.Drill.{Drill}
+use Rattle.commands.specs.Command.{Drill}
 use Rattle.commands.specs.World.{World, snapshot, FilesUntouched}
-use Rattle.command_words.specs.Words.{Service, HasNoForm, AskDrill, AskNoDrill, AskService, AskNoService}
+use Rattle.commands.specs.Command.{Service, HasNoForm, AskDrill, AskNoDrill, AskService, AskNoService}
 use Rattle.commands.specs.Lines.{net_fault, no_memory, served_lines, usage}
 use Rattle.commands.specs.Drill.{drill_text, IsTraceOf}
 use Rattle.commands.specs.Run.{RunEnds}

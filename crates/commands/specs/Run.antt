@@ -5,10 +5,11 @@ use Rattle.ctl_io.specs.Sink.{appended, AppendsPart}
 use Rattle.ctl_io.specs.Held.{OtherOpeningsStay}
 use Rattle.ctl_io.specs.WholeFile.{FileReading, Well, Missing, Failed, reading_failed, AfterReading, IsGivenBack}
 use Rattle.plant_config.specs.Plant.{PlantData}
+pub use Rattle.command_rows.specs.ReadsFile.{ReadsFile}
 use Rattle.commands.specs.World.{World, Snapshot, snapshot, FilesUntouched}
 use Rattle.commands.specs.Lines.{no_memory}
 use Rattle.commands.specs.End.{End, NoMemory, Usage, FileMissing, FileFault, status_of, unwritten_status, end_text, is_file_fault}
-use Rattle.command_words.specs.Words.{Command, Check, Replay, Audit, Stream, Monitor, plant_word, other_files, Ask, AskCommand, HasNoForm}
+use Rattle.commands.specs.Command.{Command, Check, Replay, Audit, Stream, Monitor, plant_word, other_files, Ask, AskCommand, HasNoForm}
 use Rattle.commands.specs.OpensPlant.{OpensPlant, ThenEnds, next_opening, opened_for, plant_files}
 use Rattle.commands.specs.Check.{CheckEnds}
 use Rattle.commands.specs.Replay.{ReplayEnds, UnreadEnds}
@@ -38,14 +39,6 @@ CommandEnds (Stream word name made) before end =
     × OpensPlant word (before.held word 0) opened
     × ThenEnds (λ plant. UnreadEnds name (before.held name (next_opening word name))) opened end
 CommandEnds (Monitor name) before end = MonitorEnds name (before.held name 0) end
-
--- The file of this name was read so, and what the files hold of other names stays.
-pub record ReadsFile (reading : FileReading) (name : List ℕ) (before now : Snapshot)
-    : Type 0 where
-  pub openings : AfterReading reading (before.held name) (now.held name)
-  pub others : OtherOpeningsStay name before.held now.held
-  pub given_back : IsGivenBack reading name before.custody now.custody
-  pub faults : now.faults ≡ count_after (reading_failed reading) before.faults
 
 -- The files of these names were read one after the other, in order, and all was well.
 abbrev pub ReadsWell : List (List ℕ) → Snapshot → Snapshot → Type 0

@@ -11,21 +11,14 @@ use Rattle.panel_server.specs.Workers.{trace_of}
 use Rattle.panel_server.specs.declared.plant.PlantDone.{PlantDone}
 use Rattle.panel_server.specs.declared.plant.ServeFault.{ServeFault}
 use Rattle.panel_server.specs.declared.plant.ServeFault.TheVariants as faults
+pub use Rattle.command_serve.specs.Serve.{Telling, AllWell, TraceFailed, NetFailed, LimitsMet, counted_telling, telling_of, name_at, IsNewTrace, HaveNames, AreThoseOf, NeverFail}
 use Rattle.commands.specs.World.{Snapshot}
-use Rattle.command_words.specs.Words.{Service}
+use Rattle.commands.specs.Command.{Service}
 use Rattle.commands.specs.Lines.{file_fault, net_fault, limits_met, served_lines}
 use Rattle.commands.specs.End.{End, NoMemory, FileFault, status_of, end_text}
 use Rattle.commands.specs.OpensPlant.{OpensPlant, opened_for}
 use Rattle.commands.specs.Run.{ReadsWell, LeavesOpened}
 use Rattle.commands.specs.Traces.{names_for, MakesFiles, FailsAt, TakesAllBack}
-
--- What is told of a plant that was served: all was well; a write of a trace failed, and the first of which that is so has this
--- name; the net had faults; or a session, or the worker of the displays, ended by a limit.
-pub data Telling : Type 0 where
-  AllWell : Telling
-  TraceFailed : (name : List ℕ) → Telling
-  NetFailed : Telling
-  LimitsMet : Telling
 
 -- An end: no plant was served, and this is why, as other commands end; the net refused an opening; or the plant was served, with
 -- so many sessions and so many entries of its history, and this is told of it.
@@ -59,49 +52,12 @@ serve_text NetRefused = net_fault
 serve_text (Served sessions entries telling) =
     served_lines sessions entries ++ telling_line telling
 
--- what is told by these numbers of faults of the net and of limits that were met: the net comes first
-abbrev pub counted_telling : ℕ → ℕ → Telling
-counted_telling net_faults limits =
-    if nat_lt 0 net_faults then NetFailed else (if nat_lt 0 limits then LimitsMet else AllWell)
-
--- what is told where a trace of this name failed, or none did: the trace comes first
-abbrev pub telling_of : Option (List ℕ) → ℕ → ℕ → Telling
-telling_of (Some name) net_faults limits = TraceFailed name
-telling_of None net_faults limits = counted_telling net_faults limits
-
--- the name at a place, if there is one
-abbrev pub name_at : List (List ℕ) → Option ℕ → Option (List ℕ)
-name_at names None = None
-name_at names (Some place) = slice_get names place
-
 -- the end of a plant that was to be served with traces of these names, by the answer
 abbrev pub answered_end : List (List ℕ) → Result PlantDone ServeFault → ServeEnd
 answered_end names (Ok done) = Served done.sessions done.entries
     (telling_of (name_at names done.failed_trace) done.net_faults done.limits)
 answered_end names (Err faults.NoMemory) = Unserved NoMemory
 answered_end names (Err faults.NetFault) = NetRefused
-
--- A trace is new: nothing was written to it, where that is shown, and no write of it failed.
-pub record IsNewTrace (trace : TraceData) : Type 0 where
-  pub unwritten : IsUnwritten trace.written
-  pub no_faults : trace.faults ≡ 0
-
--- Sinks are named so, one each, in order, where they show their names.
-abbrev pub HaveNames : List (List ℕ) → List (Option (List ℕ)) → Type 0
-HaveNames [] [] = Unit {0}
-HaveNames (name ∷ names) (shown ∷ others) = IsNamed name shown × HaveNames names others
-HaveNames [] (shown ∷ others) = ⊥
-HaveNames (name ∷ names) [] = ⊥
-
--- The sinks that were given back are those of these traces, where traces were to be kept, and else there are none.
-abbrev pub AreThoseOf : Option (List ℕ) → List TraceData → List SinkEnd → Type 0
-AreThoseOf None traces back = back ≡ []
-AreThoseOf (Some prefix) traces back = map trace_of back ≡ traces
-
--- Traces that are kept nowhere never fail: where there is no prefix, no write of one has failed.
-abbrev pub NeverFail : Option (List ℕ) → List TraceData → Type 0
-NeverFail None traces = All (λ trace. trace.faults ≡ 0) traces
-NeverFail (Some prefix) traces = Unit {0}
 
 -- There was no memory for what serving takes, before any trace was made.
 abbrev pub EndsUnready : Snapshot → Snapshot → ServeEnd → Type 0

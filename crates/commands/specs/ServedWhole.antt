@@ -23,7 +23,7 @@ use Rattle.panel_server.specs.PanelServed.{LinkServed}
 use Rattle.panel_server.specs.PlantServed.{NetData, PanelRun, PlantServed, ShareLines}
 use Rattle.panel_server.specs.declared.displays.DriverEnd.TheVariants.{Finished}
 use Rattle.commands.specs.World.{World, Snapshot, snapshot}
-use Rattle.command_words.specs.Words.{Service, AskService}
+use Rattle.commands.specs.Command.{Service, AskService}
 use Rattle.commands.specs.Lines.{served_lines}
 use Rattle.commands.specs.Traces.{names_for, TakesAllBack}
 use Rattle.commands.specs.Serve.{AreThoseOf, HaveNames, IsNewTrace}

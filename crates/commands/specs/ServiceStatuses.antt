@@ -10,7 +10,7 @@ use Rattle.panel_session.specs.Served.{TraceData}
 use Rattle.panel_server.specs.PlantServed.{NetData, IsServed}
 use Rattle.panel_server.specs.declared.plant.PlantDone.{PlantDone}
 use Rattle.commands.specs.World.{World}
-use Rattle.command_words.specs.Words.{Service, AskService}
+use Rattle.commands.specs.Command.{Service, AskService}
 use Rattle.commands.specs.Lines.{no_memory, file_missing, file_fault, plant_refused, plant_too_long}
 use Rattle.commands.specs.OpensPlant.{longest_plant, is_bench, Reads}
 use Rattle.commands.specs.Traces.{names_for}

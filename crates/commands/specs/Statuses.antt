@@ -10,7 +10,7 @@ use Rattle.trace_audit.specs.Verdict.{IsVerdict}
 use Rattle.commands.specs.World.{World, FilesUntouched}
 use Rattle.commands.specs.Lines.{usage}
 use Rattle.commands.specs.End.{verdict_status}
-use Rattle.command_words.specs.Words.{Check, Stream, Monitor, Ask, HasNoForm}
+use Rattle.commands.specs.Command.{Check, Stream, Monitor, Ask, HasNoForm}
 use Rattle.commands.specs.Audit.{longest_traces, TraceFile, total_length, all_lines, HoldTexts}
 use Rattle.commands.specs.Monitor.{longest_stream}
 use Rattle.commands.specs.Asked.{AskFile, AskHeld, AskTraces, ShowsPlant, NamesFile}

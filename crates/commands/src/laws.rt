@@ -1,5 +1,6 @@
 //! What the exit statuses tell of a run, each as a law over the ends of runs.
 
+ghost use Rattle.commands.specs.RowRun.{RowsEndRuns};
 ghost use Rattle.commands.specs.Statuses.{StatusesAreKnown, ZeroHasDone, OneRanOutOfMemory};
 ghost use Rattle.commands.specs.Statuses.{ReplaysShowHistories};
 ghost use Rattle.commands.specs.Statuses.{TwoHasNoForm, TwoTellsUsage, NoFormEndsWithTwo};
@@ -19,6 +20,11 @@ ghost use Rattle.commands.specs.Statuses.{FileFaultsStay, FileFaultsRiseOnce};
 
 use plant_rules::a_plant_file_is_right;
 use record_replay::{lines_answer_items, one_history};
+
+/// What ends by the row of a command ends as the laws on statuses say.
+pub fn rows_end()
+    ensures { RowsEndRuns }
+{}
 
 /// No other status is answered.
 pub fn statuses()

@@ -3,31 +3,19 @@
 //! files, gate and output. What the exit statuses tell are the laws of `laws`, `program_laws` and `service_laws`.
 #![tactic(auto)]
 
-mod audit;
-mod check;
-mod drill_command;
-mod file_port;
 mod laws;
-mod monitor;
-mod parts;
-mod plant;
 mod program;
 mod program_laws;
 mod quiet;
-mod replay;
-mod serve;
+mod rows;
 mod service_laws;
-mod stop;
-mod stream;
-mod told;
-mod trace_files;
-mod verdict;
 
 pub use laws::{
-    done, file_refused, files_stay, history_shown, output_fault, plant_refused, script_refused,
-    statuses, traces_audited, usage_told,
+    done, file_refused, files_stay, history_shown, output_fault, plant_refused, rows_end,
+    script_refused, statuses, traces_audited, usage_told,
 };
 pub use program::{end_without_memory, run};
 pub use program_laws::{drilled, limits_met, net_failed, program_output, program_usage, served};
 pub use quiet::run_quiet;
+pub use rows::{Verb, quiet_command, usage, waiting_command};
 pub use service_laws::{served_whole, services_have_causes};

@@ -5,11 +5,11 @@ ghost use Rattle.command_words.specs.Words.{texts};
 ghost use Rattle.commands.specs.Run.{EndsUnworded};
 ghost use Rattle.commands.specs.Program.{ProgramEnds};
 
-use crate::drill_command::work_drill;
 use crate::quiet::run_quiet;
-use crate::serve::work_service;
-use crate::stop::{Stop, report};
-use command_words::{read_drill, read_service};
+use crate::rows::{Verb, waiting_command};
+use command_drill::drill;
+use command_rows::Stop;
+use command_serve::serve;
 use ctl_io::{Files, Sink};
 use ctl_net::{Gate, Net};
 use std::alloc::Global;
@@ -18,7 +18,8 @@ use std::thread::Threads;
 
 /// Does what the words ask, and answers the exit status.
 ///
-/// The words have seven forms: the five of `run_quiet`, to which it hands what these ask, and two more.
+/// The words ask for a command of the table: a quiet one, as of `run_quiet`, to which it hands what these ask, or one that waits
+/// for others.
 /// `drill NUMBER PANELS MESSAGES` works the drill of a number from 0 to 4294967295, with 1 to 16 panels and up to 200,000
 /// messages, at least one for each panel, and says what it came to. `serve PLANT [PREFIX]` serves the panels and the displays
 /// of a plant over the net until all panels had their sessions, and says how many sessions and entries of the history there
@@ -39,15 +40,18 @@ pub fn run<R: Threads + Wait + Sync, F: Files, N: Net, G: Gate, K: Sink>(
         (N.shows net.old) (N.shows net.new)
         result }
 {
-    if let Some(drill) = read_drill(words) {
-        let worked = work_drill(rt, alloc, &drill, gate, out);
-        return report(out, worked).number();
-    }
-    let Some(service) = read_service(words) else {
+    let Some(asked) = waiting_command(words) else {
         return run_quiet(alloc, words, files, out);
     };
-    let served = work_service(rt, alloc, &service, files, net, gate, out);
-    report(out, served).number()
+    match asked.verb {
+        Verb::Drill => drill(rt, alloc, asked.behind, gate, out).number(),
+        Verb::Serve => serve(rt, alloc, asked.behind, files, net, gate, out).number(),
+        Verb::Check => unreachable!(),
+        Verb::Replay => unreachable!(),
+        Verb::Audit => unreachable!(),
+        Verb::Stream => unreachable!(),
+        Verb::Monitor => unreachable!(),
+    }
 }
 
 /// Ends a run for whose words there is no memory: appends the line that says so, and answers the exit status. That is 1, or
@@ -56,5 +60,5 @@ pub fn end_without_memory<K: Sink>(out: &mut K) -> u8
     ensures { EndsUnworded result
         (K.written out.old) (K.written out.new) (K.faults out.old) (K.faults out.new) }
 {
-    report(out, Err(Stop::NoMemory)).number()
+    Stop::NoMemory.report(out).number()
 }

@@ -1,25 +1,28 @@
-//! A use of `command_words`: the words of a run are read.
+//! A use of `command_words`: words are read over a table of one command.
 
-use command_words::{Command, Drill, read_drill, read_words};
+use command_words::{Last, Line, Low, Part, read_waiting};
 use std::alloc::{AllocError, Global};
 use std::test::Fail;
+
+const LINES: &[Line<u8>] = &[Line {
+    verb: 1,
+    name: "count",
+    parts: &[Part::Number(Low::AtLeast(1), 16)],
+    last: Last::NoMore,
+    words: &["NUMBER"],
+    is_quiet: false,
+}];
 
 #[test]
 fn words_are_read(rt: HostRuntime) -> Result<(), Fail> {
     let alloc = rt.alloc();
-    let words = texts(alloc, &["check", "bench"])?;
-    let check = Command::Check { plant: "bench" };
-    assert_eq!(rt; read_words(alloc, &words)?, Some(check));
-    assert_eq!(rt; read_drill(&words), None);
-
-    let words = texts(alloc, &["drill", "7", "8", "100000"])?;
-    let drill = Drill {
-        number: 7,
-        panels: 8,
-        messages: 100_000,
-    };
-    assert_eq!(rt; read_words(alloc, &words)?, None);
-    assert_eq!(rt; read_drill(&words), Some(drill));
+    let asked = texts(alloc, &["count", "7"])?;
+    assert_eq!(rt;
+        read_waiting(LINES, &asked).map(|asked| asked.verb),
+        Some(1)
+    );
+    let more = texts(alloc, &["count", "17"])?;
+    assert_eq!(rt; read_waiting(LINES, &more).map(|asked| asked.verb), None);
     Ok(())
 }
 

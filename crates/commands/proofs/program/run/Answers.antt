@@ -1,38 +1,35 @@
-use Rattle.std.proofs.Common.{inl, inr, refl}
+use Rattle.std.proofs.Common.{false}
+use Rattle.command_words.specs.Words.{texts}
+use Rattle.command_rows.specs.StopInside.{number_of}
+use Rattle.commands.specs.declared.rows.Verb.TheVariants as verbs
 use Rattle.commands.specs.World.{world}
-use Rattle.command_words.specs.Read.{service_of}
-use Rattle.commands.specs.StopInside.{number_of}
-use Rattle.commands.proofs.ProgramLemmas.{drill_ends, not_read}
-use Rattle.commands.proofs.ServeLemmas.{service-ends}
+use Rattle.commands.proofs.RowServeLemmas.{by_drill, by_none, by_service, say_this}
 use Rattle.commands.proofs.program.run.Goals as goal
 
-pub returns-in-Some : goal.returns-in-Some
-returns-in-Some g c =
-    let mid = world g.F.Files.shows g.K.Sink.written g.K.Sink.faults c.args.files.now c.work_drill-worked.new.out in
+pub returns-in_default : goal.returns-in_default
+returns-in_default g c =
+    let shown = world g.F.Files.shows g.K.Sink.written g.K.Sink.faults in
+    by_none g.N.P.DisplayPort.was_sent g.N.P.DisplayPort.faults (texts c.args.words.now) (shown c.args.files.now c.args.out.now)
+    (shown c.run_quiet.new.files c.run_quiet.new.out) (g.N.Net.shows c.args.net.now) c.run_quiet.result c.in_default.ensures c.run_quiet.ensures.ends
+
+pub drill-requires-after_bounds : goal.drill-requires-after_bounds
+drill-requires-after_bounds g c κs within = say_this false (texts c.args.words.now) c.in-Some.asked.verb verbs.Drill (texts c.in-Some.asked.behind.now) c.in-Drill.is c.in-Some.ensures
+
+pub serve-requires-after_bounds : goal.serve-requires-after_bounds
+serve-requires-after_bounds g c κs within = say_this false (texts c.args.words.now) c.in-Some.asked.verb verbs.Serve (texts c.in-Some.asked.behind.now) c.in-Serve.is c.in-Some.ensures
+
+pub returns-in-Drill : goal.returns-in-Drill
+returns-in-Drill g c =
+    let shown = world g.F.Files.shows g.K.Sink.written g.K.Sink.faults in
     rw c.number.ensures
-    (inl (
-      c.in-Some.drill,
-      c.in-Some.ensures.found,
-      drill_ends c.work_drill-worked.result c.in-Some.drill _ mid _ (number_of c.report.result) c.work_drill-worked.ensures.ends c.work_drill-worked.ensures.output_count c.report.ensures refl,
-      refl,
-    ))
+    (by_drill g.N.P.DisplayPort.was_sent g.N.P.DisplayPort.faults (texts c.args.words.now) (texts c.in-Some.asked.behind.now) c.in-Some.asked.verb
+    (shown c.args.files.now c.args.out.now) (shown c.args.files.now c.drill.new.out) (g.N.Net.shows c.args.net.now) (number_of c.drill.result) c.in-Some.ensures c.in-Drill.is
+    (c.drill.ensures (g.F.Files.shows c.args.files.now)))
 
-pub returns-in_default-read_service : goal.returns-in_default-read_service
-returns-in_default-read_service g c =
-    inr (inr (
-      λ drill ask. c.in_default.not-Some drill (c.read_drill.ensures.only drill ask),
-      λ service ask. not_read c.read_service.result service c.in_default-read_service.not-Some (c.read_service.ensures.only service ask),
-      c.run_quiet.ensures,
-      refl,
-    ))
-
-pub returns : goal.returns
-returns g c =
-    let mid = world g.F.Files.shows g.K.Sink.written g.K.Sink.faults c.work_service-served.new.files c.work_service-served.new.out in
-    rw c.number-2.ensures
-    (inr (inl (
-      service_of c.in-Some-read_service.service,
-      c.in-Some-read_service.ensures.found,
-      service-ends g.N.P.DisplayPort.was_sent g.N.P.DisplayPort.faults c.work_service-served.result (service_of c.in-Some-read_service.service) _ mid _ _ _ (number_of c.report-2.result)
-          c.work_service-served.ensures.ends c.work_service-served.ensures.output_count c.report-2.ensures,
-    )))
+pub returns-in-Serve : goal.returns-in-Serve
+returns-in-Serve g c =
+    let shown = world g.F.Files.shows g.K.Sink.written g.K.Sink.faults in
+    rw c.number-in-Serve.ensures
+    (by_service g.N.P.DisplayPort.was_sent g.N.P.DisplayPort.faults (texts c.args.words.now) (texts c.in-Some.asked.behind.now) c.in-Some.asked.verb
+    (shown c.args.files.now c.args.out.now) (shown c.serve.new.files c.serve.new.out) (g.N.Net.shows c.args.net.now) (g.N.Net.shows c.serve.new.net) (number_of c.serve.result)
+    c.in-Some.ensures c.in-Serve.is c.serve.ensures)

@@ -1,6 +1,10 @@
-use Rattle.commands.specs.StopInside.{number_of}
-use Rattle.commands.proofs.StopLemmas.{run_ends}
+use Rattle.command_words.specs.Words.{texts}
+use Rattle.command_rows.specs.StopInside.{number_of}
+use Rattle.commands.proofs.RowRunLemmas.{quiet_ends}
 use Rattle.commands.proofs.quiet.run_quiet.Goals as goal
 
-pub returns : goal.returns
-returns g c = rw c.number.ensures (run_ends c.carry_out-ended.result _ _ _ (number_of c.report.result) _ _ c.carry_out-ended.ensures c.report.ensures)
+pub returns-clause-rows : goal.returns-clause-rows
+returns-clause-rows g c = rw c.number.ensures c.run_by_row.ensures
+
+pub returns-clause-ends : goal.returns-clause-ends
+returns-clause-ends g c = rw c.number.ensures (quiet_ends (texts c.args.words.now) _ _ (number_of c.run_by_row.result) c.run_by_row.ensures)

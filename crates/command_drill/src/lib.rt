@@ -1,0 +1,9 @@
+//! The command `drill` of `plantctl`: panels made from a number alone share a plant, and its history is audited. What it
+//! promises stands in `specs/Drill.antt`, and what it shares with other commands in `command_rows`.
+#![tactic(auto)]
+
+mod asked;
+mod row;
+mod text;
+
+pub use row::drill;

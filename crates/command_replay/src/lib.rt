@@ -1,0 +1,7 @@
+//! The command `replay` of `plantctl`: it replays a script on a plant. What it promises stands in `specs/Replay.antt`, and
+//! what it shares with other commands in `command_rows`.
+#![tactic(auto)]
+
+mod row;
+
+pub use row::replay;

@@ -1,0 +1,11 @@
+pub mod Lines
+pub mod Moment
+pub mod End
+pub mod ReadsFile
+pub mod OpensPlant
+pub mod MadeFile
+pub mod Kinds
+pub mod Opener
+pub mod OpenerLaws
+pub mod Row
+pub mod StopInside

@@ -1,0 +1,2 @@
+pub mod TraceSinkLemmas
+pub mod ServeLemmas

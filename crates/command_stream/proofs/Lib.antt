@@ -1,0 +1,2 @@
+pub mod StreamPortLemmas
+pub mod StreamLemmas
