@@ -7,6 +7,7 @@ mod of_history_lock;
 mod of_line_text;
 mod of_matrix_driver;
 mod of_number_tables;
+mod of_state_store;
 mod of_swp08_messages;
 mod of_tap_lists;
 mod of_told_value;
