@@ -153,7 +153,8 @@ fn files_of(alloc: Global, files: &[File<'_>], failing: Failing) -> Result<MemFi
         sources.push(source_of(alloc, name, text, read)?)?;
     }
     let openings = vec![in alloc; failing.opening]?;
-    MemFiles::new(alloc, sources, Vec::new(alloc), files.len(), openings)
+    let (sinks, disks) = (Vec::new(alloc), Vec::new(alloc));
+    MemFiles::new(alloc, sources, sinks, disks, files.len(), openings, 0, 0, 0)
 }
 
 // A source of this name and text, of which a read fails.

@@ -1,15 +1,17 @@
 -- What stands outside of the program.
 use Rattle.std.specs.Prelude.{◌≡◌, ℕ, List, Option}
-use Rattle.ctl_io.specs.Held.{Held}
+use Rattle.ctl_io.specs.DiskPast.{DiskPast}
+use Rattle.ctl_io.specs.Held.{Held, HeldOf}
 use Rattle.ctl_io.specs.Custody.{FilesCustody}
 pub use Rattle.ctl_io.specs.Files.{FilesData as Snapshot}
 use Rattle.ctl_io.specs.Files.{FilesData}
 
--- What stands outside at a moment: what the files hold of each name, for each of its openings from then on, what they
--- handed out and took back, how often they have failed, what was written to the output, where that shows it, and how
+-- What stands outside at a moment: what the files hold of each name, as a source and as a disk, for each of its openings from then
+-- on, what they handed out and took back, how often they have failed, what was written to the output, where that shows it, and how
 -- often a write has failed.
 pub record World : Type 0 where
   pub held : List ℕ → ℕ → Held
+  pub disks : List ℕ → ℕ → HeldOf DiskPast
   pub custody : FilesCustody
   pub file_faults : ℕ
   pub written : Option (List ℕ)
@@ -21,6 +23,7 @@ abbrev pub world : {F K : Type 0} → (F → FilesData) → (K → Option (List 
     → F → K → World
 world shows written output_faults files out = record {
   held = (shows files).held;
+  disks = (shows files).disks;
   custody = (shows files).custody;
   file_faults = (shows files).faults;
   written = written out;
@@ -29,8 +32,12 @@ world shows written output_faults files out = record {
 
 -- what the files of a world show
 abbrev pub snapshot : World → FilesData
-snapshot world =
-    record { held = world.held; custody = world.custody; faults = world.file_faults }
+snapshot world = record {
+  held = world.held;
+  disks = world.disks;
+  custody = world.custody;
+  faults = world.file_faults;
+}
 
 -- The files stand as they did: what they hold, what they handed out and took back, and how often they have failed.
 abbrev pub FilesUntouched : World → World → Type 0

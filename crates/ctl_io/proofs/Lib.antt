@@ -3,6 +3,7 @@ pub mod FaultsLemmas
 pub mod MemDiskCalls
 pub mod MemDiskLaws
 pub mod MemDiskLemmas
+pub mod MemDisksLemmas
 pub mod MemFilesLemmas
 pub mod SinkLemmas
 pub mod SourceLemmas

@@ -5,7 +5,8 @@ use Rattle.std.specs.List.{AllByRecursion}
 use Rattle.ctl_io.specs.Calls.{Calls, next_fails, called}
 use Rattle.ctl_io.specs.Disk.{overlaid}
 use Rattle.ctl_io.specs.declared.disk.Did.TheVariants.{Done, Failed}
-use Rattle.ctl_io.specs.MemDisk.{DiskWrite, DiskEvent, Stored, after_pending, after_sync, after_event, stored_after, DiskState, has_room, fails_when, disk_answer, recorded_when}
+use Rattle.ctl_io.specs.DiskPast.{DiskWrite, DiskEvent, Stored, after_pending, after_sync, after_event, stored_after}
+use Rattle.ctl_io.specs.MemDisk.{DiskState, has_room, fails_when, disk_answer, recorded_when}
 use Rattle.ctl_io.specs.MemDiskInside.{event_of, events_on, stored_in, CallIsBelow, Agrees, IsKept, disk_state}
 use Rattle.ctl_io.specs.declared.memory.disk_call.WriteSpan.{WriteSpan}
 use Rattle.ctl_io.specs.declared.memory.disk_call.DiskCall.{DiskCall}

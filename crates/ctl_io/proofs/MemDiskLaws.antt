@@ -6,7 +6,8 @@ use Rattle.ctl_io.specs.Disk.{did_fail, Torn}
 use Rattle.ctl_io.specs.Crash.{Follows, LeavesNoMore, LeavesShown, Elapses}
 use Rattle.ctl_io.specs.declared.disk.Did.{Did}
 use Rattle.ctl_io.specs.declared.disk.Did.TheVariants.{Done, Failed}
-use Rattle.ctl_io.specs.MemDisk.{DiskWrite, DiskEvent, WasRead, WasWritten, WasSynced, Stored, written_to, WritesReach, MayLeave, LeftSince, DiskState, stored_by, has_room, fails_when, recorded_when, disk_answer, after_disk_read, after_disk_write, after_disk_sync}
+use Rattle.ctl_io.specs.DiskPast.{DiskWrite, DiskEvent, WasRead, WasWritten, WasSynced, Stored, written_to, WritesReach, MayLeave, LeftSince}
+use Rattle.ctl_io.specs.MemDisk.{DiskState, stored_by, has_room, fails_when, recorded_when, disk_answer, after_disk_read, after_disk_write, after_disk_sync}
 use Rattle.ctl_io.proofs.DiskLemmas.{torn_overlaid, torn_same}
 use Rattle.ctl_io.proofs.MemDiskLemmas.{reaches_push, elapses_event, elapses_same}
 

@@ -4,7 +4,8 @@ use Rattle.std.proofs.lemmas.List.{take_all, take_min, take-map, drop_at, drop-a
 use Rattle.std.specs.List.{AllByRecursion}
 use Rattle.ctl_io.specs.Disk.{overlaid, Torn}
 use Rattle.ctl_io.specs.Crash.{Elapses}
-use Rattle.ctl_io.specs.MemDisk.{DiskWrite, DiskEvent, WasRead, WasWritten, WasSynced, Stored, written_to, after_pending, after_sync, stored_after, WritesReach, MayLeave, LeftSince, torn_last, crashed_at}
+use Rattle.ctl_io.specs.DiskPast.{DiskWrite, DiskEvent, WasRead, WasWritten, WasSynced, Stored, written_to, after_pending, after_sync, stored_after, WritesReach, MayLeave, LeftSince}
+use Rattle.ctl_io.specs.MemDisk.{torn_last, crashed_at}
 use Rattle.ctl_io.specs.MemDiskInside.{write_of, event_of, events_on, IsBelow, CallIsBelow, IsSpan, Agrees}
 use Rattle.ctl_io.specs.declared.memory.disk_call.WriteSpan.{WriteSpan}
 use Rattle.ctl_io.specs.declared.memory.disk_call.DiskCall.{DiskCall}

@@ -3,13 +3,13 @@ use Rattle.std.proofs.Common.{◌≡◌, ◌≢◌, ℕ, ◌+◌, ◌<◌, Bool,
 use Rattle.std.proofs.lemmas.Bool.{cases_Bool}
 use Rattle.std.proofs.lemmas.List.{at_drop_more, get_or_default}
 use Rattle.std.proofs.lemmas.Slice.Eq.{bytes_eq-Decides}
-use Rattle.std.specs.List.{slice_get}
+use Rattle.std.specs.List.{slice_get, AllByRecursion}
 use Rattle.std.specs.Str.{bytes_eq}
 use Rattle.ctl_io.specs.Calls.{next_fails}
 use Rattle.ctl_io.specs.Files.{IfFound, IfMade}
-use Rattle.ctl_io.specs.Held.{NoFile, HasLeft, Stays, AfterFound, IsNamed}
-use Rattle.ctl_io.specs.Memory.{IsNewSource, IsNewSink}
-use Rattle.ctl_io.specs.MemFiles.{FilesState, AreNewSources, AreNewSinks, source_has, sink_has, without_first, is_listed, held_by, held_of, lent_source, source_answer, after_source, lent_sink, sink_answer}
+use Rattle.ctl_io.specs.Held.{NoFile, ShowsHeld, Stays, AfterFound, IsNamed}
+use Rattle.ctl_io.specs.Named.{without_first, is_listed}
+use Rattle.ctl_io.specs.MemFiles.{FilesState, source_has, sink_has, held_by, held_of, lent_source, source_answer, after_source, lent_sink, sink_answer}
 use Rattle.ctl_io.specs.declared.files.Found.{Found}
 use Rattle.ctl_io.specs.declared.files.Found.TheVariants as found
 use Rattle.ctl_io.specs.declared.files.Made.{Made}
@@ -33,26 +33,14 @@ rest_at {A = A} test xs i x in_range is passes =
     ∙ ap (λ (e : A). without_first test (e ∷ drop (i + 1) xs)) (sym is)
     ∙ ap (λ b. cond b (drop (i + 1) xs) (x ∷ without_first test (drop (i + 1) xs))) passes
 
--- of new sources the first of a name is new, and so are the others
-pub new_source : (name : List ℕ) (entries : List NamedSource) → AreNewSources entries → IfSome (find (source_has name) entries) (λ entry. IsNewSource entry.source)
-new_source name [] new = tt
-new_source name (entry ∷ entries) new =
-    elim (bytes_eq entry.name name) as (λ b. IfSome (cond b (Some entry) (find (source_has name) entries)) (λ e. IsNewSource e.source)) [ true ↦ new.0 | false ↦ new_source name entries new.1 ]
+-- of those that all have a fact the first that passes has it, and so have the others
+pub first_has : {A : Type 0} → (P : A → Type 0) (test : A → Bool) (xs : List A) → AllByRecursion P xs → IfSome (find test xs) P
+first_has P test [] all = tt
+first_has P test (x ∷ xs) all = elim (test x) as (λ b. IfSome (cond b (Some x) (find test xs)) P) [ true ↦ all.0 | false ↦ first_has P test xs all.1 ]
 
-pub other_sources : (name : List ℕ) (entries : List NamedSource) → AreNewSources entries → AreNewSources (without_first (source_has name) entries)
-other_sources name [] new = tt
-other_sources name (entry ∷ entries) new =
-    elim (bytes_eq entry.name name) as (λ b. AreNewSources (cond b entries (entry ∷ without_first (source_has name) entries))) [ true ↦ new.1 | false ↦ (new.0, other_sources name entries new.1) ]
-
-pub new_sink : (name : List ℕ) (entries : List NamedSink) → AreNewSinks entries → IfSome (find (sink_has name) entries) (λ entry. IsNewSink entry.sink)
-new_sink name [] new = tt
-new_sink name (entry ∷ entries) new =
-    elim (bytes_eq entry.name name) as (λ b. IfSome (cond b (Some entry) (find (sink_has name) entries)) (λ e. IsNewSink e.sink)) [ true ↦ new.0 | false ↦ new_sink name entries new.1 ]
-
-pub other_sinks : (name : List ℕ) (entries : List NamedSink) → AreNewSinks entries → AreNewSinks (without_first (sink_has name) entries)
-other_sinks name [] new = tt
-other_sinks name (entry ∷ entries) new =
-    elim (bytes_eq entry.name name) as (λ b. AreNewSinks (cond b entries (entry ∷ without_first (sink_has name) entries))) [ true ↦ new.1 | false ↦ (new.0, other_sinks name entries new.1) ]
+pub others_have : {A : Type 0} → (P : A → Type 0) (test : A → Bool) (xs : List A) → AllByRecursion P xs → AllByRecursion P (without_first test xs)
+others_have P test [] all = tt
+others_have P test (x ∷ xs) all = elim (test x) as (λ b. AllByRecursion P (cond b xs (x ∷ without_first test xs))) [ true ↦ all.1 | false ↦ (all.0, others_have P test xs all.1) ]
 
 -- the first that passes is the first of those that pass, and the others are those behind it
 pub find_first : {A : Type 0} → (test : A → Bool) (xs : List A) → find test xs ≡ slice_get (filter test xs) 0
@@ -68,7 +56,7 @@ found_passes test (x ∷ xs) =
       | inr fails ↦ let P : Bool → Type 0 = λ b. IfSome (cond b (Some x) (find test xs)) (λ y. test y ≡ true) in subst P (sym fails) (found_passes test xs)
     ]
 
-filter_rest : {A : Type 0} → (test : A → Bool) (xs : List A) → filter test (without_first test xs) ≡ drop 1 (filter test xs)
+pub filter_rest : {A : Type 0} → (test : A → Bool) (xs : List A) → filter test (without_first test xs) ≡ drop 1 (filter test xs)
 filter_rest test [] = refl
 filter_rest {A = A} test (x ∷ xs) =
     let others : List A = without_first test xs in
@@ -83,7 +71,7 @@ filter_rest {A = A} test (x ∷ xs) =
           ∙ sym (ap (λ b. drop 1 (cond b (x ∷ filter test xs) (filter test xs))) fails)
     ]
 
-filter_others : {A : Type 0} → (test other : A → Bool) (xs : List A) → ((x : A) → test x ≡ true → other x ≡ false) → filter other (without_first test xs) ≡ filter other xs
+pub filter_others : {A : Type 0} → (test other : A → Bool) (xs : List A) → ((x : A) → test x ≡ true → other x ≡ false) → filter other (without_first test xs) ≡ filter other xs
 filter_others test other [] apart = refl
 filter_others {A = A} test other (x ∷ xs) apart =
     let rest : List A = without_first test xs in
@@ -96,15 +84,15 @@ filter_others {A = A} test other (x ∷ xs) apart =
           ∙ ap (λ (ys : List A). cond (other x) (x ∷ ys) ys) (filter_others test other xs apart)
     ]
 
-get_next : {A : Type 0} → (xs : List A) (k : ℕ) → slice_get (drop 1 xs) k ≡ slice_get xs (k + 1)
+pub get_next : {A : Type 0} → (xs : List A) (k : ℕ) → slice_get (drop 1 xs) k ≡ slice_get xs (k + 1)
 get_next [] k = refl
 get_next (x ∷ xs) k = sym (ap (slice_get (x ∷ xs)) (add-one k))
 
--- a source of one name has no other
-other_name : (name other : List ℕ) → other ≢ name → (entry : NamedSource) → source_has name entry ≡ true → source_has other entry ≡ false
-other_name name other apart entry has =
-    elim (cases_Bool (bytes_eq entry.name other)) [
-      | inl same ↦ absurd (apart (sym ((bytes_eq-Decides entry.name other).0 same) ∙ (bytes_eq-Decides entry.name name).0 has))
+-- what has one name has no other
+pub other_name : (its name other : List ℕ) → other ≢ name → bytes_eq its name ≡ true → bytes_eq its other ≡ false
+other_name its name other apart has =
+    elim (cases_Bool (bytes_eq its other)) [
+      | inl same ↦ absurd (apart (sym ((bytes_eq-Decides its other).0 same) ∙ (bytes_eq-Decides its name).0 has))
       | inr differ ↦ differ
     ]
 
@@ -119,7 +107,7 @@ next_held found.Failed name files = λ k. refl
 pub other_held : (answer : Found NamedSource) (name other : List ℕ) (files : FilesState) → other ≢ name → Stays (held_of files other) (held_of (after_source answer name files) other)
 other_held (found.Here entry) name other files apart = λ k.
     ap (λ (xs : List NamedSource). cond (is_listed other files.names) (held_by (slice_get xs k)) NoFile)
-    (filter_others (source_has name) (source_has other) files.waiting (other_name name other apart))
+    (filter_others (source_has name) (source_has other) files.waiting (λ entry has. other_name entry.name name other apart has))
 other_held found.Missing name other files apart = λ k. refl
 other_held found.Failed name other files apart = λ k. refl
 
@@ -128,9 +116,9 @@ lent_first : (objects : ℕ) (first : Option NamedSource) → IfFound (lent_sour
 lent_first objects None = tt
 lent_first objects (Some entry) = elim (objects == 0) as (λ b. IfFound (cond b found.Failed (found.Here entry)) (λ e. Some entry ≡ Some e)) [ true ↦ tt | false ↦ refl ]
 
-lent_held : (name : List ℕ) (entry : NamedSource) (waiting : List NamedSource) → find (source_has name) waiting ≡ Some entry → HasLeft (held_by (slice_get (filter (source_has name) waiting) 0)) (Some entry.source.left) × IsNamed name (Some entry.name)
+lent_held : (name : List ℕ) (entry : NamedSource) (waiting : List NamedSource) → find (source_has name) waiting ≡ Some entry → ShowsHeld (held_by (slice_get (filter (source_has name) waiting) 0)) (Some entry.source.left) × IsNamed name (Some entry.name)
 lent_held name entry waiting is =
-    let P : Option NamedSource → Type 0 = λ first. HasLeft (held_by first) (Some entry.source.left) in
+    let P : Option NamedSource → Type 0 = λ first. ShowsHeld (held_by first) (Some entry.source.left) in
     let Q : Option NamedSource → Type 0 = λ first. IfSome first (λ e. source_has name e ≡ true) in
     (subst P (sym is ∙ find_first (source_has name) waiting) refl, (bytes_eq-Decides entry.name name).0 (subst Q is (found_passes (source_has name) waiting)))
 
@@ -141,9 +129,9 @@ if_found P Q found.Missing fact follows = tt
 if_found P Q found.Failed fact follows = tt
 
 abbrev pub IsLent : FilesState → List ℕ → NamedSource → Type 0
-IsLent files name entry = HasLeft (held_of files name 0) (Some entry.source.left) × IsNamed name (Some entry.name)
+IsLent files name entry = ShowsHeld (held_of files name 0) (Some entry.source.left) × IsNamed name (Some entry.name)
 
-found_by : (name : List ℕ) (waiting : List NamedSource) (objects : ℕ) (fails listed : Bool) → IfFound (cond fails found.Failed (cond listed (lent_source objects (find (source_has name) waiting)) found.Missing)) (λ entry. HasLeft (cond listed (held_by (slice_get (filter (source_has name) waiting) 0)) NoFile) (Some entry.source.left) × IsNamed name (Some entry.name))
+found_by : (name : List ℕ) (waiting : List NamedSource) (objects : ℕ) (fails listed : Bool) → IfFound (cond fails found.Failed (cond listed (lent_source objects (find (source_has name) waiting)) found.Missing)) (λ entry. ShowsHeld (cond listed (held_by (slice_get (filter (source_has name) waiting) 0)) NoFile) (Some entry.source.left) × IsNamed name (Some entry.name))
 found_by name waiting objects true listed = tt
 found_by name waiting objects false false = tt
 found_by name waiting objects false true =

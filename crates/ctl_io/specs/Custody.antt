@@ -1,6 +1,7 @@
 -- What files handed out and took back.
 use Rattle.std.specs.Prelude.{◌≡◌, ℕ, ◌+◌, ◌-◌, List, [], ◌∷◌, ◌++◌, Option, None}
 use Rattle.std.specs.Option.{option_map}
+use Rattle.ctl_io.specs.DiskPast.{DiskPast}
 use Rattle.ctl_io.specs.declared.files.Found.{Found}
 use Rattle.ctl_io.specs.declared.files.Found.TheVariants as found
 use Rattle.ctl_io.specs.declared.files.Made.{Made}
@@ -39,10 +40,17 @@ pub record SinkEnd : Type 0 where
   pub written : Option (List ℕ)
   pub faults : ℕ
 
--- the sources and the sinks of files
+-- what a disk shows when it is given back: the name of its file, its past, and its count of faults
+pub record DiskEnd : Type 0 where
+  pub name : Option (List ℕ)
+  pub past : Option DiskPast
+  pub faults : ℕ
+
+-- the sources, the sinks and the disks of files
 pub record FilesCustody : Type 0 where
   pub sources : Custody SourceEnd
   pub sinks : Custody SinkEnd
+  pub disks : Custody DiskEnd
 
 -- the custody after a source was asked for
 abbrev pub source_lent : {S : Type 0} → Found S → FilesCustody → FilesCustody
@@ -54,7 +62,12 @@ abbrev pub sink_lent : {K : Type 0} → Made K → FilesCustody → FilesCustody
 sink_lent (made.Here sink) custody = record custody { sinks = lent custody.sinks }
 sink_lent made.Failed custody = custody
 
--- a source, or a sink, that shows so much was given back
+-- the custody after a disk was asked for
+abbrev pub disk_lent : {D : Type 0} → Found D → FilesCustody → FilesCustody
+disk_lent (found.Here disk) custody = record custody { disks = lent custody.disks }
+disk_lent other custody = custody
+
+-- a source, a sink, or a disk, that shows so much was given back
 abbrev pub TakesSource : Option (List ℕ) → Option (List ℕ) → ℕ → FilesCustody
     → FilesCustody → Type 0
 TakesSource name left faults before now = now ≡ record before {
@@ -65,4 +78,10 @@ abbrev pub TakesSink : Option (List ℕ) → Option (List ℕ) → ℕ → Files
     → Type 0
 TakesSink name written faults before now = now ≡ record before {
   sinks = returned (record { name = name; written = written; faults = faults }) before.sinks;
+}
+
+abbrev pub TakesDisk : Option (List ℕ) → Option DiskPast → ℕ → FilesCustody → FilesCustody
+    → Type 0
+TakesDisk name past faults before now = now ≡ record before {
+  disks = returned (record { name = name; past = past; faults = faults }) before.disks;
 }

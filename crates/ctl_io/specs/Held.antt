@@ -4,17 +4,21 @@ use Rattle.std.specs.Prelude.{◌≡◌, ◌≢◌, ◌<◌, ℕ, ◌+◌, List,
 use Rattle.ctl_io.specs.declared.files.Found.{Found}
 use Rattle.ctl_io.specs.declared.files.Found.TheVariants.{Here, Missing, Failed}
 
--- What an opening finds: the files don't show it, or there is no such file, or a source that has these bytes left.
-pub data Held : Type 0 where
-  Unshown : Held
-  NoFile : Held
-  Holds : List ℕ → Held
+-- What an opening finds: the files don't show it, or there is no such file, or an object that shows this.
+pub data HeldOf (X : Type 0) : Type 0 where
+  Unshown : HeldOf X
+  NoFile : HeldOf X
+  Holds : X → HeldOf X
 
--- There is a file, and where the files show its bytes, they are so.
-abbrev pub IfHeld : Held → (List ℕ → Type 0) → Type 0
+-- what the opening of a source finds, which shows the bytes that it has left
+abbrev pub Held : Type 0
+Held = HeldOf (List ℕ)
+
+-- There is a file, and where the files show what it holds, that is so.
+abbrev pub IfHeld : {X : Type 0} → HeldOf X → (X → Type 0) → Type 0
 IfHeld Unshown P = Unit {0}
 IfHeld NoFile P = ⊥
-IfHeld (Holds bytes) P = P bytes
+IfHeld (Holds its) P = P its
 
 -- There is a file, and where the files show its bytes, they are these.
 abbrev pub IsHeld : Held → List ℕ → Type 0
@@ -28,38 +32,42 @@ IsLonger limit held = IfHeld held (λ bytes. limit < length bytes)
 abbrev pub MayBeHere : Held → Type 0
 MayBeHere held = IfHeld held (λ bytes. Unit {0})
 
--- A source that is handed out has left what the files hold.
-abbrev pub HasLeft : Held → Option (List ℕ) → Type 0
-HasLeft held left = IfHeld held (λ bytes. left ≡ Some bytes)
+-- An object that is handed out shows what the files hold.
+abbrev pub ShowsHeld : {X : Type 0} → HeldOf X → Option X → Type 0
+ShowsHeld held shown = IfHeld held (λ its. shown ≡ Some its)
 
 -- There is no such file, or the files don't show whether there is.
-abbrev pub MayBeMissing : Held → Type 0
+abbrev pub MayBeMissing : {X : Type 0} → HeldOf X → Type 0
 MayBeMissing Unshown = Unit {0}
 MayBeMissing NoFile = Unit {0}
-MayBeMissing (Holds bytes) = ⊥
+MayBeMissing (Holds its) = ⊥
 
 -- Each opening of a name finds what it would have found before.
-abbrev pub Stays : (ℕ → Held) → (ℕ → Held) → Type 0
+abbrev pub Stays : {H : Type 0} → (ℕ → H) → (ℕ → H) → Type 0
 Stays before now = (opening : ℕ) → now opening ≡ before opening
 
 -- The next opening of a name is gone: each finds what the one behind it would have found before.
-abbrev pub CountsOn : (ℕ → Held) → (ℕ → Held) → Type 0
+abbrev pub CountsOn : {H : Type 0} → (ℕ → H) → (ℕ → H) → Type 0
 CountsOn before now = (opening : ℕ) → now opening ≡ before (opening + 1)
 
+-- The openings of every name stay.
+abbrev pub AllStay : {H : Type 0} → (List ℕ → ℕ → H) → (List ℕ → ℕ → H) → Type 0
+AllStay before now = (name : List ℕ) → Stays (before name) (now name)
+
 -- The openings of every other name stay.
-abbrev pub OtherOpeningsStay : List ℕ → (List ℕ → ℕ → Held) → (List ℕ → ℕ → Held)
-    → Type 0
+abbrev pub OtherOpeningsStay : {H : Type 0} → List ℕ → (List ℕ → ℕ → H)
+    → (List ℕ → ℕ → H) → Type 0
 OtherOpeningsStay name before now = (other : List ℕ) → other ≢ name
     → Stays (before other) (now other)
 
 -- The openings of every name stay, but of the name that an object shows.
-abbrev pub AllStayBut : Option (List ℕ) → (List ℕ → ℕ → Held)
-    → (List ℕ → ℕ → Held) → Type 0
+abbrev pub AllStayBut : {H : Type 0} → Option (List ℕ) → (List ℕ → ℕ → H)
+    → (List ℕ → ℕ → H) → Type 0
 AllStayBut shown before now =
     (other : List ℕ) → shown ≢ Some other → Stays (before other) (now other)
 
--- what becomes of the openings of a name where a source was asked for
-abbrev pub AfterFound : {S : Type 0} → Found S → (ℕ → Held) → (ℕ → Held) → Type 0
+-- what becomes of the openings of a name where an object was asked for
+abbrev pub AfterFound : {S H : Type 0} → Found S → (ℕ → H) → (ℕ → H) → Type 0
 AfterFound (Here source) before now = CountsOn before now
 AfterFound Missing before now = Stays before now
 AfterFound Failed before now = Stays before now

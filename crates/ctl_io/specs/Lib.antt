@@ -6,6 +6,7 @@ pub mod Sink
 pub mod SinkInside
 pub mod Disk
 pub mod Crash
+pub mod DiskPast
 pub mod Held
 pub mod Custody
 pub mod Files
@@ -14,5 +15,8 @@ pub mod Calls
 pub mod Memory
 pub mod MemDisk
 pub mod MemDiskInside
+pub mod Named
+pub mod MemDisks
+pub mod MemDisksInside
 pub mod MemFiles
 pub mod MemFilesInside

@@ -1,85 +1,10 @@
 -- What a disk in memory holds, from the record of its calls.
-use Rattle.std.specs.Prelude.{◌≡◌, ◌⊎◌, ℕ, ◌+◌, ◌≤◌, nat_lt, nat_le, Bool, true, false, not, ◌&&◌, List, [], ◌∷◌, ◌++◌, length, take, replicate, if◌then◌else◌}
-use Rattle.std.proofs.Common.{inl, inr, arith}
+use Rattle.std.specs.Prelude.{ℕ, ◌+◌, nat_lt, nat_le, Bool, true, false, not, ◌&&◌, List, [], ◌∷◌, length, take, replicate, if◌then◌else◌}
 use Rattle.ctl_io.specs.Calls.{Calls, next_fails, called, uncalled}
-use Rattle.ctl_io.specs.Disk.{overlaid, Torn}
+use Rattle.ctl_io.specs.Disk.{overlaid}
+use Rattle.ctl_io.specs.DiskPast.{DiskWrite, DiskEvent, WasRead, WasWritten, WasSynced, DiskPast, Stored, written_to, stored_after}
 use Rattle.ctl_io.specs.declared.disk.Did.{Did}
 use Rattle.ctl_io.specs.declared.disk.Did.TheVariants.{Done, Failed}
-
--- a write: its place and its bytes
-pub record DiskWrite : Type 0 where
-  pub at : ℕ
-  pub bytes : List ℕ
-
--- A recorded call: a read, or a write or a sync that was done or failed.
-pub data DiskEvent : Type 0 where
-  WasRead : DiskEvent
-  WasWritten : Bool → DiskWrite → DiskEvent
-  WasSynced : Bool → DiskEvent
-
--- The bytes that a read gives, those that the last sync left, and the writes since then, the oldest first, also those that failed.
-pub record Stored : Type 0 where
-  pub present : List ℕ
-  pub synced : List ℕ
-  pub pending : List DiskWrite
-
--- contents with a write's bytes
-abbrev pub written_to : DiskWrite → List ℕ → List ℕ
-written_to write all = overlaid write.at write.bytes all
-
--- after a write that was done or failed
-abbrev pub after_pending : Bool → DiskWrite → Stored → Stored
-after_pending done write stored = record stored {
-  present = if done then written_to write stored.present else stored.present;
-  pending = stored.pending ++ write ∷ [];
-}
-
--- after a sync that was done or failed
-abbrev pub after_sync : Bool → Stored → Stored
-after_sync true stored =
-    record { present = stored.present; synced = stored.present; pending = [] }
-after_sync false stored = stored
-
--- after one more call
-abbrev pub after_event : DiskEvent → Stored → Stored
-after_event WasRead stored = stored
-after_event (WasWritten done write) stored = after_pending done write stored
-after_event (WasSynced done) stored = after_sync done stored
-
--- what a disk that began with these bytes holds after these calls, the newest of which comes first
-abbrev pub stored_after : List ℕ → List DiskEvent → Stored
-stored_after start [] = record { present = start; synced = start; pending = [] }
-stored_after start (event ∷ earlier) = after_event event (stored_after start earlier)
-
--- From these contents, each write in turn may leave any bytes in its range, and leaves the others.
-abbrev pub WritesReach : List ℕ → List DiskWrite → List ℕ → Type 0
-WritesReach from [] c = c ≡ from
-WritesReach from (write ∷ writes) c =
-    (d : List ℕ) × Torn write.at (length write.bytes) from d × WritesReach d writes c
-
--- A crash leaves what a read gives, or what the writes since the last sync reach.
-abbrev pub MayLeave : Stored → List ℕ → Type 0
-MayLeave stored c = (c ≡ stored.present) ⊎ WritesReach stored.synced stored.pending c
-
--- A crash behind one of these calls, of which the newest comes first, might have left this: behind all of them, or earlier, though not
--- before t of them were made.
-abbrev pub LeftSince : List ℕ → List DiskEvent → ℕ → List ℕ → Type 0
-LeftSince start [] t c = MayLeave (stored_after start []) c
-LeftSince start (event ∷ earlier) t c =
-    MayLeave (stored_after start (event ∷ earlier)) c
-    ⊎ ((t ≤ length earlier) × LeftSince start earlier t c)
-
--- the laws of a disk's clock, for a disk in memory
-pub now_counts : (start : List ℕ) (events : List DiskEvent) (t : ℕ) (c : List ℕ)
-    → MayLeave (stored_after start events) c → LeftSince start events t c
-now_counts start [] t c left = left
-now_counts start (event ∷ earlier) t c left = inl left
-
-pub now_alone : (start : List ℕ) (events : List DiskEvent) (c : List ℕ)
-    → LeftSince start events (length events) c → MayLeave (stored_after start events) c
-now_alone start [] c left = left
-now_alone start (event ∷ earlier) c (inl now) = now
-now_alone start (event ∷ earlier) c (inr past) = absurd (omega (arith, past.0))
 
 -- A disk in memory: the bytes that it began with, its recorded calls, the newest first, how many bytes these wrote, for how many
 -- calls and written bytes it has taken the memory in all, and the count of its calls.
@@ -90,6 +15,10 @@ pub record DiskState : Type 0 where
   pub calls_room : ℕ
   pub bytes_room : ℕ
   pub calls : Calls
+
+-- its past
+abbrev pub past_of : DiskState → DiskPast
+past_of disk = record { start = disk.start; events = disk.events }
 
 -- what the disk holds now
 abbrev pub stored_by : DiskState → Stored

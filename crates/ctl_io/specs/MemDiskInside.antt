@@ -1,7 +1,8 @@
 -- The fields of a disk in memory.
 use Rattle.std.specs.Prelude.{◌≡◌, ℕ, ◌+◌, ◌≤◌, List, [], ◌∷◌, length, take, drop, map, vec_capacity}
 use Rattle.std.specs.List.{AllByRecursion}
-use Rattle.ctl_io.specs.MemDisk.{DiskWrite, DiskEvent, WasRead, WasWritten, WasSynced, Stored, stored_after, DiskState}
+use Rattle.ctl_io.specs.DiskPast.{DiskWrite, DiskEvent, WasRead, WasWritten, WasSynced, Stored, stored_after}
+use Rattle.ctl_io.specs.MemDisk.{DiskState}
 use Rattle.ctl_io.specs.declared.memory.disk_call.WriteSpan.{WriteSpan}
 use Rattle.ctl_io.specs.declared.memory.disk_call.DiskCall.{DiskCall}
 use Rattle.ctl_io.specs.declared.memory.disk_call.DiskCall.TheVariants as call

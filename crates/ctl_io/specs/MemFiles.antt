@@ -1,21 +1,24 @@
 -- What files in memory hold, and what they answer.
-use Rattle.std.specs.Prelude.{ℕ, ◌+◌, ◌-◌, ◌==◌, Bool, List, [], ◌∷◌, ◌++◌, map, filter, find, Option, Some, None, if◌then◌else◌}
-use Rattle.std.specs.List.{list_any, slice_get, AllByRecursion}
+use Rattle.std.specs.Prelude.{ℕ, ◌+◌, ◌-◌, ◌==◌, nat_lt, Bool, ◌||◌, ◌&&◌, not, List, [], ◌∷◌, ◌++◌, map, filter, find, Option, Some, None, if◌then◌else◌}
+use Rattle.std.specs.List.{slice_get, AllByRecursion}
 use Rattle.std.specs.Str.{bytes_eq}
 use Rattle.ctl_io.specs.Calls.{Calls, next_fails, called, took_back, uncalled}
 use Rattle.ctl_io.specs.Custody.{FilesCustody, SourceEnd, SinkEnd}
-use Rattle.ctl_io.specs.Files.{source_failed, sink_failed}
+use Rattle.ctl_io.specs.Named.{is_listed, without_first}
+use Rattle.ctl_io.specs.MemDisks.{DisksState, MadeSize, all_waiting, disk_has, disk_made, after_lending, after_making, after_return, disk_end}
+use Rattle.ctl_io.specs.Files.{find_failed, make_failed}
 use Rattle.ctl_io.specs.Held.{Held, Unshown, NoFile, Holds}
 use Rattle.ctl_io.specs.Memory.{IsNewSource, IsNewSink}
 use Rattle.ctl_io.specs.declared.memory.named_objects.NamedSource.{NamedSource}
 use Rattle.ctl_io.specs.declared.memory.named_objects.NamedSink.{NamedSink}
+use Rattle.ctl_io.specs.declared.memory.named_objects.NamedDisk.{NamedDisk}
 use Rattle.ctl_io.specs.declared.files.Found.{Found}
 use Rattle.ctl_io.specs.declared.files.Found.TheVariants as found
 use Rattle.ctl_io.specs.declared.files.Made.{Made}
 use Rattle.ctl_io.specs.declared.files.Made.TheVariants as made
 
 -- Files in memory: the sources and sinks that weren't handed out yet, the names of all sources, how many objects may
--- still be handed out, how many are out, those that were given back, and how many of each they have taken the memory for.
+-- still be handed out, how many are out, those that were given back, how many of each they have taken the memory for, and the disks.
 pub record FilesState : Type 0 where
   pub waiting : List NamedSource
   pub sinks : List NamedSink
@@ -27,11 +30,13 @@ pub record FilesState : Type 0 where
   pub sinks_back : List NamedSink
   pub sources_room : ℕ
   pub sinks_room : ℕ
+  pub disks : DisksState
   pub calls : Calls
 
--- files of these sources and sinks that weren't asked for anything yet
-abbrev pub unasked : List NamedSource → List NamedSink → ℕ → List ℕ → FilesState
-unasked sources sinks objects failing = record {
+-- files of these sources, sinks and disks that weren't asked for anything yet
+abbrev pub unasked : List NamedSource → List NamedSink → List NamedDisk → ℕ → List ℕ
+    → MadeSize → FilesState
+unasked sources sinks disks objects failing made = record {
   waiting = sources;
   sinks = sinks;
   names = map (λ entry. entry.name) sources;
@@ -42,6 +47,7 @@ unasked sources sinks objects failing = record {
   sinks_back = [];
   sources_room = objects;
   sinks_room = objects;
+  disks = all_waiting disks objects made;
   calls = uncalled failing;
 }
 
@@ -51,15 +57,6 @@ source_has name entry = bytes_eq entry.name name
 
 abbrev pub sink_has : List ℕ → NamedSink → Bool
 sink_has name entry = bytes_eq entry.name name
-
--- whether a name is listed
-abbrev pub is_listed : List ℕ → List (List ℕ) → Bool
-is_listed name names = list_any (λ other. bytes_eq other name) names
-
--- the elements without the first that passes a test
-abbrev pub without_first : {A : Type 0} → (A → Bool) → List A → List A
-without_first test [] = []
-without_first test (x ∷ xs) = if test x then xs else x ∷ without_first test xs
 
 -- what the files hold for an opening: what its source has left, and nothing is shown where none waits for it
 abbrev pub held_by : Option NamedSource → Held
@@ -97,6 +94,7 @@ custody_of files = record {
     back = Some (map source_end files.sources_back);
   };
   sinks = record { out = files.sinks_out; back = Some (map sink_end files.sinks_back) };
+  disks = record { out = files.disks.out; back = Some (map disk_end files.disks.back) };
 }
 
 -- what is answered where a source is named: the first that waits, while objects may still be handed out
@@ -124,7 +122,7 @@ without_source found.Failed name files = files
 -- the files after such an answer
 abbrev pub after_source : Found NamedSource → List ℕ → FilesState → FilesState
 after_source answer name files =
-    record (without_source answer name files) { calls = called (source_failed answer) files.calls }
+    record (without_source answer name files) { calls = called (find_failed answer) files.calls }
 
 -- what is answered of a name's sinks: the first that waits, while objects may still be handed out
 abbrev pub lent_sink : ℕ → Option NamedSink → Made NamedSink
@@ -149,7 +147,52 @@ without_sink made.Failed name files = files
 -- the files after such an answer
 abbrev pub after_sink : Made NamedSink → List ℕ → FilesState → FilesState
 after_sink answer name files =
-    record (without_sink answer name files) { calls = called (sink_failed answer) files.calls }
+    record (without_sink answer name files) { calls = called (make_failed answer) files.calls }
+
+-- whether a call that asks for a disk of so many bytes fails before one is looked for
+abbrev pub disk_refused : FilesState → ℕ → Bool
+disk_refused files size = next_fails files.calls || nat_lt files.disks.made.bytes size
+
+-- whether there is no disk of this name, where one is to be there
+abbrev pub disk_missing : FilesState → List ℕ → Bool → Bool
+disk_missing files name make = not make && not (is_listed name files.disks.names)
+
+-- the disk that is made, or the first of that name that waits
+abbrev pub disk_asked : DisksState → List ℕ → ℕ → Bool → Option NamedDisk
+disk_asked disks name size make =
+    if make then disk_made name size disks.made else find (disk_has name) disks.waiting
+
+-- what is answered with such a disk, while objects may still be handed out
+abbrev pub lent_disk : ℕ → Option NamedDisk → Found NamedDisk
+lent_disk objects None = found.Failed
+lent_disk objects (Some entry) = if objects == 0 then found.Failed else found.Here entry
+
+-- what is answered where a disk is asked for
+abbrev pub disk_answer : FilesState → List ℕ → ℕ → Bool → Found NamedDisk
+disk_answer files name size make =
+    if disk_refused files size then found.Failed
+    else (if disk_missing files name make then found.Missing
+    else lent_disk files.objects (disk_asked files.disks name size make))
+
+-- the disks after one was made or lent
+abbrev pub disks_after : Bool → Option NamedDisk → List ℕ → DisksState → DisksState
+disks_after make entry name disks =
+    if make then after_making entry disks else after_lending entry name disks
+
+-- the files without the disk that is handed out
+abbrev pub without_disk : Found NamedDisk → List ℕ → Bool → FilesState → FilesState
+without_disk (found.Here entry) name make files = record files {
+  objects = files.objects - 1;
+  disks = disks_after make (Some entry) name files.disks;
+}
+without_disk found.Missing name make files = files
+without_disk found.Failed name make files = files
+
+-- the files after such an answer
+abbrev pub after_disk : Found NamedDisk → List ℕ → Bool → FilesState → FilesState
+after_disk answer name make files = record (without_disk answer name make files) {
+  calls = called (find_failed answer) files.calls;
+}
 
 -- the files after a source was given back
 abbrev pub after_close_source : NamedSource → FilesState → FilesState
@@ -165,6 +208,13 @@ after_close_sink entry files = record files {
   sinks_out = files.sinks_out - 1;
   sinks_back = files.sinks_back ++ entry ∷ [];
   calls = took_back entry.sink.calls.faults files.calls;
+}
+
+-- the files after a disk was given back
+abbrev pub after_close_disk : NamedDisk → FilesState → FilesState
+after_close_disk entry files = record files {
+  disks = after_return entry files.disks;
+  calls = took_back entry.disk.calls.faults files.calls;
 }
 
 -- No call was made of the sources.

@@ -1,6 +1,7 @@
 -- The fields of files in memory.
-use Rattle.std.specs.Prelude.{◌+◌, ◌≤◌, length, vec_capacity}
+use Rattle.std.specs.Prelude.{ℕ, ◌+◌, ◌≤◌, length, vec_capacity}
 use Rattle.ctl_io.specs.MemFiles.{FilesState, AreNewSources, AreNewSinks}
+use Rattle.ctl_io.specs.MemDisks.{DisksState}
 use Rattle.ctl_io.specs.declared.memory.mem_files.MemFiles.TheInside.{Inside}
 
 -- the files, without where they lie in memory
@@ -16,6 +17,7 @@ files_state files = record {
   sinks_back = files.sinks_back.items;
   sources_room = vec_capacity files.sources_back;
   sinks_room = vec_capacity files.sinks_back;
+  disks = files.disks;
   calls = files.calls;
 }
 
@@ -29,9 +31,15 @@ abbrev pub SinksHaveRoom : Inside → Type 0
 SinksHaveRoom files =
     files.objects + files.sinks_out + length files.sinks_back.items ≤ vec_capacity files.sinks_back
 
+-- There is room for all disks too, and as many may still be made as may be handed out.
+pub record DisksHaveRoom (objects : ℕ) (disks : DisksState) : Type 0 where
+  pub back : objects + disks.out + length disks.back ≤ disks.back_room
+  pub unmade : objects ≤ disks.unmade
+
 -- What is still to be handed out is new, and there is room for all that may still be given back.
 pub record HasRoom (files : Inside) : Type 0 where
   pub new_sources : AreNewSources files.waiting.items
   pub new_sinks : AreNewSinks files.sinks.items
   pub sources : SourcesHaveRoom files
   pub sinks : SinksHaveRoom files
+  pub disks : DisksHaveRoom files.objects files.disks

@@ -63,8 +63,9 @@ GivenBack Well name before now = CameBack name false before now
 GivenBack Missing name before now = now ≡ before
 GivenBack Failed name before now = (now ≡ before) ⊎ CameBack name true before now
 
--- The file's source, where one was handed out, was given back so, and no sink was handed out or given back.
+-- The file's source, where one was handed out, was given back so, and no sink and no disk was handed out or given back.
 pub record IsGivenBack (reading : FileReading) (name : List ℕ) (before now : FilesCustody)
     : Type 0 where
   pub sources : GivenBack reading name before.sources now.sources
   pub sinks : now.sinks ≡ before.sinks
+  pub disks : now.disks ≡ before.disks

@@ -3,6 +3,7 @@
 ghost use Rattle.std.specs.Prelude.{◌≡◌, ◌+◌, ◌≤◌, ℕ, List, Option, None, IfSome, length};
 ghost use Rattle.ctl_io.specs.Faults.{count_after};
 ghost use Rattle.ctl_io.specs.Disk.{did_fail, shown_with, AreAt, Torn, ShowsTorn};
+ghost use Rattle.ctl_io.specs.DiskPast.{DiskPast, IsMadeBy};
 ghost use Rattle.ctl_io.specs.Crash.{Follows, LeavesNoMore, LeavesShown, Elapses};
 
 /// What a call of a disk answers.
@@ -30,6 +31,9 @@ pub trait Disk {
 
     /// The contents that a crash at some moment from that one on might have left, in a call or between two.
     ghost left_since: { Self → ℕ → List ℕ → Type 0 };
+
+    /// Its past, from which follows all of this but its size, where the disk shows it.
+    ghost past: { Self → Option DiskPast };
 
     /// How often a call failed. Only the disk's own calls raise it.
     ghost faults: { Self → ℕ };
@@ -85,6 +89,10 @@ pub trait Disk {
 
     /// There are as many bytes as it has.
     ghost as_many: { (disk : Self) → IfSome (contents disk) (λ all. length all ≡ size disk) };
+
+    /// Where the disk shows its past, it is what that makes of it; where it doesn't, it shows no contents.
+    ghost made: { (disk : Self) → IsMadeBy (past disk) (contents disk) (may_leave disk)
+        (moment disk) (left_since disk) };
 
     /// This moment is one of those since an earlier one.
     ghost counts_now: { (disk : Self) (t : ℕ) (c : List ℕ) → t ≤ moment disk

@@ -19,8 +19,8 @@ pub use disk::{Did, Disk};
 pub use faults::FaultCount;
 pub use files::{Files, Found, Made};
 pub use memory::{
-    CallCount, DiskCall, Dropped, MemDisk, MemFiles, MemSink, MemSource, NamedSink, NamedSource,
-    WriteSpan,
+    CallCount, DiskCall, Dropped, MemDisk, MemFiles, MemSink, MemSource, NamedDisk, NamedSink,
+    NamedSource, WriteSpan,
 };
 pub use sink::{Sink, Write};
 pub use source::{Read, Source};

@@ -2,7 +2,8 @@
 
 ghost use Rattle.std.specs.Prelude.{◌≡◌, ◌≤◌, length, IfOk};
 ghost use Rattle.ctl_io.specs.Faults.{count_after};
-ghost use Rattle.ctl_io.specs.Held.{IsHeld, IsLonger, MayBeHere, MayBeMissing, OtherOpeningsStay};
+ghost use Rattle.ctl_io.specs.Held.{IsHeld, IsLonger, MayBeHere, MayBeMissing};
+ghost use Rattle.ctl_io.specs.Held.{AllStay, OtherOpeningsStay};
 ghost use Rattle.ctl_io.specs.WholeFile.{SaysMissing, SaysTooLong, SaysNoMemory, reading_of};
 ghost use Rattle.ctl_io.specs.WholeFile.{reading_failed, AfterReading, IsGivenBack};
 
@@ -28,7 +29,8 @@ pub fn read_file<F: Files>(
     name: &str,
     limit: usize,
 ) -> Result<Vec<u8>, FileFault>
-    ensures whole { IfOk result (λ whole. IsHeld ((F.shows files.old).held name.now 0) whole.items) }
+    ensures whole { IfOk result (λ whole.
+        IsHeld ((F.shows files.old).held name.now 0) whole.items) }
     ensures within { IfOk result (λ whole. length whole.items ≤ limit) }
     ensures missing { SaysMissing result → MayBeMissing ((F.shows files.old).held name.now 0) }
     ensures too_long { SaysTooLong result → IsLonger limit ((F.shows files.old).held name.now 0) }
@@ -36,6 +38,7 @@ pub fn read_file<F: Files>(
     ensures next { AfterReading (reading_of result)
         ((F.shows files.old).held name.now) ((F.shows files.new).held name.now) }
     ensures others { OtherOpeningsStay name.now (F.shows files.old).held (F.shows files.new).held }
+    ensures disks { AllStay (F.shows files.old).disks (F.shows files.new).disks }
     ensures given_back { IsGivenBack (reading_of result) name.now
         (F.shows files.old).custody (F.shows files.new).custody }
     ensures count { (F.shows files.new).faults

@@ -11,7 +11,8 @@ fn files_with_script(alloc: Global) -> Result<MemFiles, AllocError> {
     let source = MemSource::new(alloc, script, Vec::new(alloc))?;
     let name = Bytes::of(b"first.txt".to_vec(alloc)?);
     let sources = vec![in alloc; NamedSource { name, source }]?;
-    MemFiles::new(alloc, sources, Vec::new(alloc), 1, Vec::new(alloc))
+    let (sinks, disks) = (Vec::new(alloc), Vec::new(alloc));
+    MemFiles::new(alloc, sources, sinks, disks, 1, Vec::new(alloc), 0, 0, 0)
 }
 
 // The words of the command line.

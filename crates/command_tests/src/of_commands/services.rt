@@ -175,7 +175,17 @@ fn files_of(alloc: Global, row: &Row) -> Result<MemFiles, AllocError> {
     let plant = source_of(alloc, "short", SHORT, NEVER)?;
     let sources = vec![in alloc; plant]?;
     let sinks = sinks_of(alloc, row.untraced)?;
-    MemFiles::new(alloc, sources, sinks, 4, row.unopened.to_vec(alloc)?)
+    MemFiles::new(
+        alloc,
+        sources,
+        sinks,
+        Vec::new(alloc),
+        4,
+        row.unopened.to_vec(alloc)?,
+        0,
+        0,
+        0,
+    )
 }
 
 // What comes over a link, an empty piece for an idle read.

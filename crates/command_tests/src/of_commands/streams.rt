@@ -185,7 +185,17 @@ fn files_of(alloc: Global, row: &Row) -> Result<MemFiles, AllocError> {
     };
     let sources = vec![in alloc; plant, script]?;
     let sinks = vec![in alloc; made]?;
-    MemFiles::new(alloc, sources, sinks, 3, row.unopened.to_vec(alloc)?)
+    MemFiles::new(
+        alloc,
+        sources,
+        sinks,
+        Vec::new(alloc),
+        3,
+        row.unopened.to_vec(alloc)?,
+        0,
+        0,
+        0,
+    )
 }
 
 // Whether the sinks that came back are just one with these bytes, or none.

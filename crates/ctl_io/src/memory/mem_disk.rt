@@ -1,12 +1,13 @@
 //! A disk in memory.
 
 ghost use Rattle.std.specs.Prelude.{◌≡◌, ◌+◌, ◌<◌, ◌≤◌, ◌&&◌, [], ◌++◌, Some, IfOk, length};
-ghost use Rattle.std.specs.Prelude.{map, replicate, nat_lt, nat_le, vec_capacity};
+ghost use Rattle.std.specs.Prelude.{map, take, replicate, nat_lt, nat_le, vec_capacity};
 ghost use Rattle.std.specs.List.{AllByRecursion};
 ghost use Rattle.ctl_io.specs.Disk.{overlaid, AreAt};
 ghost use Rattle.ctl_io.specs.MemDisk.{unused, stored_by, disk_answer, crash_copy};
 ghost use Rattle.ctl_io.specs.MemDisk.{after_disk_read, after_disk_write, after_disk_sync};
-ghost use Rattle.ctl_io.specs.MemDisk.{MayLeave, fails_when, torn_last};
+ghost use Rattle.ctl_io.specs.DiskPast.{MayLeave};
+ghost use Rattle.ctl_io.specs.MemDisk.{fails_when, torn_last};
 ghost use Rattle.ctl_io.specs.MemDiskInside.{write_of, IsSpan};
 
 use crate::memory::calls::CallCount;
@@ -160,6 +161,16 @@ impl MemDisk {
         MemDisk::new(alloc, bytes, calls, room, Vec::new(alloc))
     }
 
+    /// Leaves the first `size` bytes of a disk of which no call was made.
+    pub(crate) fn cut(&mut self, size: usize)
+        requires { self.old.events ≡ [] }
+        ensures { self.new ≡ record self.old { start = take size self.old.start } }
+    {
+        self.start.truncate(size);
+        self.present.truncate(size);
+        self.synced.truncate(size);
+    }
+
     /// The recorded calls, the oldest first.
     pub fn calls(&self) -> &[DiskCall] {
         &self.calls
@@ -182,7 +193,8 @@ impl MemDisk {
 
 impl Disk for MemDisk {
     ghost use Rattle.std.proofs.Common.{inl, refl};
-    ghost use Rattle.ctl_io.specs.MemDisk.{LeftSince, now_counts, now_alone};
+    ghost use Rattle.ctl_io.specs.DiskPast.{LeftSince, now_counts, now_alone};
+    ghost use Rattle.ctl_io.specs.MemDisk.{past_of};
 
     ghost size = { λ d. length (stored_by d).present };
 
@@ -194,11 +206,22 @@ impl Disk for MemDisk {
 
     ghost left_since = { λ d. LeftSince d.start d.events };
 
+    ghost past = { λ d. Some (past_of d) };
+
     ghost faults = { λ d. d.calls.faults };
 
     ghost shown_may_stay = { λ d. inl refl };
 
     ghost as_many = { λ d. refl };
+
+    ghost made = { λ d. record {
+      present = refl;
+      counted = refl;
+      leaves = λ c left. left;
+      no_less = λ c left. left;
+      left = λ t c left. left;
+      no_less_left = λ t c left. left;
+    } };
 
     ghost counts_now = { λ d t c le left. now_counts d.start d.events t c left };
 

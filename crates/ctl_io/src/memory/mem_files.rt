@@ -6,15 +6,18 @@ ghost use Rattle.ctl_io.specs.Memory.{IsNewSource, IsNewSink};
 ghost use Rattle.ctl_io.specs.MemFiles.{unasked, AreNewSources, AreNewSinks, held_of, custody_of};
 ghost use Rattle.ctl_io.specs.MemFiles.{source_answer, without_source, after_source, sink_answer};
 ghost use Rattle.ctl_io.specs.MemFiles.{without_sink, after_sink, after_close_source};
-ghost use Rattle.ctl_io.specs.MemFiles.{after_close_sink};
+ghost use Rattle.ctl_io.specs.MemFiles.{after_close_sink, disk_answer, without_disk, after_disk};
+ghost use Rattle.ctl_io.specs.MemFiles.{after_close_disk};
+ghost use Rattle.ctl_io.specs.MemDisks.{AreNewDisks, IsNewDisk, disk_held_of};
 
 use crate::memory::calls::CallCount;
+use crate::memory::mem_disks::MemDisks;
 use crate::memory::named::{is_listed, names_of, take_first};
-use crate::{Bytes, Files, Found, Made, NamedSink, NamedSource};
+use crate::{Bytes, Files, Found, Made, NamedDisk, NamedSink, NamedSource};
 use std::alloc::{AllocError, Global};
 use std::marker::Model;
 
-/// Files in memory. Each source and each sink is handed out once, the first of its name first, and what is given back
+/// Files in memory. Each source, sink and disk is handed out once, the first of its name first, and what is given back
 /// isn't handed out again.
 #[derive(Debug, Drop)]
 pub struct MemFiles {
@@ -28,6 +31,7 @@ pub struct MemFiles {
     sinks_out: usize,
     sources_back: Vec<NamedSource>,
     sinks_back: Vec<NamedSink>,
+    disks: MemDisks,
     calls: CallCount,
 }
 
@@ -44,24 +48,35 @@ impl Model for MemFiles {
 }
 
 impl MemFiles {
-    /// Files of these sources and sinks, which are new. They hand out at most `objects` objects, and take room now to
-    /// take so many of each kind back, and for the names. `failing` holds the numbers, from 0, of the calls that fail,
-    /// where those that ask for a source or a sink are numbered together.
+    /// Files of these sources, sinks and disks, which are new. They hand out at most `objects` objects, and take room now
+    /// to take so many of each kind back, for the names, and for so many disks that are made: of at most `disk_size`
+    /// bytes, each with room for `disk_calls` calls and `disk_room` written bytes. `failing` holds the numbers, from 0,
+    /// of the calls that fail, where those that ask for a source, a sink or a disk are numbered together.
     pub fn new(
         alloc: Global,
         sources: Vec<NamedSource>,
         sinks: Vec<NamedSink>,
+        disks: Vec<NamedDisk>,
         objects: usize,
         failing: Vec<u64>,
+        disk_calls: u64,
+        disk_room: usize,
+        disk_size: u64,
     ) -> Result<MemFiles, AllocError>
         requires new_sources { AreNewSources sources.items }
         requires new_sinks { AreNewSinks sinks.items }
-        ensures { IfOk result (λ files.
-            files ≡ unasked sources.items sinks.items objects failing.items) }
+        requires new_disks { AreNewDisks disks.items }
+        ensures { IfOk result (λ files. files ≡ unasked sources.items sinks.items disks.items
+            objects failing.items (record {
+              bytes = disk_size;
+              calls_room = disk_calls;
+              bytes_room = disk_room;
+            })) }
     {
         let names = names_of(alloc, &sources)?;
         let sources_back = Vec::with_capacity(alloc, objects)?;
         let sinks_back = Vec::with_capacity(alloc, objects)?;
+        let disks = MemDisks::new(alloc, disks, objects, disk_size, disk_calls, disk_room)?;
         Ok(MemFiles {
             waiting: sources,
             sinks,
@@ -71,6 +86,7 @@ impl MemFiles {
             sinks_out: 0,
             sources_back,
             sinks_back,
+            disks,
             calls: CallCount::new(failing),
         })
     }
@@ -99,8 +115,21 @@ impl MemFiles {
         made
     }
 
+    /// Hands out the first disk of this name that waits, or makes one of `size` zero bytes under it. It fails where the
+    /// call's number is listed, where `size` is more than a disk may have that is made, and for want of objects, of such
+    /// a disk, or of room for a name of more than 4,096 bytes; `Missing` is said only of a name that no disk ever had.
+    pub fn lend_disk(&mut self, name: &str, size: u64, make: bool) -> Found<NamedDisk>
+        ensures answer { result ≡ disk_answer self.old name.now size make }
+        ensures after { self.new ≡ after_disk result name.now make self.old }
+        ensures new { IfFound result (λ entry. IsNewDisk entry.disk) }
+    {
+        let found = self.find_disk(name.as_bytes(), size, make);
+        self.calls.count(matches!(&found, Found::Failed));
+        found
+    }
+
     /// Keeps a source that these files handed out behind those that were given back before.
-    pub fn take_source(&mut self, source: NamedSource)
+    pub fn take_back_source(&mut self, source: NamedSource)
         requires { 0 < self.old.sources_out }
         ensures { self.new ≡ after_close_source source self.old }
     {
@@ -110,13 +139,22 @@ impl MemFiles {
     }
 
     /// Keeps a sink that these files handed out behind those that were given back before.
-    pub fn take_sink(&mut self, sink: NamedSink)
+    pub fn take_back_sink(&mut self, sink: NamedSink)
         requires { 0 < self.old.sinks_out }
         ensures { self.new ≡ after_close_sink sink self.old }
     {
         self.calls.take_back(sink.sink.faults());
         self.sinks_out -= 1;
         self.sinks_back.push_reserved(sink);
+    }
+
+    /// Keeps a disk that these files handed out behind those that were given back before.
+    pub fn take_back_disk(&mut self, disk: NamedDisk)
+        requires { 0 < self.old.disks.out }
+        ensures { self.new ≡ after_close_disk disk self.old }
+    {
+        self.calls.take_back(disk.disk.faults());
+        self.disks.take_back(disk);
     }
 
     /// The sources that were given back, in order.
@@ -131,6 +169,13 @@ impl MemFiles {
         ensures { result.now ≡ self.now.sinks_back }
     {
         &self.sinks_back
+    }
+
+    /// The disks that were given back, in order.
+    pub fn disks_back(&self) -> &[NamedDisk]
+        ensures { result.now ≡ self.now.disks.back }
+    {
+        self.disks.back()
     }
 
     /// How often a call failed, or an object with faults was given back. The count stands still at its type's end.
@@ -183,6 +228,35 @@ impl MemFiles {
             None => Made::Failed,
         }
     }
+
+    // Looks for a disk, or makes one, without counting the call.
+    fn find_disk(&mut self, name: &[u8], size: u64, make: bool) -> Found<NamedDisk>
+        ensures answer { result ≡ disk_answer self.old name.now size make }
+        ensures after { self.new ≡ without_disk result name.now make self.old }
+        ensures new { IfFound result (λ entry. IsNewDisk entry.disk) }
+    {
+        if self.calls.next_fails() || size > self.disks.most_bytes() {
+            return Found::Failed;
+        }
+        if !make && !self.disks.has_name(name) {
+            return Found::Missing;
+        }
+        if self.objects == 0 {
+            return Found::Failed;
+        }
+        let entry = if make {
+            self.disks.make(name, size)
+        } else {
+            self.disks.lend(name)
+        };
+        match entry {
+            Some(entry) => {
+                self.objects -= 1;
+                Found::Here(entry)
+            }
+            None => Found::Failed,
+        }
+    }
 }
 
 impl Files for MemFiles {
@@ -190,8 +264,11 @@ impl Files for MemFiles {
 
     type K = NamedSink;
 
+    type D = NamedDisk;
+
     ghost shows = { λ f. record {
       held = held_of f;
+      disks = disk_held_of f.disks;
       custody = custody_of f;
       faults = f.calls.faults;
     } };
@@ -204,11 +281,19 @@ impl Files for MemFiles {
         self.lend_sink(name)
     }
 
+    fn disk(&mut self, name: &str, size: u64, make: bool) -> Found<NamedDisk> {
+        self.lend_disk(name, size, make)
+    }
+
     fn close_source(&mut self, source: NamedSource) {
-        self.take_source(source);
+        self.take_back_source(source);
     }
 
     fn close_sink(&mut self, sink: NamedSink) {
-        self.take_sink(sink);
+        self.take_back_sink(sink);
+    }
+
+    fn close_disk(&mut self, disk: NamedDisk) {
+        self.take_back_disk(disk);
     }
 }

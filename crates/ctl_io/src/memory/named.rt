@@ -2,9 +2,9 @@
 
 ghost use Rattle.std.specs.Prelude.{◌≡◌, ℕ, List, find, IfNone, IfOk, map};
 ghost use Rattle.std.specs.Str.{bytes_eq};
-ghost use Rattle.ctl_io.specs.MemFiles.{without_first, is_listed};
+ghost use Rattle.ctl_io.specs.Named.{without_first, is_listed};
 
-use crate::{Bytes, NamedSource};
+use crate::Bytes;
 use std::alloc::{AllocError, Global};
 
 /// What files have by a name.
@@ -38,13 +38,13 @@ pub(crate) fn is_listed(name: &[u8], names: &[Bytes]) -> bool
     names.iter().any(|other| other.as_slice() == name)
 }
 
-/// The names of the sources.
-pub(crate) fn names_of(alloc: Global, sources: &[NamedSource]) -> Result<Vec<Bytes>, AllocError>
-    ensures { IfOk result (λ names. names.items ≡ map (λ entry. entry.name) sources.now) }
+/// The names of the objects.
+pub(crate) fn names_of<T: Named>(alloc: Global, entries: &[T]) -> Result<Vec<Bytes>, AllocError>
+    ensures { IfOk result (λ names. names.items ≡ map T.name_of entries.now) }
 {
-    let mut names = Vec::with_capacity(alloc, sources.len())?;
-    for entry in sources {
-        names.push(Bytes::of(entry.name.as_slice().to_vec(alloc)?))?;
+    let mut names = Vec::with_capacity(alloc, entries.len())?;
+    for entry in entries {
+        names.push(Bytes::of(entry.name_of().to_vec(alloc)?))?;
     }
     Ok(names)
 }

@@ -1,9 +1,11 @@
-//! Sources and sinks in memory under the names that files have them by.
+//! Sources, sinks and disks in memory under the names that files have them by.
 
-ghost use Rattle.std.specs.Prelude.{Some};
+ghost use Rattle.std.specs.Prelude.{Some, length};
+ghost use Rattle.ctl_io.specs.MemDisk.{past_of, stored_by};
+ghost use Rattle.ctl_io.specs.DiskPast.{MayLeave, LeftSince, now_counts, now_alone};
 
 use crate::memory::named::Named;
-use crate::{Bytes, MemSink, MemSource, Read, Sink, Source, Write};
+use crate::{Bytes, Did, Disk, MemDisk, MemSink, MemSource, Read, Sink, Source, Write};
 
 /// A source in memory under the name that files have it by.
 #[derive(Debug, Drop)]
@@ -60,5 +62,74 @@ impl Sink for NamedSink {
 
     fn write(&mut self, bytes: &[u8]) -> Write {
         self.sink.take(bytes)
+    }
+}
+
+/// A disk in memory under the name that files have it by.
+#[derive(Debug, Drop)]
+pub struct NamedDisk {
+    pub name: Bytes,
+    pub disk: MemDisk,
+}
+
+impl Named for NamedDisk {
+    ghost name_of = { λ entry. entry.name };
+
+    fn name_of(&self) -> &[u8] {
+        self.name.as_slice()
+    }
+}
+
+impl Disk for NamedDisk {
+    ghost use Rattle.std.proofs.Common.{inl, refl};
+
+    ghost size = { λ entry. length (stored_by entry.disk).present };
+
+    ghost contents = { λ entry. Some (stored_by entry.disk).present };
+
+    ghost may_leave = { λ entry. MayLeave (stored_by entry.disk) };
+
+    ghost moment = { λ entry. length entry.disk.events };
+
+    ghost left_since = { λ entry. LeftSince entry.disk.start entry.disk.events };
+
+    ghost past = { λ entry. Some (past_of entry.disk) };
+
+    ghost faults = { λ entry. entry.disk.calls.faults };
+
+    ghost name = { λ entry. Some entry.name };
+
+    ghost shown_may_stay = { λ entry. inl refl };
+
+    ghost as_many = { λ entry. refl };
+
+    ghost made = { λ entry. record {
+      present = refl;
+      counted = refl;
+      leaves = λ c left. left;
+      no_less = λ c left. left;
+      left = λ t c left. left;
+      no_less_left = λ t c left. left;
+    } };
+
+    ghost counts_now = { λ entry t c le left.
+        now_counts entry.disk.start entry.disk.events t c left };
+
+    ghost only_now = { λ entry c left. now_alone entry.disk.start entry.disk.events c left };
+
+    fn size(&self) -> u64 {
+        self.disk.size()
+    }
+
+    fn read(&mut self, at: u64, into: &mut [u8]) -> Did {
+        self.disk.read(at, into)
+    }
+
+    fn write(&mut self, at: u64, bytes: &[u8]) -> Did {
+        self.disk.write(at, bytes)
+    }
+
+    fn sync(&mut self) -> Did {
+        self.disk.sync()
     }
 }

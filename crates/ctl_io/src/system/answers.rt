@@ -3,7 +3,7 @@
 ghost use Rattle.std.specs.Prelude.{◌≡◌, ◌≢◌, ◌<◌, IfOk, OnOk, OnErr, IfErr};
 ghost use Rattle.std.specs.IoError.{error_kind};
 ghost use Rattle.ctl_io.specs.Faults.{count_after};
-ghost use Rattle.ctl_io.specs.Files.{source_failed, sink_failed};
+ghost use Rattle.ctl_io.specs.Files.{find_failed, make_failed};
 ghost use Rattle.ctl_io.specs.Disk.{did_fail};
 ghost use Rattle.ctl_io.specs.Source.{read_failed};
 ghost use Rattle.ctl_io.specs.Sink.{write_failed};
@@ -51,7 +51,7 @@ pub(crate) fn found_answer<F>(opened: io::Result<F>, faults: &mut FaultCount) ->
         error_kind error ≡ ErrorKind.NotFound → result ≡ Found.Missing) }
     ensures failed { IfErr opened (λ error.
         error_kind error ≢ ErrorKind.NotFound → result ≡ Found.Failed) }
-    ensures count { faults.new ≡ count_after (source_failed result) faults.old }
+    ensures count { faults.new ≡ count_after (find_failed result) faults.old }
 {
     match opened {
         Ok(file) => Found::Here(file),
@@ -67,7 +67,7 @@ pub(crate) fn found_answer<F>(opened: io::Result<F>, faults: &mut FaultCount) ->
 pub(crate) fn made_answer<F>(created: io::Result<F>, faults: &mut FaultCount) -> Made<F>
     ensures here { IfOk created (λ file. result ≡ Made.Here file) }
     ensures failed { OnErr created (result ≡ Made.Failed) }
-    ensures count { faults.new ≡ count_after (sink_failed result) faults.old }
+    ensures count { faults.new ≡ count_after (make_failed result) faults.old }
 {
     match created {
         Ok(file) => Made::Here(file),

@@ -38,6 +38,8 @@ impl<F: FileExt + OpenFile> StdDisk<F> {
 }
 
 impl<F: FileExt + OpenFile> Disk for StdDisk<F> {
+    ghost use Rattle.std.proofs.Common.{refl};
+
     ghost size = { λ d. d.size };
 
     ghost contents = { λ _. None };
@@ -48,11 +50,15 @@ impl<F: FileExt + OpenFile> Disk for StdDisk<F> {
 
     ghost left_since = { λ _ _ _. ⊥ };
 
+    ghost past = { λ _. None };
+
     ghost faults = { λ d. d.faults };
 
     ghost shown_may_stay = { λ _. tt };
 
     ghost as_many = { λ _. tt };
+
+    ghost made = { λ _. refl };
 
     ghost counts_now = { λ _ _ _ _ left. left };
 

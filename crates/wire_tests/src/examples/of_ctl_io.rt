@@ -48,7 +48,8 @@ fn new_file(alloc: Global) -> Result<NamedSink, AllocError>
 fn both_files(alloc: Global) -> Result<MemFiles, AllocError> {
     let sources = vec![in alloc; text_file(alloc)?]?;
     let sinks = vec![in alloc; new_file(alloc)?]?;
-    MemFiles::new(alloc, sources, sinks, 2, Vec::new(alloc))
+    let disks = Vec::new(alloc);
+    MemFiles::new(alloc, sources, sinks, disks, 2, Vec::new(alloc), 0, 0, 0)
 }
 
 #[test]

@@ -1,6 +1,6 @@
 use Rattle.std.proofs.Common.{◌≡◌, true, List, ◌++◌, take, find, sym, ap, ◌∙◌, arith}
 use Rattle.std.specs.Str.{bytes_eq}
-use Rattle.ctl_io.specs.MemFiles.{without_first}
+use Rattle.ctl_io.specs.Named.{without_first}
 use Rattle.ctl_io.proofs.MemFilesLemmas.{same_read, found_at, rest_at}
 use Rattle.ctl_io.proofs.memory.named.take_first.Goals as goal
 

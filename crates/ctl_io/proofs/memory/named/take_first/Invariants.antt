@@ -1,6 +1,6 @@
 use Rattle.std.proofs.Common.{◌≡◌, ◌++◌, take, drop, find}
 use Rattle.std.specs.Str.{bytes_eq}
-use Rattle.ctl_io.specs.MemFiles.{without_first}
+use Rattle.ctl_io.specs.Named.{without_first}
 use Rattle.ctl_io.proofs.memory.named.take_first.Given as goal
 
 abbrev pub invariant-loop-i : goal.invariant-loop-i

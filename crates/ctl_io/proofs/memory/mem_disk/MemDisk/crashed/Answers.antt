@@ -1,7 +1,8 @@
 use Rattle.std.proofs.Common.{◌≡◌, length, take, drop, map, min, ap, sym, subst, ◌∙◌, arith}
 use Rattle.std.proofs.lemmas.List.{take_at}
 use Rattle.std.proofs.lemmas.Result.{IfOk-weaker}
-use Rattle.ctl_io.specs.MemDisk.{DiskState, MayLeave, stored_by, unused, crashed_at, crash_copy, torn_last}
+use Rattle.ctl_io.specs.DiskPast.{MayLeave}
+use Rattle.ctl_io.specs.MemDisk.{DiskState, stored_by, unused, crashed_at, crash_copy, torn_last}
 use Rattle.ctl_io.specs.MemDiskInside.{stored_in, write_of}
 use Rattle.ctl_io.proofs.MemDiskLemmas.{crashed_left, crashed_is}
 use Rattle.ctl_io.proofs.memory.mem_disk.MemDisk.crashed.Goals as goal

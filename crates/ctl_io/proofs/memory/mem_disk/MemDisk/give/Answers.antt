@@ -1,6 +1,7 @@
 use Rattle.std.proofs.Common.{Bool, not, [], ap, ◌∙◌, refl, rules, arith}
 use Rattle.ctl_io.specs.Calls.{called}
-use Rattle.ctl_io.specs.MemDisk.{WasRead, after_disk_read, disk_answer}
+use Rattle.ctl_io.specs.DiskPast.{WasRead}
+use Rattle.ctl_io.specs.MemDisk.{after_disk_read, disk_answer}
 use Rattle.ctl_io.specs.MemDiskInside.{disk_state, events_on}
 use Rattle.ctl_io.specs.declared.memory.disk_call.DiskCall.TheVariants as call
 use Rattle.ctl_io.proofs.MemDiskCalls.{room_is, answer_full, answer_done, after_full, after_recorded, kept_same}

@@ -1,6 +1,7 @@
 use Rattle.std.proofs.Common.{Bool, not, [], ap, ◌∙◌, refl, rules, arith}
 use Rattle.ctl_io.specs.Calls.{called}
-use Rattle.ctl_io.specs.MemDisk.{WasSynced, after_sync, after_disk_sync, disk_answer}
+use Rattle.ctl_io.specs.DiskPast.{WasSynced, after_sync}
+use Rattle.ctl_io.specs.MemDisk.{after_disk_sync, disk_answer}
 use Rattle.ctl_io.specs.MemDiskInside.{stored_in, disk_state, events_on}
 use Rattle.ctl_io.specs.declared.memory.disk_call.DiskCall.TheVariants as call
 use Rattle.ctl_io.proofs.MemDiskCalls.{room_is, answer_full, answer_done, after_full, after_recorded, kept_same, kept_sync}

@@ -2,7 +2,8 @@ use Rattle.std.proofs.Common.{◌≡◌, ◌+◌, ◌≤◌, Bool, not, [], leng
 use Rattle.std.proofs.lemmas.List.{take_at}
 use Rattle.ctl_io.specs.Calls.{called}
 use Rattle.ctl_io.specs.Disk.{overlaid}
-use Rattle.ctl_io.specs.MemDisk.{DiskWrite, WasWritten, after_disk_write, disk_answer}
+use Rattle.ctl_io.specs.DiskPast.{DiskWrite, WasWritten}
+use Rattle.ctl_io.specs.MemDisk.{after_disk_write, disk_answer}
 use Rattle.ctl_io.specs.MemDiskInside.{disk_state, events_on}
 use Rattle.ctl_io.specs.declared.memory.disk_call.WriteSpan.{WriteSpan}
 use Rattle.ctl_io.proofs.MemDiskCalls.{room_is, answer_full, answer_done, after_full, after_recorded, kept_write, kept_failed}

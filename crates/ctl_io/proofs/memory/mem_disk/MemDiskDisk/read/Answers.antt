@@ -1,7 +1,8 @@
 use Rattle.std.proofs.Common.{◌≡◌, ap, sym, subst, length, Some}
 use Rattle.ctl_io.specs.Calls.{next_fails}
 use Rattle.ctl_io.specs.Crash.{LeavesNoMore, Elapses}
-use Rattle.ctl_io.specs.MemDisk.{DiskState, Stored, WasRead, MayLeave, LeftSince, stored_by, has_room}
+use Rattle.ctl_io.specs.DiskPast.{Stored, WasRead, MayLeave, LeftSince}
+use Rattle.ctl_io.specs.MemDisk.{DiskState, stored_by, has_room}
 use Rattle.ctl_io.proofs.MemDiskLaws.{counts, elapses_when, reads, read_crash}
 use Rattle.ctl_io.proofs.memory.mem_disk.MemDiskDisk.read.Goals as goal
 

@@ -1,7 +1,8 @@
 use Rattle.std.proofs.Common.{◌≡◌, not, ap, sym, subst, List, length, Some}
 use Rattle.ctl_io.specs.Calls.{next_fails}
 use Rattle.ctl_io.specs.Crash.{LeavesNoMore, LeavesShown, Elapses}
-use Rattle.ctl_io.specs.MemDisk.{DiskState, WasSynced, MayLeave, LeftSince, stored_by, has_room}
+use Rattle.ctl_io.specs.DiskPast.{WasSynced, MayLeave, LeftSince}
+use Rattle.ctl_io.specs.MemDisk.{DiskState, stored_by, has_room}
 use Rattle.ctl_io.proofs.MemDiskLaws.{counts, elapses_when, syncs, durable, sync_crash}
 use Rattle.ctl_io.proofs.memory.mem_disk.MemDiskDisk.sync.Goals as goal
 

@@ -2,7 +2,8 @@ use Rattle.std.proofs.Common.{not, ap, sym, subst, ◌∙◌, List, length, Some
 use Rattle.ctl_io.specs.Calls.{next_fails}
 use Rattle.ctl_io.specs.Disk.{Torn}
 use Rattle.ctl_io.specs.Crash.{Follows, Elapses}
-use Rattle.ctl_io.specs.MemDisk.{DiskState, DiskWrite, WasWritten, MayLeave, LeftSince, stored_by, has_room}
+use Rattle.ctl_io.specs.DiskPast.{DiskWrite, WasWritten, MayLeave, LeftSince}
+use Rattle.ctl_io.specs.MemDisk.{DiskState, stored_by, has_room}
 use Rattle.ctl_io.proofs.MemDiskLaws.{counts, elapses_when, writes, tears, write_crash}
 use Rattle.ctl_io.proofs.memory.mem_disk.MemDiskDisk.write.Goals as goal
 use Rattle.ctl_io.proofs.memory.mem_disk.MemDiskDisk.write.Goals.{After-take}
