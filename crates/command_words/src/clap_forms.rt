@@ -72,8 +72,8 @@ fn with_word<'a>(
     form: Result<clap::Command<'a>, AllocError>,
     argument: Arg<'a>,
 ) -> Result<clap::Command<'a>, AllocError>
-    ensures { (app : App) (rule : Rule) → IfOk form.entry (IsForm app) → IsArg rule argument.entry
-        → IfOk result (IsForm (with_rule app rule)) }
+    ensures { (app : App) (rule : Rule) → IfOk form.entry (IsForm app)
+        → IsArg rule argument.entry → IfOk result (IsForm (with_rule app rule)) }
 {
     let command = form?;
     command.arg(argument)

@@ -71,7 +71,8 @@ fn asked_by_name<'a, V: Copy>(
     behind: &'a [String],
 ) -> Option<Asked<'a, V>>
     ensures { (line : Lines V) → line_of_name (map line_as lines.now) name.entry ≡ Some line
-        → IsSomeAnd result (λ asked. (asked.verb ≡ line.verb) × (asked.behind ≡ behind.entry)) }
+        → IsSomeAnd result
+        (λ asked. (asked.verb ≡ line.verb) × (asked.behind ≡ behind.entry)) }
 {
     let name = name?;
     let line = line_named(lines, name)?;
