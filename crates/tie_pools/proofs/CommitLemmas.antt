@@ -57,7 +57,7 @@ same_counts plant one other counts same counted = record {
 }
 
 -- a destination that carries a local source holds nothing of any pool
-local_holds : (plant : PlantData) (points : Crosspoints) (dest : ℕ) (spot : Spot) → dest < destinations_of plant → pool_of plant spot.source ≡ None → (pool : ℕ) → occupied plant (put points dest (Some spot)) pool ≡ occupied plant (put points dest None) pool
+pub local_holds : (plant : PlantData) (points : Crosspoints) (dest : ℕ) (spot : Spot) → dest < destinations_of plant → pool_of plant spot.source ≡ None → (pool : ℕ) → occupied plant (put points dest (Some spot)) pool ≡ occupied plant (put points dest None) pool
 local_holds plant points dest spot inside local pool =
     occupied_put plant points pool dest (Some spot) inside
     ∙ ap (λ o. with_feed (before plant points pool dest) (cond (option_eq nat_eq o (Some pool)) (option_map (λ origin. feed_with spot origin) (origin_of plant spot.source)) None) (behind plant points pool dest)) local
@@ -105,11 +105,11 @@ comes_in plant source route routed =
     }
 
 -- a destination with a source that comes by a route
-record ComesByRoute (plant : PlantData) (points : Crosspoints) (dest : ℕ) (spot : Spot) (route : Route) (tie : ℕ) : Type 0 where
+pub record ComesByRoute (plant : PlantData) (points : Crosspoints) (dest : ℕ) (spot : Spot) (route : Route) (tie : ℕ) : Type 0 where
   origin : ℕ
   tied : ComesTied plant points dest spot route.pool origin route.way tie
 
-comes_by_route : (plant : PlantData) (points : Crosspoints) (dest : ℕ) (spot : Spot) (route : Route) (tie : ℕ) → dest < destinations_of plant → route_of plant (Some spot.source) ≡ Some route → spot.tie ≡ Some tie → tie < size_of plant route.pool → HaveValidTies plant (put points dest (Some spot)) → ComesByRoute plant points dest spot route tie
+pub comes_by_route : (plant : PlantData) (points : Crosspoints) (dest : ℕ) (spot : Spot) (route : Route) (tie : ℕ) → dest < destinations_of plant → route_of plant (Some spot.source) ≡ Some route → spot.tie ≡ Some tie → tie < size_of plant route.pool → HaveValidTies plant (put points dest (Some spot)) → ComesByRoute plant points dest spot route tie
 comes_by_route plant points dest spot route tie inside routed tied below valid =
     let comes = comes_in plant spot.source route routed in
     record {
@@ -126,7 +126,7 @@ comes_by_route plant points dest spot route tie inside routed tied below valid =
     }
 
 -- the demand is a part of the counts
-demand_counted : (plant : PlantData) (points : Crosspoints) (counts : Counts) → AreCountsOf plant points counts → AreDemandOf plant points (demand_of counts)
+pub demand_counted : (plant : PlantData) (points : Crosspoints) (counts : Counts) → AreCountsOf plant points counts → AreDemandOf plant points (demand_of counts)
 demand_counted plant points counts counted = record {
   room = record { fed = counted.room.fed; used = counted.room.used; sizes = counted.room.sizes };
   fed = counted.fed;
@@ -187,7 +187,7 @@ counts_left plant points dest spot route tie counts comes counted = by (list_any
     })
 
 -- the counts with a destination that comes
-counts_come : (plant : PlantData) (points : Crosspoints) (dest : ℕ) (spot : Spot) (route : Route) (tie : ℕ) (counts : Counts) → ComesByRoute plant points dest spot route tie → AreCountsOf plant (put points dest None) counts → AreCountsOf plant (put points dest (Some spot)) (come_to counts route tie)
+pub counts_come : (plant : PlantData) (points : Crosspoints) (dest : ℕ) (spot : Spot) (route : Route) (tie : ℕ) (counts : Counts) → ComesByRoute plant points dest spot route tie → AreCountsOf plant (put points dest None) counts → AreCountsOf plant (put points dest (Some spot)) (come_to counts route tie)
 counts_come plant points dest spot route tie counts comes counted =
     let placed : route.pool < length counts.free = omega (arith, pool_within plant route.pool tie comes.tied.below, counted.room.free) in
     let demand = demand_fed plant points dest spot route.pool comes.origin route.way comes.tied.inside comes.tied.pooled comes.tied.stands comes.tied.is (demand_of counts) (demand_counted plant (put points dest None) counts counted) in
@@ -228,7 +228,7 @@ module _ (plant : PlantData) (points : Crosspoints) (dest : ℕ) (inside : dest 
       let own = own_tie spot route stands routed in
       none-some own.0 (sym none ∙ own.1)
 
-  parked_sized : (spot : Spot) (route : Route) (tie : ℕ) → finite.get points dest ≡ Some spot → route_of plant (Some spot.source) ≡ Some route → spot.tie ≡ Some tie → tie < size_of plant route.pool
+  pub parked_sized : (spot : Spot) (route : Route) (tie : ℕ) → finite.get points dest ≡ Some spot → route_of plant (Some spot.source) ≡ Some route → spot.tie ≡ Some tie → tie < size_of plant route.pool
   parked_sized spot route tie stands routed tied =
       let own = own_tie spot route stands routed in
       subst (λ tie. tie < size_of plant route.pool) (some_number own.0 tie (sym own.1 ∙ tied)) own.2

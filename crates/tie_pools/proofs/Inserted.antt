@@ -47,7 +47,7 @@ range_split h a (suc k) (suc n) at left is all =
     ∙ cons_append (h a) (filter_map h (range_with_len (a + 1) k)) (cons_option (h at) (filter_map h (range_with_len (at + 1) left)))
 
 -- what agrees at each number of a range finds the same there
-range_same : {Y : Type 0} (f h : ℕ → Option Y) (a n : ℕ) → ((k : ℕ) → a ≤ k → k < a + n → f k ≡ h k) → filter_map f (range_with_len a n) ≡ filter_map h (range_with_len a n)
+pub range_same : {Y : Type 0} (f h : ℕ → Option Y) (a n : ℕ) → ((k : ℕ) → a ≤ k → k < a + n → f k ≡ h k) → filter_map f (range_with_len a n) ≡ filter_map h (range_with_len a n)
 range_same f h a zero agree = refl
 range_same f h a (suc n) agree =
     ap (λ first. cons_option first (filter_map f (range_with_len (a + 1) n))) (agree a (omega arith) (omega arith))

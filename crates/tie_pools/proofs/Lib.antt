@@ -19,3 +19,4 @@ pub mod HoldingLemmas
 pub mod EachLemmas
 pub mod CommitLemmas
 pub mod WithoutPools
+pub mod RebuiltLemmas

@@ -11,4 +11,6 @@ pub mod CommitInside
 pub mod Reserve
 pub mod ReserveInside
 pub mod Plans
+pub mod Rebuilt
+pub mod RebuiltInside
 pub mod Laws

@@ -3,6 +3,7 @@
 ghost use Rattle.std.specs.Prelude.{◌≡◌, ◌<◌, ◌≤◌};
 ghost use Rattle.tie_pools.specs.Counts.{count_at};
 ghost use Rattle.tie_pools.specs.CountsInside.{more_at, fewer_at};
+ghost use Rattle.tie_pools.specs.RebuiltInside.{AreCleared};
 
 use number_tables::NumberMap;
 use plant_config::MAX_DESTINATIONS;
@@ -33,4 +34,15 @@ pub(crate) fn count_fewer(counts: &mut NumberMap<u32>, number: u32)
 {
     let count = count_of(counts, number);
     counts.set(number, Some(count.saturating_sub(1)));
+}
+
+/// Takes the values of the numbers below a count away.
+pub(crate) fn clear<V: Copy>(table: &mut NumberMap<V>, count: u32)
+    requires { count ≤ table.old.room }
+    ensures entries { AreCleared table.old.entries table.new.entries count }
+    ensures room { table.new.room ≡ table.old.room }
+{
+    for number in 0..count {
+        table.set(number, None);
+    }
 }

@@ -5,8 +5,9 @@ ghost use Rattle.std.specs.FinMap.{empty};
 ghost use Rattle.tie_pools.specs.Counts.{count_at};
 ghost use Rattle.tie_pools.specs.CountsInside.{fed_more, fed_less};
 ghost use Rattle.tie_pools.specs.DemandInside.{IsDemandFor, in_use_of, over};
+ghost use Rattle.tie_pools.specs.RebuiltInside.{AreCleared};
 
-use crate::counts::{count_fewer, count_more, count_of};
+use crate::counts::{clear, count_fewer, count_more, count_of};
 use crate::in_use::InUse;
 use crate::planned::Exhausted;
 use number_tables::NumberMap;
@@ -71,6 +72,17 @@ impl Demand {
             self.in_use.fewer(pool);
         }
         count_fewer(&mut self.fed, way.get());
+    }
+
+    /// No way feeds a destination any more.
+    pub(crate) fn clear(&mut self, plant: &Plant)
+        requires { IsDemandFor plant.now self.old }
+        ensures fed { AreCleared self.old.fed.entries self.new.fed.entries self.old.fed.room }
+        ensures used { AreCleared self.old.used.entries self.new.used.entries self.old.used.room }
+        ensures room { IsDemandFor plant.now self.new }
+    {
+        clear(&mut self.fed, plant.source_count());
+        self.in_use.clear();
     }
 
     /// Whether a way feeds a destination.

@@ -7,7 +7,9 @@ ghost use Rattle.plant_config.specs.Limits.{tie_limit};
 ghost use Rattle.plant_config.specs.Plant.{sources_of};
 ghost use Rattle.tie_pools.specs.Counts.{free_of};
 ghost use Rattle.tie_pools.specs.HoldingsInside.{all_free, ties_below, holding, freed, tie_for};
+ghost use Rattle.tie_pools.specs.RebuiltInside.{AreCleared, AreFreeBelow};
 
+use crate::counts::clear;
 use number_tables::{NumberMap, SmallSet};
 use plant_config::{Plant, PoolId, SourceId, TieNo};
 use std::alloc::{AllocError, Global};
@@ -40,6 +42,30 @@ impl Holdings {
         let ties = NumberMap::new(alloc, plant.source_count() as usize)?;
         let free = all_free(alloc, plant)?;
         Ok(Holdings { ties, free })
+    }
+
+    // No way has a tie any more: all ties of the plant's pools are free.
+    pub(crate) fn clear(&mut self, plant: &Plant)
+        requires ways { self.old.ties.room ≡ sources_of plant.now }
+        requires pools { length self.old.free ≡ length plant.now.pools }
+        ensures ties { AreCleared self.old.ties.entries self.new.ties.entries
+            (sources_of plant.now) }
+        ensures ways { self.new.ties.room ≡ sources_of plant.now }
+        ensures pools { length self.new.free ≡ length plant.now.pools }
+        ensures free { AreFreeBelow plant.now self.new.free (length plant.now.pools) }
+    {
+        clear(&mut self.ties, plant.source_count());
+        self.release(plant);
+    }
+
+    // All ties of the plant's pools are free.
+    fn release(&mut self, plant: &Plant)
+        requires { length self.old.free ≡ length plant.now.pools }
+        ensures ties { self.new.ties ≡ self.old.ties }
+        ensures pools { length self.new.free ≡ length plant.now.pools }
+        ensures free { AreFreeBelow plant.now self.new.free (length plant.now.pools) }
+    {
+        free_all(plant, &mut self.free);
     }
 
     // The tie of a way, `None` where it has none.
@@ -105,6 +131,18 @@ fn all_free(alloc: Global, plant: &Plant) -> Result<Vec<SmallSet>, AllocError>
         free.push(ties_below(pool.ties))?;
     }
     Ok(free)
+}
+
+// All ties of each pool of a plant are free.
+fn free_all(plant: &Plant, free: &mut [SmallSet])
+    requires { length free.old ≡ length plant.now.pools }
+    ensures pools { length free.new ≡ length plant.now.pools }
+    ensures free { AreFreeBelow plant.now free.new (length plant.now.pools) }
+{
+    let pools = plant.pools();
+    for number in 0..pools.len() {
+        free[number] = ties_below(pools[number].ties);
+    }
 }
 
 // The ties of a pool of this size.

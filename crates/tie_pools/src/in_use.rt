@@ -5,8 +5,9 @@ ghost use Rattle.std.specs.FinMap.{empty};
 ghost use Rattle.tie_pools.specs.Counts.{count_at, sizes_of};
 ghost use Rattle.tie_pools.specs.CountsInside.{one_more, one_fewer};
 ghost use Rattle.tie_pools.specs.DemandInside.{over};
+ghost use Rattle.tie_pools.specs.RebuiltInside.{AreCleared};
 
-use crate::counts::{count_fewer, count_more, count_of};
+use crate::counts::{clear, count_fewer, count_more, count_of};
 use crate::planned::Exhausted;
 use number_tables::{NumberMap, SmallSet};
 use plant_config::{MAX_DESTINATIONS, Plant, PoolId};
@@ -71,6 +72,17 @@ impl InUse {
         if count_of(&self.used, pool.get()) <= size {
             self.over.remove(pool.get());
         }
+    }
+
+    /// No way of a pool is in use any more.
+    pub(crate) fn clear(&mut self)
+        ensures used { AreCleared self.old.used.entries self.new.used.entries self.old.used.room }
+        ensures room { self.new.used.room ≡ self.old.used.room }
+        ensures sizes { self.new.sizes ≡ self.old.sizes }
+    {
+        let pools = self.sizes.len() as u32;
+        clear(&mut self.used, pools);
+        self.over = SmallSet::new();
     }
 
     /// How many ways of a pool are in use.

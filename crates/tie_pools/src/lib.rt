@@ -12,6 +12,7 @@ mod in_use;
 mod laws;
 mod plan;
 mod planned;
+mod rebuild;
 mod reserve;
 mod route;
 mod ties;
