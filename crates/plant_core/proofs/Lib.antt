@@ -33,3 +33,5 @@ pub mod DueLemmas
 pub mod TurnLemmas
 pub mod DuePolls
 pub mod BusyLemmas
+pub mod StateTextLemmas
+mod Worked

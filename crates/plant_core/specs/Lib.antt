@@ -14,6 +14,7 @@ pub use Rattle.change_boards.specs.Notices
 pub mod State
 pub mod StateInside
 pub mod Wide
+pub mod StateText
 pub mod Short
 pub mod Answer
 pub mod Noticed

@@ -26,6 +26,8 @@ mod state;
 mod tables;
 mod tallies;
 mod wide;
+mod write_fields;
+mod write_state;
 
 pub use answer::Answer;
 pub use display_laws::{
@@ -48,3 +50,4 @@ pub use request::Request;
 pub use salvo_laws::{entries_are_kept, goes_are_answered, goes_are_whole};
 pub use state::PlantState;
 pub use wide::{is_short_dest, is_short_source};
+pub use write_state::state_size;
