@@ -11,5 +11,6 @@ pub(crate) mod of_plant_names;
 mod of_plant_rules;
 mod of_protects;
 mod of_salvo_groups;
+mod of_standby;
 mod of_tally;
 mod of_tie_pools;

@@ -1,0 +1,11 @@
+pub use Rattle.plant_config.specs.Plant
+pub use Rattle.plant_core.specs.State
+pub use Rattle.plant_core.specs.Step
+pub use Rattle.plant_core.specs.HistoryLaws
+pub use Rattle.history_lock.specs.History
+pub mod Standby
+pub mod StandbyInside
+pub mod Table
+pub mod Follows
+pub mod Arrivals
+pub mod Laws
