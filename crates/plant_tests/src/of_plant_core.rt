@@ -1,6 +1,6 @@
 //! The plant's answers, what stands behind them, and who is told of what, each by a table.
 
-ghost use Rattle.std.specs.Prelude.{◌≤◌};
+ghost use Rattle.std.specs.Prelude.{◌≡◌, ◌≤◌, IfOk};
 ghost use Rattle.plant_core.specs.Answer.{room_of};
 
 mod day;
@@ -8,6 +8,7 @@ mod displays;
 mod large;
 mod long_runs;
 mod rows;
+mod state_text;
 
 pub(crate) use displays::STUDIO;
 use history_lock::{Machine, OutBox};
@@ -145,7 +146,9 @@ struct Rig {
 
 impl Rig {
     // The start of a plant.
-    fn of(alloc: Global, plant: &Plant) -> Result<Rig, AllocError> {
+    fn of(alloc: Global, plant: &Plant) -> Result<Rig, AllocError>
+        ensures { IfOk result (λ rig. rig.state.plant ≡ plant.now) }
+    {
         let out = OutBox::new(alloc, PlantState::room_of(plant))?;
         let state = PlantState::start(alloc, plant)?;
         Ok(Rig { state, out })
@@ -157,7 +160,9 @@ impl Rig {
     }
 
     // An event is asked for, in place of what was answered before.
-    fn ask(&mut self, rt: &impl Abort, request: &Request) {
+    fn ask(&mut self, rt: &impl Abort, request: &Request)
+        ensures { self.new.state.plant ≡ self.old.state.plant }
+    {
         assert!(rt; self.state.fits(request));
         self.out.clear();
         self.state.step(request, &mut self.out);
