@@ -24,11 +24,11 @@ use Rattle.plant_core.specs.Step.{step}
 use Rattle.panel_session.specs.Asked.{AllAsk}
 use Rattle.panel_session.specs.Entry.{PlantEntry}
 use Rattle.panel_session.specs.Served.{PlantSeat, all_read, own_lines}
-use Rattle.panel_session.specs.TraceLine.{MayTrace, trace_limit}
+use Rattle.trace_lines.specs.TraceLine.{MayTrace, trace_limit}
 use Rattle.panel_session.specs.Turns.{FitsReads}
 use Rattle.line_text.specs.Lines.{lines}
 use Rattle.trace_audit.specs.Laws.{AreLinesOf, IsTraceable}
-use Rattle.trace_audit.specs.Trace.{HasTraceNumbers}
+use Rattle.trace_lines.specs.Trace.{HasTraceNumbers}
 use Rattle.drill.specs.declared.outcome.Outcome.{Outcome}
 use Rattle.drill.specs.declared.worker.Worker.{Worker}
 use Rattle.drill.specs.declared.worker.Workload.{Workload}

@@ -22,7 +22,7 @@ use Rattle.panel_session.specs.Asked.{AllAsk}
 use Rattle.panel_session.specs.Entry.{PlantEntry}
 use Rattle.panel_session.specs.Served.{FitAsEnded, HasCause, PlantSeat, all_read, full_after, own_lines, read_failed_at, read_of, trace_failed_at, write_failed_at}
 use Rattle.panel_session.specs.Text.{IsText}
-use Rattle.panel_session.specs.TraceLine.{trace_limit}
+use Rattle.trace_lines.specs.TraceLine.{trace_limit}
 use Rattle.panel_session.specs.Turns.{requests}
 use Rattle.panel_session.specs.declared.serve.SessionEnd.{SessionEnd}
 use Rattle.panel_session.specs.declared.serve.SessionEnd.TheVariants.{Ended, ReadFault, WriteFault, TraceFault, IdleOut, Spent, Full}

@@ -16,7 +16,8 @@ use Rattle.panel_session.specs.Entry.{PlantEntry}
 use Rattle.panel_session.specs.OneSend.{bytes_in}
 use Rattle.panel_session.specs.Served.{own_lines}
 use Rattle.panel_session.specs.Text.{frames_of}
-use Rattle.panel_session.specs.TraceLine.{entry_text, line_end, reply_text, request_text, told_bytes, trace_limit, trace_line}
+use Rattle.trace_lines.specs.TraceLine.{entry_text, line_end, request_text, told_bytes, trace_limit}
+use Rattle.panel_session.specs.Reply.{reply_text, trace_line}
 use Rattle.drill.proofs.AskedLemmas.{IsWithin}
 use Rattle.drill.proofs.RoomLemmas.{text_most}
 use Rattle.drill.proofs.TextLemmas.{AreShort, IsShort}

@@ -13,7 +13,8 @@ use Rattle.history_lock.specs.Shares.{own_entries}
 use Rattle.plant_config.specs.Plant.{PlantData}
 use Rattle.panel_session.specs.Entry.{PlantEntry}
 use Rattle.panel_session.specs.Served.{PlantSeat, own_lines}
-use Rattle.panel_session.specs.TraceLine.{trace_limit, entry_text, reply_text, MayTrace}
+use Rattle.trace_lines.specs.TraceLine.{trace_limit, entry_text, MayTrace}
+use Rattle.panel_session.specs.Reply.{reply_text}
 use Rattle.panel_session.proofs.TraceEnds.{lines_end_once}
 use Rattle.trace_audit.specs.Laws.{AreLinesOf, lines_from}
 

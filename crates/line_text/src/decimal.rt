@@ -5,6 +5,7 @@ ghost use Rattle.std.specs.Prelude.{vec_len, vec_capacity};
 ghost use Rattle.std.specs.Fmt.{decimal};
 ghost use Rattle.line_text.specs.Decimal.{most_digits, most_read, SpellsDecimal, SpellsNoDecimal};
 
+use crate::bytes::append;
 use itoa::Buffer;
 
 /// The most digits of a number: room for so many bytes serves `append_decimal`.
@@ -39,16 +40,4 @@ pub fn read_decimal(digits: &[u8]) -> Option<u64>
         number = 10 * number + u64::from(*digit - b'0');
     }
     Some(number)
-}
-
-// Appends bytes for which there is room.
-fn append(more: &[u8], out: &mut Vec<u8>)
-    requires { vec_len out.old + length more.now ≤ vec_capacity out.old }
-    ensures bytes { out.new.items ≡ out.old.items ++ more.now }
-    ensures len { vec_len out.new ≡ vec_len out.old + length more.now }
-    ensures room { vec_capacity out.new ≡ vec_capacity out.old }
-{
-    for byte in more {
-        out.push_reserved(*byte);
-    }
 }

@@ -22,11 +22,12 @@ use Rattle.plant_core.proofs.CountLemmas.{answer_count}
 use Rattle.plant_core.proofs.HistoryLemmas.{run-plant, run-valid, run-short}
 use Rattle.plant_core.proofs.ShortLemmas.{StaysShort-start}
 use Rattle.plant_core.proofs.Validity.{IsValid-start}
-use Rattle.panel_session.specs.DisplayPacket.{AreLamps, packet_of, shown_by}
+use Rattle.display_packets.specs.DisplayPacket.{AreLamps, packet_of, shown_by}
 use Rattle.panel_session.specs.Entry.{PlantEntry}
 use Rattle.panel_session.specs.Served.{PlantSeat}
-use Rattle.panel_session.specs.TraceLine.{display_reply, told_bytes, told_line, trace_line, entry_text, line_end}
-use Rattle.panel_session.proofs.LampLemmas.{display_poll-lamps}
+use Rattle.panel_session.specs.Reply.{display_reply, trace_line}
+use Rattle.trace_lines.specs.TraceLine.{told_bytes, told_line, entry_text, line_end}
+use Rattle.display_packets.proofs.LampLemmas.{display_poll-lamps}
 use Rattle.panel_session.proofs.TraceLemmas.{told_some}
 use Rattle.panel_server.specs.Driven.{has_lamps}
 use Rattle.panel_server.specs.DrivenInside.{packet_bytes}

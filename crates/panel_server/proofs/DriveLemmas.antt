@@ -17,7 +17,7 @@ use Rattle.plant_core.specs.declared.request.Request.{Request}
 use Rattle.plant_core.specs.declared.request.Request.TheVariants.{DisplayPoll}
 use Rattle.panel_session.specs.Entry.{PlantEntry}
 use Rattle.panel_session.specs.Served.{PlantSeat, mark_after, own_lines}
-use Rattle.panel_session.specs.TraceLine.{trace_line}
+use Rattle.panel_session.specs.Reply.{trace_line}
 use Rattle.panel_session.proofs.GoneOnLemmas.{SeesOwn, appended-both, lines-behind, mark-both, sees_both}
 use Rattle.panel_server.specs.declared.displays.DriverEnd.{DriverEnd}
 use Rattle.panel_server.specs.declared.displays.DriverEnd.TheVariants.{Finished, TraceFault, Full, NoMemory}

@@ -17,7 +17,7 @@ use Rattle.plant_core.specs.declared.request.Request.TheVariants.{Leave}
 use Rattle.panel_session.specs.declared.session.Session.{Session}
 use Rattle.panel_session.specs.Entry.{PlantEntry}
 use Rattle.panel_session.specs.Served.{PlantSeat, TraceData, own_lines, TracesUnless}
-use Rattle.panel_session.specs.TraceLine.{trace_line}
+use Rattle.panel_session.specs.Reply.{trace_line}
 use Rattle.panel_session.proofs.GoneOnLemmas.{appended-both, appended-none, lines-behind, sees_both}
 use Rattle.panel_server.specs.declared.panel.PanelDone.{PanelDone}
 use Rattle.panel_server.specs.DrivenInside.{IsGiven}

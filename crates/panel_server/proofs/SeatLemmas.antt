@@ -12,7 +12,7 @@ use Rattle.plant_core.specs.declared.request.Request.{Request}
 use Rattle.panel_session.specs.Entry.{PlantEntry}
 use Rattle.panel_session.specs.Served.{PlantSeat, own_lines}
 use Rattle.panel_session.specs.ServedInside.{SeesMore}
-use Rattle.panel_session.specs.TraceLine.{trace_line}
+use Rattle.panel_session.specs.Reply.{trace_line}
 use Rattle.panel_session.proofs.GoneOnLemmas.{SeesOwn, line-own, lines-both, lines-none, mark-some}
 use Rattle.panel_server.specs.DrivenInside.{IsGiven}
 

@@ -11,7 +11,7 @@ use Rattle.history_lock.specs.Shares.{own_entries}
 use Rattle.plant_config.specs.Plant.{PlantData}
 use Rattle.panel_session.specs.Entry.{PlantEntry}
 use Rattle.panel_session.specs.Served.{PlantSeat, TraceData, own_lines}
-use Rattle.panel_session.specs.TraceLine.{trace_line}
+use Rattle.panel_session.specs.Reply.{trace_line}
 use Rattle.panel_server.specs.PlantServed.{ShareLines, lines_of, with_lines}
 
 abbrev pub line_at : PlantData → ℕ × PlantEntry → List ℕ

@@ -13,7 +13,7 @@ use Rattle.plant_core.specs.declared.answer.Answer.{Answer}
 use Rattle.plant_core.specs.declared.answer.Answer.TheVariants as answers
 use Rattle.plant_core.specs.declared.request.Request.{Request}
 use Rattle.plant_core.specs.declared.request.Request.TheVariants.{DisplayPoll}
-use Rattle.panel_session.specs.DisplayPacket.{packet_of}
+use Rattle.display_packets.specs.DisplayPacket.{packet_of}
 use Rattle.panel_session.specs.Entry.{PlantEntry}
 use Rattle.panel_session.specs.Served.{PlantSeat, TraceData, mark_after, own_lines, TracesUnless}
 use Rattle.panel_server.specs.declared.displays.DriverEnd.{DriverEnd}

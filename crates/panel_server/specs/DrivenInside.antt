@@ -12,11 +12,12 @@ use Rattle.plant_core.specs.declared.answer.Answer.{Answer}
 use Rattle.plant_core.specs.declared.answer.Answer.TheVariants.{Finished}
 use Rattle.plant_core.specs.declared.request.Request.{Request}
 use Rattle.plant_core.specs.declared.request.Request.TheVariants.{DisplayPoll}
-use Rattle.panel_session.specs.DisplayPacket.{longest_packet, packet_of}
+use Rattle.display_packets.specs.DisplayPacket.{longest_packet, packet_of}
 use Rattle.panel_session.specs.Entry.{PlantEntry}
 use Rattle.panel_session.specs.Served.{PlantSeat, mark_after, own_lines}
 use Rattle.panel_session.specs.ServedInside.{SeesMore}
-use Rattle.panel_session.specs.TraceLine.{trace_line, longest_trace_line}
+use Rattle.panel_session.specs.Reply.{trace_line}
+use Rattle.trace_lines.specs.TraceLine.{longest_trace_line}
 use Rattle.panel_server.specs.declared.displays.DriverEnd.{DriverEnd}
 use Rattle.panel_server.specs.declared.displays.DriverEnd.TheVariants.{TraceFault, Full}
 use Rattle.panel_server.specs.declared.poll_room.PollRoom.{PollRoom}

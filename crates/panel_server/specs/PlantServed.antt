@@ -23,7 +23,7 @@ use Rattle.plant_file.specs.declared.entries.Server.{Server}
 use Rattle.panel_session.specs.declared.session.Session.{Session}
 use Rattle.panel_session.specs.Entry.{PlantEntry}
 use Rattle.panel_session.specs.Served.{PlantSeat, TraceData}
-use Rattle.panel_session.specs.TraceLine.{trace_line}
+use Rattle.panel_session.specs.Reply.{trace_line}
 use Rattle.panel_server.specs.declared.displays.DriverEnd.{DriverEnd}
 use Rattle.panel_server.specs.declared.displays.DriverEnd.TheVariants as ends
 use Rattle.panel_server.specs.declared.panel.PanelDone.{PanelDone}

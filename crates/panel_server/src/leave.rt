@@ -9,7 +9,7 @@ ghost use Rattle.plant_config.specs.Plant.{PlantData};
 ghost use Rattle.plant_core.specs.declared.request.Request.TheVariants.{Leave};
 ghost use Rattle.panel_session.specs.Session.{StandsFor};
 ghost use Rattle.panel_session.specs.SoFar.{nothing_yet};
-ghost use Rattle.panel_session.specs.TraceLine.{trace_line};
+ghost use Rattle.panel_session.specs.Reply.{trace_line};
 ghost use Rattle.panel_server.specs.DrivenInside.{IsGiven};
 ghost use Rattle.panel_server.specs.PanelServedInside.{MayBegin, MayServeOn};
 

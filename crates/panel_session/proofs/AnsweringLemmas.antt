@@ -15,7 +15,8 @@ use Rattle.panel_session.specs.Entry.{PlantEntry}
 use Rattle.panel_session.specs.OneSend.{bytes_in}
 use Rattle.panel_session.specs.Served.{PlantSeat, own_lines}
 use Rattle.panel_session.specs.Text.{frames_of}
-use Rattle.panel_session.specs.TraceLine.{told_line, trace_line}
+use Rattle.trace_lines.specs.TraceLine.{told_line}
+use Rattle.panel_session.specs.Reply.{trace_line}
 use Rattle.panel_session.proofs.GoneOnLemmas.{SeesOwn, sees_own}
 
 -- The line of what a session asks is made of the frames of its answers.

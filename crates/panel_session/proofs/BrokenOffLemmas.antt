@@ -16,7 +16,7 @@ use Rattle.panel_session.specs.Entry.{PlantEntry}
 use Rattle.panel_session.specs.Served.{AnsweredButLast, PlantSeat, full_after, mark_after, own_lines}
 use Rattle.panel_session.specs.ServedInside.{Outside, HasBrokenOff, HasGoneOn, KeepsAnswered, outside}
 use Rattle.panel_session.specs.SoFar.{Progress, entries_so_far, read_so_far, with_bytes, with_entry, with_sent}
-use Rattle.panel_session.specs.TraceLine.{trace_line}
+use Rattle.panel_session.specs.Reply.{trace_line}
 use Rattle.panel_session.proofs.AnsweredLemmas.{answered_bytes, answered_front}
 use Rattle.panel_session.proofs.GoneOnLemmas.{SeesOwn, entries-more, own-behind}
 

@@ -18,7 +18,7 @@ use Rattle.panel_session.specs.Entry.{PlantEntry}
 use Rattle.panel_session.specs.Served.{PlantSeat, mark_after, own_lines}
 use Rattle.panel_session.specs.ServedInside.{Outside, HasGoneOn, SeesMore, outside}
 use Rattle.panel_session.specs.SoFar.{Progress, entries_so_far, with_bytes, with_entry, with_sent}
-use Rattle.panel_session.specs.TraceLine.{trace_line}
+use Rattle.panel_session.specs.Reply.{trace_line}
 use Rattle.panel_session.proofs.KeepsLemmas.{entries-polled, entries-told}
 
 -- its entries among them

@@ -48,7 +48,5 @@ pub mod WorkLemmas
 pub mod TellLemmas
 pub mod CutLemmas
 pub mod SessionRequests
-pub mod LampLemmas
 pub mod TraceLemmas
-pub mod TraceEntry
 pub mod TraceEnds

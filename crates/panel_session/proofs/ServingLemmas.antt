@@ -25,7 +25,7 @@ use Rattle.panel_session.specs.Served.{AnsweredButLast, PlantSeat, mark_after, o
 use Rattle.panel_session.specs.ServedInside.{HasBrokenOff, HasGoneOn, HasServed, KeepsAnswered, MayServeTurn, SeesMore, WasStopped, ended_by, outside}
 use Rattle.panel_session.specs.Session.{StandsFor, plant_of}
 use Rattle.panel_session.specs.SoFar.{Progress, entries_so_far, read_so_far, unstarted}
-use Rattle.panel_session.specs.TraceLine.{trace_line}
+use Rattle.panel_session.specs.Reply.{trace_line}
 use Rattle.panel_session.specs.Turns.{Turn, entries_in, entries_of_turns}
 use Rattle.panel_session.proofs.ActsLemmas.{no_bytes}
 use Rattle.panel_session.proofs.AnsweredLemmas.{answered_front}

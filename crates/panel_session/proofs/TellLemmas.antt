@@ -21,7 +21,7 @@ use Rattle.panel_session.specs.MovesInside.{answered_too}
 use Rattle.panel_session.specs.RoomsInside.{fitting}
 use Rattle.panel_session.specs.Session.{Awaits, made_by, with_outbox}
 use Rattle.panel_session.specs.SoFar.{Progress}
-use Rattle.panel_session.specs.TraceLine.{MaySpell}
+use Rattle.trace_lines.specs.TraceLine.{MaySpell}
 use Rattle.panel_session.proofs.RoomLemmas.{fits-all}
 use Rattle.panel_session.proofs.SentLemmas.{taken_too}
 use Rattle.panel_session.proofs.AheadLemmas.{ahead_at, all_ahead, answer_frames, made_ahead, made_behind, phase_ahead, unsent_ahead}

@@ -1,80 +1,16 @@
--- A line of a trace has no line's end but its own.
-use Rattle.std.proofs.Common.{◌≡◌, ℕ, zero, suc, ◌+◌, ◌/◌, ◌%◌, ◌^◌, ◌<◌, ◌≤◌, ◌==◌, Bool, true, false, not, List, [], ◌∷◌, ◌++◌, All, slice_index, codes, refl, subst, arith}
-use Rattle.std.specs.Fmt.{decimal}
-use Rattle.std.specs.List.{flat_map, list_all}
-use Rattle.std.proofs.lemmas.Bool.{false≢true}
-use Rattle.std.proofs.lemmas.Fmt.{decimal_by_steps}
-use Rattle.std.proofs.lemmas.List.Elements.{All-nil, All-cons, All-push, All-append, All-head, All-tail, All-weaker}
-use Rattle.std.proofs.lemmas.List.Sums.{AllPass-from_list_all}
-use Rattle.hex.specs.Hex.{encode_upper, encode_with, upper_digits}
-use Rattle.swp08_messages.specs.Text.{text}
+-- A line of a trace has no line's end but its own, whatever was answered.
+use Rattle.std.proofs.Common.{ℕ, List, [], ◌∷◌, All, codes, refl}
+use Rattle.std.specs.List.{flat_map}
 use Rattle.plant_config.specs.Plant.{PlantData}
 use Rattle.plant_core.specs.declared.answer.Answer.{Answer}
 use Rattle.plant_core.specs.declared.answer.Answer.TheVariants.{Say, Dumped, Lamp, Finished}
 use Rattle.plant_core.specs.declared.request.Request.{Request}
 use Rattle.plant_core.specs.declared.request.Request.TheVariants.{Told, Poll, Leave, DisplayPoll}
-use Rattle.panel_session.specs.DisplayPacket.{packet_of}
+use Rattle.display_packets.specs.DisplayPacket.{packet_of}
+use Rattle.trace_lines.proofs.LineEnds.{NoEnd, literal, hex, sent, line_ends}
+use Rattle.panel_session.specs.Reply.{reply_text, display_reply}
+use Rattle.panel_session.specs.ReplyLaws.{LinesEndOnce}
 use Rattle.panel_session.specs.Text.{frames_of}
-use Rattle.panel_session.specs.TraceLine.{trace_limit, request_text, reply_text, told_bytes, display_reply, MayTrace}
-use Rattle.panel_session.specs.TraceLaws.{LinesEndOnce}
-
--- a byte that doesn't end a line
-abbrev NoEnd : ℕ → Type 0
-NoEnd byte = byte ≡ 10 → ⊥
-
-abbrev goes_on : ℕ → Bool
-goes_on byte = not (byte == 10)
-
-goes_on-is : (byte : ℕ) → goes_on byte ≡ true → NoEnd byte
-goes_on-is byte test is = false≢true (subst (λ (code : ℕ). goes_on code ≡ true) is test)
-
-literal : (bytes : List ℕ) → list_all goes_on bytes ≡ true → All NoEnd bytes
-literal bytes test = All-weaker (λ byte. goes_on byte ≡ true) NoEnd goes_on-is bytes (AllPass-from_list_all goes_on bytes test)
-
-join : (a b : List ℕ) → All NoEnd a → All NoEnd b → All NoEnd (a ++ b)
-join a b = All-append NoEnd a b
-
-number : (value : ℕ) → value ≤ trace_limit → All NoEnd (decimal value)
-number value within = at value (omega arith) where
-  at : (value : ℕ) → value < 2 ^ 64 → All NoEnd (decimal value)
-  at = decimal_by_steps (λ value digits. All NoEnd digits)
-      (λ value below. All-cons NoEnd (48 + value) [] (λ is. omega arith) (All-nil NoEnd))
-      (λ value digits many all. All-push NoEnd digits (48 + value % 10) all (λ is. omega arith))
-
-pick : (table : List ℕ) (at : ℕ) → All NoEnd table → NoEnd (slice_index table at)
-pick [] at all is = omega arith
-pick (byte ∷ bytes) zero all is = All-head NoEnd byte bytes all is
-pick (byte ∷ bytes) (suc at) all is = pick bytes at (All-tail NoEnd byte bytes all) is
-
-hex : (bytes : List ℕ) → All NoEnd (encode_upper bytes)
-unfolding encode_with
-hex [] = All-nil NoEnd
-hex (byte ∷ bytes) =
-    let digits = literal upper_digits refl in
-    All-cons NoEnd (slice_index upper_digits (byte / 16)) (slice_index upper_digits (byte % 16) ∷ encode_upper bytes) (pick upper_digits (byte / 16) digits)
-    (All-cons NoEnd (slice_index upper_digits (byte % 16)) (encode_upper bytes) (pick upper_digits (byte % 16) digits) (hex bytes))
-
--- a word and three parts with spaces between them
-parts : (word a b c : List ℕ) → All NoEnd word → All NoEnd a → All NoEnd b → All NoEnd c → All NoEnd (word ++ a ++ codes " " ++ b ++ codes " " ++ c)
-parts word a b c plain_word plain_a plain_b plain_c =
-    let space = literal (codes " ") refl in
-    join (word ++ a ++ codes " " ++ b ++ codes " ") c
-    (join (word ++ a ++ codes " " ++ b) (codes " ") (join (word ++ a ++ codes " ") b (join (word ++ a) (codes " ") (join word a plain_word plain_a) space) plain_b) space) plain_c
-
-request : (asked : Request) → MayTrace asked → All NoEnd (request_text asked)
-request (Told panel item message) may =
-    parts (codes "told ") (decimal panel) (decimal item) (encode_upper (text message)) (literal (codes "told ") refl) (number panel may.0) (number item may.1) (hex (text message))
-request (Poll panel item turn) may =
-    parts (codes "poll ") (decimal panel) (decimal item) (decimal turn) (literal (codes "poll ") refl) (number panel may.0) (number item may.1) (number turn may.2)
-request (Leave panel) may = join (codes "leave ") (decimal panel) (literal (codes "leave ") refl) (number panel may)
-request (DisplayPoll screen true) may =
-    join (codes "show " ++ decimal screen) (codes " 1") (join (codes "show ") (decimal screen) (literal (codes "show ") refl) (number screen may)) (literal (codes " 1") refl)
-request (DisplayPoll screen false) may =
-    join (codes "show " ++ decimal screen) (codes " 0") (join (codes "show ") (decimal screen) (literal (codes "show ") refl) (number screen may)) (literal (codes " 0") refl)
-
-sent : (bytes : List ℕ) → All NoEnd (told_bytes bytes)
-sent [] = literal (codes "-") refl
-sent (byte ∷ bytes) = hex (byte ∷ bytes)
 
 shown : (plant : PlantData) (screen : ℕ) (answers : List Answer) → All NoEnd (display_reply plant screen answers)
 shown plant screen [] = literal (codes "-") refl
@@ -90,8 +26,4 @@ reply plant (Leave panel) answers = sent (flat_map (λ sent. sent) (frames_of an
 reply plant (DisplayPoll screen refresh) answers = shown plant screen answers
 
 pub lines_end_once : LinesEndOnce
-lines_end_once plant position asked answers within may =
-    let one = join (decimal position) (codes " ") (number position within) (literal (codes " ") refl) in
-    let two = join (decimal position ++ codes " ") (request_text asked) one (request asked may) in
-    let three = join (decimal position ++ codes " " ++ request_text asked) (codes " = ") two (literal (codes " = ") refl) in
-    join (decimal position ++ codes " " ++ request_text asked ++ codes " = ") (reply_text plant asked answers) three (reply plant asked answers)
+lines_end_once plant position asked answers within may = line_ends position asked (reply_text plant asked answers) within may (reply plant asked answers)

@@ -4,23 +4,7 @@ use Rattle.std.proofs.lemmas.List.{append-nil, append_assoc}
 use Rattle.std.specs.List.{flat_map}
 use Rattle.hex.specs.Hex.{encode_upper}
 use Rattle.panel_session.specs.Text.{Output, with_frame, with_frames}
-use Rattle.panel_session.specs.TraceLine.{told_bytes}
-
--- two parts, one behind the other
-then : (out first second middle last : List ℕ) → middle ≡ out ++ first → last ≡ middle ++ second → last ≡ out ++ (first ++ second)
-then out first second middle last is goes_on =
-    goes_on ∙ ap (λ (bytes : List ℕ). bytes ++ second) is ∙ append_assoc out first second
-
--- the parts of a line
-pub line-appended : (out position space request equals reply end o p q r s t : List ℕ)
-    → o ≡ out ++ position → p ≡ o ++ space → q ≡ p ++ request → r ≡ q ++ equals → s ≡ r ++ reply → t ≡ s ++ end
-    → t ≡ out ++ (position ++ space ++ request ++ equals ++ reply ++ end)
-line-appended out position space request equals reply end o p q r s t at_o at_p at_q at_r at_s at_t =
-    let so_p = then out position space o p at_o at_p in
-    let so_q = then out (position ++ space) request p q so_p at_q in
-    let so_r = then out (position ++ space ++ request) equals q r so_q at_r in
-    let so_s = then out (position ++ space ++ request ++ equals) reply r s so_r at_s in
-    then out (position ++ space ++ request ++ equals ++ reply) end s t so_s at_t
+use Rattle.trace_lines.specs.TraceLine.{told_bytes}
 
 -- what was appended is no longer than what room was used
 pub appended-most : (out more new : List ℕ) (most : ℕ) → new ≡ out ++ more → length new ≤ length out + most → length more ≤ most

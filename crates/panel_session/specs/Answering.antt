@@ -21,7 +21,7 @@ use Rattle.panel_session.specs.OneSend.{bytes_in}
 use Rattle.panel_session.specs.Served.{PlantSeat, mark_after, own_lines}
 use Rattle.panel_session.specs.ServedInside.{SeesMore}
 use Rattle.panel_session.specs.Text.{frames_of}
-use Rattle.panel_session.specs.TraceLine.{trace_line}
+use Rattle.panel_session.specs.Reply.{trace_line}
 
 -- the entry of a request that a seat asked and was answered so
 abbrev pub entry_of : ℕ → Request → List Answer → PlantEntry

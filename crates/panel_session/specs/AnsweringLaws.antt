@@ -21,7 +21,7 @@ use Rattle.panel_session.specs.Answering.{AnswersAt, AnswersOf, GivenOver, HasAn
 use Rattle.panel_session.specs.Entry.{PlantEntry}
 use Rattle.panel_session.specs.Served.{PlantSeat, mark_after, own_lines}
 use Rattle.panel_session.specs.ServedInside.{SeesMore}
-use Rattle.panel_session.specs.TraceLine.{trace_line}
+use Rattle.panel_session.specs.Reply.{trace_line}
 
 pub serves_of_plant : (plant : PlantData) (state : State) → ServesOf plant state → IsPlant plant
 serves_of_plant plant state serves = subst IsPlant serves.plant_is serves.valid.is_plant

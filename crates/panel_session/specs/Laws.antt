@@ -1,15 +1,11 @@
 -- What holds of every session. The functions of `laws` promise it.
-use Rattle.std.specs.Prelude.{◌≡◌, ◌≢◌, ◌⊎◌, ℕ, Bool, List, [], ◌++◌, map}
+use Rattle.std.specs.Prelude.{◌≡◌, ◌≢◌, ◌⊎◌, ℕ, List, [], ◌++◌, map}
 use mathlib.Core.List.{IsPrefix}
 use Rattle.dle_framing.specs.Items.{items}
 use Rattle.history_lock.specs.Step.{Stepped}
 use Rattle.plant_config.specs.Plant.{PlantData}
 use Rattle.plant_core.specs.declared.answer.Answer.{Answer}
 use Rattle.plant_core.specs.declared.request.Request.{Request}
-use Rattle.plant_core.specs.declared.request.Request.TheVariants.{DisplayPoll}
-use Rattle.plant_core.specs.State.{State, IsValid}
-use Rattle.plant_core.specs.Step.{step}
-use Rattle.panel_session.specs.DisplayPacket.{AreLamps}
 use Rattle.panel_session.specs.Entry.{PlantEntry}
 use Rattle.panel_session.specs.declared.session.Session.{Session}
 use Rattle.panel_session.specs.Run.{IsWorked}
@@ -77,8 +73,3 @@ abbrev pub TextsAreOne : Type 0
 TextsAreOne = (plant : PlantData) (read : List ℕ) (entries : List PlantEntry)
     → (text other : List ℕ) → IsText plant (items read) entries text
     → IsText plant (items read) entries other → text ≡ other
-
--- In a valid state the lamps that answer a display poll are of displays and sources of the plant.
-abbrev pub DisplayPollAnswersAreLamps : Type 0
-DisplayPollAnswersAreLamps = (state : State) (screen : ℕ) (refresh : Bool) → IsValid state
-    → AreLamps state.plant (step state (DisplayPoll screen refresh)).answers

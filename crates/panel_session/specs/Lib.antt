@@ -24,14 +24,10 @@ pub mod CallsLeft
 pub mod Acting
 pub mod ReadingInside
 pub mod Lending
-pub mod LineRoomInside
 pub mod Run
 pub mod Laws
-pub mod DisplayPacket
-pub mod DisplayPacketInside
-pub mod TraceLine
-pub mod TraceInside
-pub mod TraceLaws
+pub mod Reply
+pub mod ReplyLaws
 pub mod Served
 pub mod ServedInside
 pub mod Answering

@@ -27,7 +27,7 @@ use Rattle.panel_session.specs.Entry.{PlantEntry}
 use Rattle.panel_session.specs.Session.{StandsFor, Awaits}
 use Rattle.panel_session.specs.SoFar.{Progress, nothing_yet, unstarted}
 use Rattle.panel_session.specs.Text.{IsText}
-use Rattle.panel_session.specs.TraceLine.{trace_line}
+use Rattle.panel_session.specs.Reply.{trace_line}
 use Rattle.panel_session.specs.Turns.{FitsReads}
 
 -- what a seat of a plant's lock shows

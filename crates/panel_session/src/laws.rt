@@ -3,7 +3,6 @@
 ghost use Rattle.panel_session.specs.Laws.{AwaitsSoFar, StandsSoFar, TurnsAreOne};
 ghost use Rattle.panel_session.specs.Laws.{TurnsAreSent, TurnsFit};
 ghost use Rattle.panel_session.specs.Laws.{AwaitsFits, StandsFits, FrontsOfText, TextsAreOne};
-ghost use Rattle.panel_session.specs.Laws.{DisplayPollAnswersAreLamps};
 
 use history_lock::Machine;
 use plant_core::{Answer, Request};
@@ -37,10 +36,4 @@ pub fn so_far_fits()
 pub fn texts_go_on()
     ensures front { FrontsOfText }
     ensures one { TextsAreOne }
-{}
-
-/// In a valid state the lamps that answer a display poll are of displays and sources of the plant, so that
-/// `display_packet` takes them.
-pub fn display_poll_answers_are_lamps()
-    ensures { DisplayPollAnswersAreLamps }
 {}

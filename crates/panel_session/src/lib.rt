@@ -1,12 +1,10 @@
 //! The session of one panel: from the bytes that the panel sends to the bytes that it is sent, by requests to the plant.
-//! `Session::act` says what the caller does next: send bytes, ask the plant, or read on; `display_packet` tells the displays of
-//! a screen what a display poll is answered. What they promise rests on `specs/Turns.antt`, the requests that a session makes,
-//! `specs/Text.antt`, the bytes that it sends, and `specs/DisplayPacket.antt`, the packet.
+//! `Session::act` says what the caller does next: send bytes, ask the plant, or read on. What is promised rests on
+//! `specs/Turns.antt`, the requests that a session makes, and `specs/Text.antt`, the bytes that it sends.
 #![tactic(auto)]
 
 mod engine;
 mod laws;
-mod packet;
 mod sending;
 mod serve;
 mod session;
@@ -15,15 +13,11 @@ mod traces;
 pub use engine::answerer::Answerer;
 pub use engine::drain::Drain;
 pub use engine::outlet::Outlet;
-pub use laws::{
-    display_poll_answers_are_lamps, one_turn, so_far_fits, stands_so_far, texts_go_on, turns_fit,
-};
-pub use packet::display_packet;
+pub use laws::{one_turn, so_far_fits, stands_so_far, texts_go_on, turns_fit};
 pub use serve::{SessionEnd, serve_session};
 pub use session::Session;
 pub use session::act::Act;
 pub use session::counts::Counts;
 pub use session::cut::Cut;
-pub use traces::line_room::LineRoom;
-pub use traces::trace_laws::{lines_end_once, one_entry};
+pub use traces::trace_laws::lines_end_once;
 pub use traces::trace_line::TraceLines;

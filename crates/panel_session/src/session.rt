@@ -7,7 +7,7 @@ ghost use Rattle.plant_core.specs.declared.request.Request.{Request};
 ghost use Rattle.plant_core.specs.declared.request.Request.TheVariants.{Leave};
 ghost use Rattle.plant_core.specs.Answer.{IsSayable, room_of};
 ghost use Rattle.panel_session.specs.SoFar.{Progress, nothing_yet};
-ghost use Rattle.panel_session.specs.TraceLine.{trace_line};
+ghost use Rattle.panel_session.specs.Reply.{trace_line};
 
 pub(crate) mod act;
 pub(crate) mod asked;
@@ -24,13 +24,13 @@ use crate::session::act::Act;
 use crate::session::asked::next_asked;
 use crate::session::counts::Counts;
 use crate::session::phase::{Phase, phase_behind};
-use crate::traces::line_room::LineRoom;
 use dle_framing::Framer;
 use history_lock::OutBox;
 use plant_config::{PanelNo, Plant};
 use plant_core::{Answer, PlantState, Request};
 use plant_names::Names;
 use std::alloc::{AllocError, Global};
+use trace_lines::LineRoom;
 
 // The bytes of an ACK.
 const ACK_LEN: usize = 2;

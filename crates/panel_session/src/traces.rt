@@ -1,6 +1,4 @@
-//! Lines of a trace: what one is written of, the room for one, and the laws of lines.
+//! Lines of a trace by the answers of their entries, and the law of lines.
 
-pub(crate) mod line_room;
-mod request_line;
 pub(crate) mod trace_laws;
 pub(crate) mod trace_line;

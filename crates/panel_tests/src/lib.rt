@@ -10,6 +10,8 @@ mod holding_gate;
 #[cfg(test)]
 mod in_memory;
 #[cfg(test)]
+mod of_display_packets;
+#[cfg(test)]
 mod of_drill;
 #[cfg(test)]
 mod of_panel_server;
@@ -19,5 +21,7 @@ mod of_panel_session;
 mod of_record_replay;
 #[cfg(test)]
 mod of_trace_audit;
+#[cfg(test)]
+mod of_trace_lines;
 #[cfg(test)]
 mod studio;

@@ -6,7 +6,6 @@ mod board;
 mod days;
 mod dumps;
 mod nasty;
-mod packets;
 mod serving;
 mod streams;
 mod traces;
@@ -59,7 +58,7 @@ fn turn(
 }
 
 // The bytes of hexadecimal with spaces.
-fn bytes_of(alloc: Global, text: &str) -> Result<Vec<u8>, Fail> {
+pub(crate) fn bytes_of(alloc: Global, text: &str) -> Result<Vec<u8>, Fail> {
     let mut digits = Vec::new(alloc);
     for digit in text.as_bytes() {
         if *digit != b' ' {

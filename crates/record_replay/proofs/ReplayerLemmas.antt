@@ -10,8 +10,8 @@ use Rattle.plant_core.specs.State.{State, Fits, FitsPlant}
 use Rattle.plant_core.specs.Step.{step}
 use Rattle.plant_core.specs.declared.request.Request.{Request}
 use Rattle.plant_core.specs.declared.request.Request.TheVariants as requests
-use Rattle.panel_session.specs.DisplayPacket.{AreLamps}
-use Rattle.panel_session.proofs.LampLemmas.{display_poll-lamps}
+use Rattle.display_packets.specs.DisplayPacket.{AreLamps}
+use Rattle.display_packets.proofs.LampLemmas.{display_poll-lamps}
 use Rattle.panel_session.specs.declared.session.Session.{Session}
 use Rattle.panel_session.specs.Answering.{AnswersOf, AnySeat, ServesOf}
 use Rattle.panel_session.specs.Engine.{HasRun, IsReady, MayTurn, RunsOn, StopsIn}

@@ -10,7 +10,7 @@ use Rattle.plant_core.specs.declared.answer.Answer.{Answer}
 use Rattle.plant_core.specs.declared.answer.Answer.TheVariants.{Finished}
 use Rattle.plant_core.specs.State.{State, Fits, start}
 use Rattle.plant_core.specs.Step.{step}
-use Rattle.panel_session.specs.DisplayPacket.{packet_of}
+use Rattle.display_packets.specs.DisplayPacket.{packet_of}
 use Rattle.panel_session.specs.Run.{IsWorked, turned}
 use Rattle.panel_session.specs.SoFar.{Progress, nothing_yet}
 use Rattle.panel_session.specs.Turns.{Turn, entries_in}

@@ -9,7 +9,7 @@ use Rattle.plant_config.specs.Screens.{has_screen}
 use Rattle.plant_core.specs.Displays.{lamp_limit}
 use Rattle.plant_core.specs.declared.answer.Answer.{Answer}
 use Rattle.plant_core.specs.declared.answer.Answer.TheVariants.{Finished}
-use Rattle.panel_session.specs.DisplayPacket.{longest_packet, packet_of, AreLamps}
+use Rattle.display_packets.specs.DisplayPacket.{longest_packet, packet_of, AreLamps}
 use Rattle.record_replay.specs.declared.streamed.StreamedFault.{StreamedFault}
 use Rattle.record_replay.specs.declared.streamed.StreamedFault.TheVariants.{NoMemory, BadLine, OutputFault, PortFault}
 use Rattle.record_replay.specs.Laws.{Action, Turned, Left, Polled, line_of}

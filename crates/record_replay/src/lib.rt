@@ -15,7 +15,6 @@ mod output;
 mod pairs;
 mod replay;
 mod replayer;
-mod room;
 mod script;
 mod show;
 mod streamed;

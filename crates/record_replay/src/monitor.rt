@@ -17,9 +17,9 @@ ghost use Rattle.record_replay.specs.Monitor.{display_line, index_text, lamps_te
 ghost use Rattle.record_replay.specs.MonitorInside.{TellsOn, count_in};
 
 use crate::output::Output;
-use crate::room::Room;
 use ctl_io::Sink;
 use itoa::Buffer;
+use line_text::Room;
 use panel_session::Drain;
 use std::alloc::{AllocError, Global};
 use tsl_stream::{StreamItem, StreamReader};

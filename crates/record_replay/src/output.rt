@@ -10,8 +10,8 @@ ghost use Rattle.record_replay.specs.OutputInside.{HasNothing, Puts, Gives, IsAl
 ghost use Rattle.record_replay.specs.OutputInside.{IsCutShort, turn_head, turn_end};
 ghost use Rattle.record_replay.specs.OutputLaws.{gives_none, gives_more};
 
-use crate::room::Room;
 use itoa::Buffer;
+use line_text::Room;
 use panel_session::{Drain, Outlet};
 use plant_config::PanelNo;
 

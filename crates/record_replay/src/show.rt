@@ -6,7 +6,7 @@ ghost use Rattle.hex.specs.Hex.{encode_upper};
 ghost use Rattle.tsl_umd5.specs.Packet.{IsPacketText};
 ghost use Rattle.plant_config.specs.Screens.{has_screen};
 ghost use Rattle.plant_core.specs.Displays.{lamp_limit};
-ghost use Rattle.panel_session.specs.DisplayPacket.{longest_packet, packet_of, AreLamps};
+ghost use Rattle.display_packets.specs.DisplayPacket.{longest_packet, packet_of, AreLamps};
 ghost use Rattle.record_replay.specs.OutputInside.{Puts, screen_head, screen_line};
 ghost use Rattle.record_replay.specs.Replay.{show_line};
 ghost use Rattle.record_replay.specs.Streamed.{TakesLamps, packets_told};
@@ -14,8 +14,9 @@ ghost use Rattle.record_replay.specs.PortInside.{SendsAll, SendsUntil};
 
 use crate::output::Output;
 use ctl_net::{DisplayPort, Sent};
+use display_packets::display_packet;
 use itoa::Buffer;
-use panel_session::{Drain, display_packet};
+use panel_session::Drain;
 use plant_config::Plant;
 use plant_core::Answer;
 use std::alloc::{AllocError, Global};
@@ -32,7 +33,7 @@ pub(crate) struct PacketRoom {
 
 impl Model for PacketRoom {
     ghost use Rattle.std.specs.Prelude.{ℕ, ◌≤◌, List, length, vec_capacity};
-    ghost use Rattle.panel_session.specs.DisplayPacket.{longest_packet};
+    ghost use Rattle.display_packets.specs.DisplayPacket.{longest_packet};
 
     ghost Value = { List ℕ };
 

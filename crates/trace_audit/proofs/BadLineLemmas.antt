@@ -6,7 +6,8 @@ use Rattle.std.proofs.lemmas.List.Elements.{All-nil, All-cons, All-head, All-tai
 use Rattle.plant_config.specs.Plant.{PlantData}
 use Rattle.plant_core.specs.State.{State}
 use Rattle.trace_audit.specs.declared.verdict.Verdict.TheVariants.{Confirmed, BadLine, Differs}
-use Rattle.trace_audit.specs.Trace.{TracedEntry, LinesTell}
+use Rattle.trace_lines.specs.Trace.{TracedEntry}
+use Rattle.trace_audit.specs.Verdict.{LinesTell}
 use Rattle.trace_audit.specs.Verdict.{wanted_reply, fault_of, state_at, entries_at, IsFirstFinding, AreConfirmed}
 use Rattle.trace_audit.specs.Laws.{TellsSome, BadLinesTellNone, FirstBadLinesAreNamed, NoBadLineIsPassed}
 

@@ -15,10 +15,11 @@ use Rattle.plant_core.specs.State.{State, start, FitsPlant}
 use Rattle.plant_core.specs.Step.{step}
 use Rattle.plant_core.specs.Laws.{StepsKeepThePlant}
 use Rattle.panel_session.specs.Entry.{PlantEntry}
-use Rattle.panel_session.specs.TraceLine.{trace_limit, reply_text}
+use Rattle.trace_lines.specs.TraceLine.{trace_limit}
+use Rattle.panel_session.specs.Reply.{reply_text}
 use Rattle.trace_audit.specs.declared.verdict.Verdict.{Verdict}
 use Rattle.trace_audit.specs.declared.verdict.Verdict.TheVariants.{Confirmed, BadLine, Gap, Repeat, Differs}
-use Rattle.trace_audit.specs.Trace.{TracedEntry, HasTraceNumbers, LineTells}
+use Rattle.trace_lines.specs.Trace.{TracedEntry, HasTraceNumbers, LineTells}
 use Rattle.trace_audit.specs.Verdict.{position_count, entries_below, entries_at, state_at, wanted_reply, fault_of, IsFirstFinding, IsOfEntries, IsVerdict}
 use Rattle.trace_audit.specs.Laws.{lines_from, IsTraceable}
 use Rattle.trace_audit.specs.FindingLaws.{TellsAt, IsToldBelow, IsGap, IsRepeat, IsDifference, GapsAreSo, RepeatsAreSo, DifferencesAreSo}

@@ -9,9 +9,9 @@ use Rattle.std.proofs.lemmas.List.Sums.{fold-append}
 use Rattle.plant_config.specs.Plant.{PlantData}
 use Rattle.plant_core.specs.State.{State, start}
 use Rattle.plant_core.specs.Step.{step}
-use Rattle.panel_session.specs.TraceLine.{entry_text}
+use Rattle.trace_lines.specs.TraceLine.{entry_text}
 use Rattle.trace_audit.specs.declared.verdict.Verdict.TheVariants.{Differs}
-use Rattle.trace_audit.specs.Trace.{TracedEntry}
+use Rattle.trace_lines.specs.Trace.{TracedEntry}
 use Rattle.trace_audit.specs.Verdict.{entries_at, entries_below, state_at, wanted_reply, compared, fault_of, finding, AreRightBelow}
 use Rattle.trace_audit.proofs.PlaceLemmas.{AreFrom, at-moved, at-from, below-more}
 

@@ -17,7 +17,8 @@ use Rattle.plant_core.specs.Laws.{StartsAreValid, StepsStayValid, StartsAreShort
 use Rattle.panel_session.specs.Entry.{PlantEntry}
 use Rattle.trace_audit.specs.declared.verdict.Verdict.{Verdict}
 use Rattle.trace_audit.specs.declared.verdict.Verdict.TheVariants.{Gap, Repeat, Differs}
-use Rattle.trace_audit.specs.Trace.{TracedEntry, LineTells, LinesTell}
+use Rattle.trace_lines.specs.Trace.{TracedEntry, LineTells}
+use Rattle.trace_audit.specs.Verdict.{LinesTell}
 use Rattle.trace_audit.specs.Verdict.{position_count, entries_below, entries_at, state_at, wanted_reply, fault_of, AreRightBelow, IsVerdict}
 use Rattle.trace_audit.specs.Laws.{lines_from}
 use Rattle.trace_audit.specs.FindingLaws.{TellsAt, IsToldBelow, GapsAreFound, RepeatsAreFound, DifferencesAreFound}

@@ -12,10 +12,12 @@ use Rattle.plant_core.specs.Step.{step}
 use Rattle.plant_core.specs.Laws.{StartsAreValid, StepsStayValid, StartsAreShort, StepsStayShort, StepsKeepThePlant}
 use Rattle.plant_core.specs.declared.request.Request.{Request}
 use Rattle.panel_session.specs.Entry.{PlantEntry}
-use Rattle.panel_session.specs.TraceLine.{trace_limit, entry_text, reply_text}
+use Rattle.trace_lines.specs.TraceLine.{trace_limit, entry_text}
+use Rattle.panel_session.specs.Reply.{reply_text}
 use Rattle.trace_audit.specs.declared.verdict.Verdict.TheVariants.{Confirmed, BadLine, Differs}
 use Rattle.line_text.specs.Cut.{longest_line}
-use Rattle.trace_audit.specs.Trace.{TracedEntry, IsReplyText, HasTraceNumbers, LineTells, LinesTell}
+use Rattle.trace_lines.specs.Trace.{TracedEntry, IsReplyText, HasTraceNumbers, LineTells}
+use Rattle.trace_audit.specs.Verdict.{LinesTell}
 use Rattle.trace_audit.specs.Verdict.{position_count, entries_below, entries_at, state_at, wanted_reply, fault_of, IsFirstFinding, AreConfirmed, IsOfEntries}
 use Rattle.trace_audit.specs.Laws.{lines_from, IsTraceable, AreLinesOf, HistoriesAreConfirmed, ConfirmedAreHistories}
 use Rattle.trace_audit.proofs.MovedLemmas.{map-moved}

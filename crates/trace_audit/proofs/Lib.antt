@@ -1,10 +1,3 @@
-pub mod DecimalLemmas
-pub mod UpperHex
-pub mod HexValues
-pub mod MessageHex
-pub mod FieldLemmas
-pub mod RequestLemmas
-pub mod ScreenLemmas
 pub mod ReadLemmas
 pub mod WalkLemmas
 pub mod PlaceLemmas

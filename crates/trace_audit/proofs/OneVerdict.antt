@@ -1,5 +1,5 @@
 -- A trace has one verdict.
-use Rattle.panel_session.proofs.TraceEntry.{one_entry}
+use Rattle.trace_lines.proofs.TraceEntry.{one_entry}
 use Rattle.trace_audit.specs.Laws.{TracesHaveOneVerdict}
 use Rattle.trace_audit.proofs.VerdictLemmas.{traces-one}
 

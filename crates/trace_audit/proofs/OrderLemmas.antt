@@ -9,7 +9,8 @@ use Rattle.plant_config.specs.Plant.{PlantData}
 use Rattle.plant_core.specs.State.{State, start}
 use Rattle.trace_audit.specs.declared.verdict.Verdict.{Verdict}
 use Rattle.trace_audit.specs.declared.verdict.Verdict.TheVariants.{Confirmed}
-use Rattle.trace_audit.specs.Trace.{TracedEntry, LinesTell}
+use Rattle.trace_lines.specs.Trace.{TracedEntry}
+use Rattle.trace_audit.specs.Verdict.{LinesTell}
 use Rattle.trace_audit.specs.Verdict.{position_count, entries_below, entries_at, state_at, fault_of, finding, AreRightBelow, IsFirstFinding, AreConfirmed}
 use Rattle.trace_audit.specs.Laws.{OrderIsNoMatter, BadLinesAreFound}
 use Rattle.trace_audit.proofs.MovedLemmas.{map-moved}

@@ -11,7 +11,7 @@ use Rattle.tsl_umd5.specs.Packet.{Display, Message, word, message_text, message_
 use Rattle.tsl_umd5.proofs.AllAtLemmas.{messages_text-nil, messages_text-cons, length-messages_text}
 use Rattle.plant_core.specs.declared.answer.Answer.{Answer}
 use Rattle.plant_core.specs.declared.answer.Answer.TheVariants.{Say, Dumped, Lamp, Finished}
-use Rattle.panel_session.specs.DisplayPacket.{umd_text, lamp_shown, shown_by, packet_of}
+use Rattle.display_packets.specs.DisplayPacket.{umd_text, lamp_shown, shown_by, packet_of}
 use Rattle.trace_audit.proofs.FrameLemmas.{IsByte}
 
 word-bytes : (number : ℕ) → All IsByte (word number)

@@ -4,7 +4,8 @@ use Rattle.std.proofs.lemmas.List.{append_assoc}
 use Rattle.line_text.specs.Lines.{lines}
 use Rattle.plant_config.specs.Plant.{PlantData}
 use Rattle.trace_audit.specs.declared.kept.Kept.{Kept}
-use Rattle.trace_audit.specs.Trace.{TracedEntry, LineTells, LinesTell}
+use Rattle.trace_lines.specs.Trace.{TracedEntry, LineTells}
+use Rattle.trace_audit.specs.Verdict.{LinesTell}
 use Rattle.trace_audit.specs.KeptInside.{AreKept, IsReadSoFar}
 
 -- Lines tell as many entries as they are,

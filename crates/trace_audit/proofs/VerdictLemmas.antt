@@ -5,15 +5,16 @@ use Rattle.plant_config.specs.IsPlant.{IsPlant}
 use Rattle.plant_core.specs.State.{FitsPlant}
 use Rattle.plant_core.specs.declared.request.Request.{Request}
 use Rattle.plant_core.specs.declared.request.Request.TheVariants.{Told, Poll, Leave, DisplayPoll}
-use Rattle.panel_session.specs.TraceLine.{MayTrace}
-use Rattle.panel_session.specs.TraceLaws.{OneEntry}
+use Rattle.trace_lines.specs.TraceLine.{MayTrace}
+use Rattle.trace_lines.specs.Laws.{OneEntry}
 use Rattle.trace_audit.specs.declared.verdict.Verdict.{Verdict}
 use Rattle.trace_audit.specs.declared.verdict.Verdict.TheVariants.{BadLine}
-use Rattle.trace_audit.specs.Trace.{TracedEntry, HasTraceNumbers, LineTells, LinesTell}
+use Rattle.trace_lines.specs.Trace.{TracedEntry, HasTraceNumbers, LineTells}
+use Rattle.trace_audit.specs.Verdict.{LinesTell}
 use Rattle.trace_audit.specs.Verdict.{finding, IsFirstFinding, AreConfirmed, IsBadLine, IsOfEntries}
 use Rattle.trace_audit.specs.Laws.{TellsNone, TracesHaveOneVerdict}
 use Rattle.trace_audit.proofs.PlaceLemmas.{under_or_not}
-use Rattle.trace_audit.proofs.ScreenLemmas.{screen_small, panel_small}
+use Rattle.trace_lines.proofs.ScreenLemmas.{screen_small, panel_small}
 
 -- A request that fits a plant, with numbers of a trace, may be traced.
 pub may-trace : (plant : PlantData) (request : Request) → IsPlant plant → FitsPlant plant request → HasTraceNumbers request → MayTrace request

@@ -13,15 +13,15 @@ use Rattle.plant_core.specs.Answer.{IsAnswerCount}
 use Rattle.plant_core.specs.State.{State, start, IsValid}
 use Rattle.plant_core.specs.Step.{step}
 use Rattle.plant_core.proofs.CountLemmas.{answers_within, room_within}
-use Rattle.panel_session.specs.TraceLine.{MayReply}
-use Rattle.panel_session.specs.DisplayPacket.{AreLamps}
-use Rattle.panel_session.proofs.LampLemmas.{display_poll-lamps}
+use Rattle.panel_session.specs.Reply.{MayReply}
+use Rattle.display_packets.specs.DisplayPacket.{AreLamps}
+use Rattle.display_packets.proofs.LampLemmas.{display_poll-lamps}
 use Rattle.trace_audit.specs.declared.kept.Row.{Row}
 use Rattle.trace_audit.specs.declared.kept.Kept.{Kept}
 use Rattle.trace_audit.specs.declared.walk.Walker.{Walker}
 use Rattle.trace_audit.specs.declared.verdict.Verdict.{Verdict}
 use Rattle.trace_audit.specs.declared.verdict.Verdict.TheVariants.{Gap, Repeat}
-use Rattle.trace_audit.specs.Trace.{TracedEntry}
+use Rattle.trace_lines.specs.Trace.{TracedEntry}
 use Rattle.trace_audit.specs.Verdict.{entries_at, entries_below, state_at, fault_of, finding, IsFirstFinding}
 use Rattle.trace_audit.specs.KeptInside.{HasRow, IsRow, AreKept, IsReady, IsLooked, HasWalked}
 

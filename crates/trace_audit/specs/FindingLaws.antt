@@ -8,9 +8,9 @@ use Rattle.plant_core.specs.State.{start}
 use Rattle.plant_core.specs.Step.{step}
 use Rattle.plant_core.specs.declared.request.Request.{Request}
 use Rattle.panel_session.specs.Entry.{PlantEntry}
-use Rattle.panel_session.specs.TraceLine.{reply_text}
+use Rattle.panel_session.specs.Reply.{reply_text}
 use Rattle.trace_audit.specs.declared.verdict.Verdict.TheVariants.{Gap, Repeat, Differs}
-use Rattle.trace_audit.specs.Trace.{TracedEntry, LineTells}
+use Rattle.trace_lines.specs.Trace.{TracedEntry, LineTells}
 use Rattle.trace_audit.specs.Verdict.{IsVerdict}
 use Rattle.trace_audit.specs.Laws.{lines_from, IsTraceable}
 

@@ -7,8 +7,9 @@ use Rattle.plant_config.specs.Plant.{PlantData}
 use Rattle.plant_core.specs.Answer.{room_of}
 use Rattle.plant_core.specs.State.{State, FitsPlant, IsValid}
 use Rattle.plant_core.specs.Step.{step}
-use Rattle.panel_session.specs.TraceLine.{longest_trace_line}
-use Rattle.trace_audit.specs.Trace.{TracedEntry, LineTells, LinesTell}
+use Rattle.trace_lines.specs.TraceLine.{longest_trace_line}
+use Rattle.trace_lines.specs.Trace.{TracedEntry, LineTells}
+use Rattle.trace_audit.specs.Verdict.{LinesTell}
 use Rattle.trace_audit.specs.Verdict.{entries_at, position_count, state_at, fault_of, AreRightBelow, IsFirstFinding}
 use Rattle.trace_audit.specs.declared.kept.Row.{Row}
 use Rattle.trace_audit.specs.declared.kept.Kept.{Kept}

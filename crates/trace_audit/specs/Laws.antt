@@ -7,10 +7,11 @@ use Rattle.plant_config.specs.IsPlant.{IsPlant}
 use Rattle.plant_core.specs.State.{start, Fits}
 use Rattle.plant_core.specs.Step.{step}
 use Rattle.panel_session.specs.Entry.{PlantEntry}
-use Rattle.panel_session.specs.TraceLine.{trace_limit, entry_text, reply_text}
+use Rattle.trace_lines.specs.TraceLine.{trace_limit, entry_text}
+use Rattle.panel_session.specs.Reply.{reply_text}
 use Rattle.trace_audit.specs.declared.verdict.Verdict.{Verdict}
 use Rattle.trace_audit.specs.declared.verdict.Verdict.TheVariants.{Confirmed, BadLine}
-use Rattle.trace_audit.specs.Trace.{TracedEntry, HasTraceNumbers, LineTells}
+use Rattle.trace_lines.specs.Trace.{TracedEntry, HasTraceNumbers, LineTells}
 use Rattle.trace_audit.specs.Verdict.{IsVerdict}
 
 -- the lines of a history whose first entry has this position, without the bytes that end them

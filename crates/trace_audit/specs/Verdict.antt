@@ -5,10 +5,18 @@ use Rattle.plant_config.specs.Plant.{PlantData}
 use Rattle.plant_core.specs.State.{State, start}
 use Rattle.plant_core.specs.Step.{step}
 use Rattle.plant_core.specs.declared.request.Request.{Request}
-use Rattle.panel_session.specs.TraceLine.{reply_text}
+use Rattle.panel_session.specs.Reply.{reply_text}
 use Rattle.trace_audit.specs.declared.verdict.Verdict.{Verdict}
 use Rattle.trace_audit.specs.declared.verdict.Verdict.TheVariants.{Confirmed, BadLine, Gap, Repeat, Differs}
-use Rattle.trace_audit.specs.Trace.{TracedEntry, LineTells, LinesTell}
+use Rattle.trace_lines.specs.Trace.{TracedEntry, LineTells}
+
+-- The lines tell these entries, one each, in order.
+abbrev pub LinesTell : PlantData → List (List ℕ) → List TracedEntry → Type 0
+LinesTell plant [] [] = Unit {0}
+LinesTell plant (line ∷ lines) (entry ∷ entries) =
+    LineTells plant line entry × LinesTell plant lines entries
+LinesTell plant [] (entry ∷ entries) = ⊥
+LinesTell plant (line ∷ lines) [] = ⊥
 
 -- the entries at a position
 abbrev pub entries_at : ℕ → List TracedEntry → List TracedEntry

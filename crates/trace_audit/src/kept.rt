@@ -7,15 +7,15 @@ ghost use Rattle.std.specs.BTreeMap.{get};
 ghost use Rattle.std.specs.Option.{option_copied};
 ghost use Rattle.plant_config.specs.Plant.{PlantData};
 ghost use Rattle.plant_core.specs.State.{FitsPlant};
-ghost use Rattle.panel_session.specs.TraceLine.{trace_limit};
-ghost use Rattle.trace_audit.specs.Trace.{TracedEntry};
-ghost use Rattle.trace_audit.specs.LineInside.{entry_of};
+ghost use Rattle.trace_lines.specs.TraceLine.{trace_limit};
+ghost use Rattle.trace_lines.specs.Trace.{TracedEntry};
+ghost use Rattle.trace_lines.specs.Trace.{entry_of};
 ghost use Rattle.trace_audit.specs.KeptInside.{AreKept, IsPut};
 
-use crate::line::Traced;
 use plant_core::Request;
 use std::alloc::{AllocError, Global};
 use std::collections::BTreeMap;
+use trace_lines::Traced;
 
 // The last entry that a line told at a position, and whether there was one before.
 #[derive(Clone, Copy, Debug)]

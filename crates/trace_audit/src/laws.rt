@@ -26,7 +26,7 @@ pub fn traces_have_one_verdict()
 
 /// No line is refused but by its own text: the line that a verdict names is the first that tells no entry, and the first that
 /// tells none is named. No such line is passed over.
-pub fn bad_lines_tell_none()
+pub fn bad_lines_spell_none()
     ensures refused { BadLinesTellNone }
     ensures named { FirstBadLinesAreNamed }
     ensures passed { NoBadLineIsPassed }

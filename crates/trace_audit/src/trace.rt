@@ -6,12 +6,12 @@ ghost use Rattle.trace_audit.specs.Verdict.{IsVerdict};
 ghost use Rattle.trace_audit.specs.KeptInside.{IsReadTo, IsReadOf};
 
 use crate::kept::Kept;
-use crate::line::read_line;
 use crate::verdict::Verdict;
 use crate::walk::walk;
 use line_text::split_line;
 use plant_config::Plant;
 use std::alloc::{AllocError, Global};
+use trace_lines::read_line;
 
 /// What is found in the text of a trace, whose lines are in any order. A line is an entry's text and LF, which the last line
 /// may lack. It takes memory for the lines and for one plant.

@@ -3,7 +3,7 @@
 ghost use Rattle.std.specs.Prelude.{◌≡◌, List, IfOk};
 ghost use Rattle.plant_core.specs.State.{start, FitsPlant};
 ghost use Rattle.plant_core.specs.Step.{step};
-ghost use Rattle.trace_audit.specs.Trace.{TracedEntry};
+ghost use Rattle.trace_lines.specs.Trace.{TracedEntry};
 ghost use Rattle.trace_audit.specs.Verdict.{wanted_reply};
 ghost use Rattle.trace_audit.specs.KeptInside.{AreKept, IsFound, IsLooked, IsReady};
 

@@ -9,12 +9,12 @@ ghost use Rattle.plant_core.specs.Answer.{IsSayable, room_of};
 ghost use Rattle.plant_core.specs.State.{FitsPlant};
 ghost use Rattle.panel_session.specs.Answering.{entry_of, IsOfSession, IsSpelledFor};
 ghost use Rattle.panel_session.specs.Entry.{PlantEntry};
-ghost use Rattle.panel_session.specs.TraceInside.{most_reply};
-ghost use Rattle.panel_session.specs.TraceLine.{MaySpell};
+ghost use Rattle.trace_lines.specs.TraceLine.{most_reply};
+ghost use Rattle.trace_lines.specs.TraceLine.{MaySpell};
 
-use crate::traces::line_room::LineRoom;
 use history_lock::OutBox;
 use plant_core::{Answer, Request};
+use trace_lines::LineRoom;
 
 /// What takes a session's requests: the plant itself, or its lock by a seat with a trace.
 pub trait Answerer {

@@ -9,10 +9,10 @@ ghost use Rattle.panel_session.specs.AnsweringLaws.{seated_at, serves_at};
 
 use crate::engine::answerer::Answerer;
 use crate::engine::drain::Drain;
-use crate::traces::line_room::LineRoom;
 use history_lock::{HistoryLock, OutBox, Seat};
 use plant_core::{Answer, PlantState, Request};
 use std::sync::Wait;
+use trace_lines::LineRoom;
 
 /// A seat of the plant's lock, and the trace that each of its entries has its line in before its answers are sent.
 #[derive(Drop)]

@@ -6,9 +6,9 @@ ghost use Rattle.panel_session.specs.AnsweringLaws.{answers_of_none, answers_of_
 ghost use Rattle.panel_session.specs.AnsweringLaws.{serves_of_more, serves_of_plant};
 
 use crate::engine::answerer::Answerer;
-use crate::traces::line_room::LineRoom;
 use history_lock::OutBox;
 use plant_core::{Answer, PlantState, Request};
+use trace_lines::LineRoom;
 
 impl Answerer for PlantState {
     ghost sent_first = { false };

@@ -79,14 +79,3 @@ pub(crate) fn spell_names(page: NamePage, names: &Names, spelled: &mut Vec<u8>) 
     spelled.clear();
     page.write(names, spelled)
 }
-
-// Appends bytes for which there is room.
-pub(crate) fn append(bytes: &mut Vec<u8>, more: &[u8])
-    requires { vec_len bytes.old + length more.now ≤ vec_capacity bytes.old }
-    ensures bytes { bytes.new.items ≡ bytes.old.items ++ more.now }
-    ensures room { vec_capacity bytes.new ≡ vec_capacity bytes.old }
-{
-    for byte in more {
-        bytes.push_reserved(*byte);
-    }
-}

@@ -15,7 +15,7 @@ ghost use Rattle.panel_session.specs.NamePagesInside.{IsNamePage};
 ghost use Rattle.panel_session.specs.NamesLeftInside.{left_at};
 ghost use Rattle.panel_session.specs.RoomsInside.{fitting};
 ghost use Rattle.panel_session.specs.Session.{made_by};
-ghost use Rattle.panel_session.specs.TraceLine.{MaySpell};
+ghost use Rattle.trace_lines.specs.TraceLine.{MaySpell};
 ghost use Rattle.panel_session.specs.WorkInside.{left_bytes, unsent_bytes, IsSpelled};
 ghost use Rattle.panel_session.specs.declared.session.cut.Cut.TheVariants.{Unsent};
 ghost use Rattle.panel_session.specs.declared.session.phase.Phase.TheVariants.{Read};

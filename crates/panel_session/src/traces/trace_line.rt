@@ -5,44 +5,43 @@ ghost use Rattle.std.specs.Prelude.{vec_len, vec_capacity};
 ghost use Rattle.std.specs.List.{flat_map};
 ghost use Rattle.plant_core.specs.Answer.{IsSayable};
 ghost use Rattle.plant_core.specs.Displays.{lamp_limit};
-ghost use Rattle.panel_session.specs.DisplayPacket.{AreLamps, longest_packet};
+ghost use Rattle.display_packets.specs.DisplayPacket.{AreLamps, longest_packet};
 ghost use Rattle.panel_session.specs.MostAnswers.{most_answers};
 ghost use Rattle.panel_session.specs.OutgoingKept.{answer_bytes};
 ghost use Rattle.panel_session.specs.Text.{frames_of};
-ghost use Rattle.panel_session.specs.TraceLine.{trace_limit, trace_line, longest_trace_line};
-ghost use Rattle.panel_session.specs.TraceLine.{reply_text, told_bytes, told_line};
-ghost use Rattle.panel_session.specs.TraceLine.{display_reply, MaySpell, MayTrace, MayReply};
-ghost use Rattle.panel_session.specs.TraceInside.{most_reply};
+ghost use Rattle.panel_session.specs.Reply.{display_reply, reply_text, trace_line, MayReply};
+ghost use Rattle.trace_lines.specs.TraceLine.{trace_limit, longest_trace_line, most_reply};
+ghost use Rattle.trace_lines.specs.TraceLine.{told_bytes, told_line, MaySpell, MayTrace};
 
-use crate::packet::display_packet;
 use crate::sending::outgoing::Outgoing;
-use crate::sending::spell::append;
-use crate::traces::line_room::append_line;
-use crate::traces::request_line::append_request;
-use line_text::{append_decimal, append_hex};
+use display_packets::display_packet;
+use line_text::{append, append_hex};
 use plant_config::Plant;
 use plant_core::{Answer, Request};
 use std::alloc::{AllocError, Global};
 use std::marker::Model;
+use trace_lines::LineRoom;
 
 // The most bytes of the frames of 1,024 answers: no page of a dump is longer than the messages of as many answers.
 const MAX_SENT: usize = 1024 * 24;
 
-// The most bytes of the packet of a display poll. The DATA of a message have fewer.
-pub(crate) const MAX_PACKET: usize = 1158;
+// The most bytes of the packet of a display poll.
+const MAX_PACKET: usize = 1158;
 
 /// What the lines of a trace are made with. All memory is taken by `new`.
 #[derive(Drop)]
 pub struct TraceLines {
     // The frames of answers.
     outgoing: Outgoing,
-    // A packet, or the DATA of a message.
+    // A packet.
     spelled: Vec<u8>,
+    // What stands in front of the reply, or a whole line.
+    line: LineRoom,
 }
 
 impl Model for TraceLines {
     ghost use Rattle.std.specs.Prelude.{◌≤◌, vec_capacity};
-    ghost use Rattle.panel_session.specs.DisplayPacket.{longest_packet};
+    ghost use Rattle.display_packets.specs.DisplayPacket.{longest_packet};
     ghost use Rattle.panel_session.specs.MostAnswers.{most_answers};
     ghost use Rattle.panel_session.specs.OutgoingKept.{answer_bytes};
 
@@ -60,6 +59,7 @@ impl TraceLines {
         Ok(TraceLines {
             outgoing: Outgoing::new(alloc, MAX_SENT)?,
             spelled: Vec::with_capacity(alloc, MAX_PACKET)?,
+            line: LineRoom::new(alloc)?,
         })
     }
 
@@ -108,11 +108,12 @@ impl TraceLines {
             ≤ longest_trace_line }
         ensures room { vec_capacity out.new ≡ vec_capacity out.old }
     {
-        let TraceLines { outgoing, spelled } = self;
-        append_decimal(position, out);
-        append(out, b" ");
-        append_request(request, spelled, out);
-        append(out, b" = ");
+        let TraceLines {
+            outgoing,
+            spelled,
+            line,
+        } = self;
+        append(line.head(position, *request), out);
         put_reply(plant, request, answers, outgoing, spelled, out);
         out.push_reserved(b'\n');
     }
@@ -128,7 +129,7 @@ impl TraceLines {
             ≡ out.old.items ++ told_line position request.now sent.now }
         ensures room { vec_capacity out.new ≡ vec_capacity out.old }
     {
-        append_line(position, request, sent, &mut self.spelled, out);
+        append(self.line.write(position, *request, sent), out);
     }
 
     /// Appends the reply of an entry alone, as its line tells it. It needs 65,537 spare bytes, and takes no memory.
@@ -152,6 +153,7 @@ impl TraceLines {
         let TraceLines {
             outgoing,
             spelled: packet,
+            line: _,
         } = self;
         put_reply(plant, request, answers, outgoing, packet, out);
     }
@@ -206,7 +208,7 @@ fn append_sent(answers: &[Answer], outgoing: &mut Outgoing, out: &mut Vec<u8>)
 }
 
 // Appends bytes in hexadecimal, and a dash for none.
-pub(crate) fn append_bytes(bytes: &[u8], out: &mut Vec<u8>)
+fn append_bytes(bytes: &[u8], out: &mut Vec<u8>)
     requires few { 2 * length bytes.now ≤ most_reply }
     requires room { vec_len out.old + most_reply ≤ vec_capacity out.old }
     ensures text { out.new.items ≡ out.old.items ++ told_bytes bytes.now }
@@ -214,7 +216,7 @@ pub(crate) fn append_bytes(bytes: &[u8], out: &mut Vec<u8>)
     ensures room { vec_capacity out.new ≡ vec_capacity out.old }
 {
     match bytes {
-        [] => append(out, b"-"),
+        [] => append(b"-", out),
         [_, ..] => append_hex(bytes, out),
     }
 }
@@ -238,8 +240,8 @@ fn append_shown(
     ensures spelled { vec_capacity spelled.new ≡ vec_capacity spelled.old }
 {
     match answers {
-        [] => append(out, b"-"),
-        [Answer::Finished, ..] => append(out, b"finished"),
+        [] => append(b"-", out),
+        [Answer::Finished, ..] => append(b"finished", out),
         [_, ..] => {
             spelled.clear();
             display_packet(plant, screen, answers, spelled);

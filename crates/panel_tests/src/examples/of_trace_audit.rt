@@ -1,24 +1,9 @@
-//! Uses of `trace_audit`: a line of a trace, read, and a trace, audited.
+//! A use of `trace_audit`: a trace, audited.
 
-use plant_config::{PanelNo, Plant};
-use plant_core::Request;
+use plant_config::Plant;
 use std::alloc::{AllocError, Global};
 use std::test::Fail;
-use trace_audit::{Verdict, audit, trace_request};
-
-#[test]
-fn a_line_tells_a_request(rt: HostRuntime) -> Result<(), Fail> {
-    let plant = Plant::bench(rt.alloc())?;
-    let left = Request::Leave {
-        panel: PanelNo::of(1),
-    };
-    assert!(rt; trace_request(&plant, b"12 leave 1 = -") == Some((12, left)));
-
-    // The bench plant has two panels, and a position is without zeros in front.
-    assert!(rt; trace_request(&plant, b"12 leave 2 = -") == None);
-    assert!(rt; trace_request(&plant, b"012 leave 1 = -") == None);
-    Ok(())
-}
+use trace_audit::{Verdict, audit};
 
 // Whether a trace is a history of the plant from its start, of so many entries.
 pub(crate) fn is_confirmed(

@@ -3,7 +3,8 @@
 ghost use Rattle.std.specs.Prelude.{◌≤◌, length, All};
 ghost use Rattle.plant_core.specs.Answer.{IsSayable};
 ghost use Rattle.panel_session.specs.MostAnswers.{most_answers};
-ghost use Rattle.panel_session.specs.TraceLine.{trace_limit, MayTrace, MayReply};
+ghost use Rattle.trace_lines.specs.TraceLine.{trace_limit, MayTrace};
+ghost use Rattle.panel_session.specs.Reply.{MayReply};
 
 use panel_session::TraceLines;
 use plant_config::{PanelNo, Plant};

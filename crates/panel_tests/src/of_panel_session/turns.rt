@@ -8,13 +8,14 @@ ghost use Rattle.plant_config.specs.IsPlant.{IsPlant};
 use super::bench;
 use super::board::put;
 use history_lock::OutBox;
-use panel_session::{Answerer, LineRoom, Outlet, Session};
+use panel_session::{Answerer, Outlet, Session};
 use plant_config::{PanelNo, Plant};
 use plant_core::{Answer, Request};
 use plant_names::Names;
 use std::alloc::{AllocError, Global};
 use std::test::Fail;
 use swp08_messages::{Message, Point};
+use trace_lines::LineRoom;
 
 // It says of destination 5 that it is parked whatever it is told, and tells nothing else.
 #[derive(Drop)]

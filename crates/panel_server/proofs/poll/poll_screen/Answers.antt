@@ -5,7 +5,7 @@ use Rattle.plant_core.specs.State.{State, Fits as Takes}
 use Rattle.plant_core.specs.Step.{step}
 use Rattle.plant_core.specs.declared.answer.Answer.{Answer}
 use Rattle.plant_core.specs.declared.request.Request.TheVariants.{DisplayPoll}
-use Rattle.panel_session.specs.TraceLine.{trace_line}
+use Rattle.panel_session.specs.Reply.{trace_line}
 use Rattle.panel_server.specs.DrivenInside.{TellsLamps, packet_bytes, polled_by}
 use Rattle.panel_server.proofs.AnswerLemmas.{answer_few, answer_lamps, answer_sayable, packet_bytes_some, told_is}
 use Rattle.panel_server.proofs.poll.poll_screen.Goals as goal

@@ -1,7 +1,7 @@
 use Rattle.std.proofs.Common.{ℕ, List, ◌++◌, length, sym, ap, ◌∙◌}
 use Rattle.std.proofs.lemmas.Bool.{eqb-false}
 use Rattle.plant_core.specs.declared.request.Request.TheVariants.{DisplayPoll}
-use Rattle.panel_session.specs.TraceLine.{told_line}
+use Rattle.trace_lines.specs.TraceLine.{told_line}
 use Rattle.panel_server.proofs.AnswerLemmas.{line_of_packet}
 use Rattle.panel_server.proofs.poll.put_line.Goals as goal
 

@@ -1,6 +1,6 @@
 -- Each line tells an entry more.
 use Rattle.std.proofs.Common.{arith}
-use Rattle.trace_audit.specs.LineInside.{entry_of}
+use Rattle.trace_lines.specs.Trace.{entry_of}
 use Rattle.trace_audit.proofs.ReadLemmas.{read-count, read-more}
 use Rattle.trace_audit.proofs.trace.read_lines.Goals as goal
 

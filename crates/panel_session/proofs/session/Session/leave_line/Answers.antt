@@ -1,7 +1,7 @@
 use Rattle.std.proofs.Common.{ℕ, [], refl, ap, ◌∙◌}
 use Rattle.panel_session.specs.Session.{StandsFor, Awaits}
 use Rattle.plant_core.specs.declared.request.Request.TheVariants.{Leave}
-use Rattle.panel_session.specs.TraceLine.{told_line}
+use Rattle.trace_lines.specs.TraceLine.{told_line}
 use Rattle.panel_session.proofs.session.Session.leave_line.Goals as goal
 
 pub returns : goal.returns

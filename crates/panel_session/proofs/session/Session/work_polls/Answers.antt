@@ -19,7 +19,7 @@ use Rattle.panel_session.specs.PolledInside.{HasPolled}
 use Rattle.panel_session.specs.RoomsInside.{fitting}
 use Rattle.panel_session.specs.SenderKept.{SenderData}
 use Rattle.panel_session.specs.Session.{made_by, with_outbox}
-use Rattle.panel_session.specs.TraceLine.{MaySpell}
+use Rattle.trace_lines.specs.TraceLine.{MaySpell}
 use Rattle.panel_session.specs.Turns.{entries_in}
 use Rattle.panel_session.specs.WorkInside.{polling_at}
 use Rattle.panel_session.proofs.CutLemmas.{cut_behind, cut_refused}

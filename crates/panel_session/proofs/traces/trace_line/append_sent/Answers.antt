@@ -2,7 +2,7 @@ use Rattle.std.proofs.Common.{List, ℕ, ◌++◌, ◌≡◌, ap, ◌∙◌}
 use Rattle.std.specs.List.{flat_map}
 use Rattle.panel_session.specs.OutgoingInside.{emptied}
 use Rattle.panel_session.specs.Text.{frames_of, Output}
-use Rattle.panel_session.specs.TraceLine.{told_bytes}
+use Rattle.trace_lines.specs.TraceLine.{told_bytes}
 use Rattle.panel_session.proofs.TraceLemmas.{frames-bytes}
 use Rattle.panel_session.proofs.traces.trace_line.append_sent.Goals as goal
 

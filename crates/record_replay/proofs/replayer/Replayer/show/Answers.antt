@@ -4,7 +4,7 @@ use Rattle.plant_core.specs.declared.answer.Answer.{Answer}
 use Rattle.plant_core.specs.declared.request.Request.TheVariants as requests
 use Rattle.plant_core.specs.State.{State}
 use Rattle.plant_core.specs.Step.{step}
-use Rattle.panel_session.specs.DisplayPacket.{AreLamps}
+use Rattle.display_packets.specs.DisplayPacket.{AreLamps}
 use Rattle.record_replay.specs.OutputInside.{Puts}
 use Rattle.record_replay.specs.Script.{Show}
 use Rattle.record_replay.specs.Replay.{show_line}

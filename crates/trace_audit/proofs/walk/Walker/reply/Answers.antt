@@ -3,7 +3,7 @@ use Rattle.std.proofs.Common.{◌≤◌, List, length, sym, ◌∙◌, subst, ar
 use Rattle.plant_core.specs.declared.answer.Answer.{Answer}
 use Rattle.plant_core.specs.State.{IsValid}
 use Rattle.plant_core.proofs.StepValidity.{IsValid-step}
-use Rattle.panel_session.specs.TraceLine.{MayReply}
+use Rattle.panel_session.specs.Reply.{MayReply}
 use Rattle.trace_audit.proofs.WalkLemmas.{few_answers, may_reply}
 use Rattle.trace_audit.proofs.walk.Walker.reply.Goals as goal
 

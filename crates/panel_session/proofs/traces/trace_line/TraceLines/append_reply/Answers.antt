@@ -1,5 +1,6 @@
 use Rattle.std.proofs.Common.{arith}
-use Rattle.panel_session.specs.TraceLine.{reply_text, longest_trace_line}
+use Rattle.panel_session.specs.Reply.{reply_text}
+use Rattle.trace_lines.specs.TraceLine.{longest_trace_line}
 use Rattle.panel_session.proofs.TraceLemmas.{appended-most}
 use Rattle.panel_session.proofs.traces.trace_line.TraceLines.append_reply.Goals as goal
 

@@ -1,0 +1,3 @@
+pub mod DisplayPacket
+pub mod Laws
+pub mod DisplayPacketInside

@@ -1,9 +1,0 @@
-use Rattle.std.proofs.Common.{refl, arith}
-use Rattle.trace_audit.specs.LineInside.{hex_value}
-use Rattle.trace_audit.specs.declared.hexadecimal.TheConstants.{VALUES}
-use Rattle.trace_audit.proofs.HexValues.{values_are}
-use Rattle.trace_audit.proofs.hexadecimal.value_of.Goals as goal
-
-pub returns : goal.returns
-unfolding hex_value
-returns c = values_are VALUES c.args.byte (omega arith) refl

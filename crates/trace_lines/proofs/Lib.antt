@@ -1,0 +1,11 @@
+pub mod DecimalLemmas
+pub mod UpperHex
+pub mod HexValues
+pub mod MessageHex
+pub mod FieldLemmas
+pub mod RequestLemmas
+pub mod ScreenLemmas
+pub mod LineLemmas
+pub mod LineLengths
+pub mod LineEnds
+pub mod TraceEntry

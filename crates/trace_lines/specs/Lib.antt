@@ -1,0 +1,5 @@
+pub mod TraceLine
+pub mod Trace
+pub mod Laws
+pub mod LineInside
+pub mod LineRoomInside

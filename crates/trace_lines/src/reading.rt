@@ -1,0 +1,7 @@
+//! How a line is read.
+
+mod field;
+mod hexadecimal;
+pub(crate) mod line;
+mod number;
+mod request;
