@@ -1,3 +1,4 @@
 pub mod Verdict
 pub mod Audit
 pub mod VerdictInside
+pub mod Laws

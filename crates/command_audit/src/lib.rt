@@ -2,7 +2,9 @@
 //! `specs/Audit.antt`, and what it shares with other commands in `command_rows`.
 #![tactic(auto)]
 
+mod laws;
 mod row;
 mod verdict;
 
+pub use laws::audits;
 pub use row::audit;

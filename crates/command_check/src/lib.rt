@@ -2,7 +2,9 @@
 //! what it shares with other commands in `command_rows`.
 #![tactic(auto)]
 
+mod laws;
 mod row;
 mod text;
 
+pub use laws::checks;
 pub use row::check;

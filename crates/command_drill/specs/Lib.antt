@@ -1,2 +1,3 @@
 pub mod Drill
 pub mod DrillInside
+pub mod Laws

@@ -3,7 +3,9 @@
 #![tactic(auto)]
 
 mod asked;
+mod laws;
 mod row;
 mod text;
 
+pub use laws::drills;
 pub use row::drill;

@@ -1,1 +1,2 @@
 pub mod MonitorLemmas
+pub mod LawLemmas

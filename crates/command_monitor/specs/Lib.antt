@@ -1,1 +1,2 @@
 pub mod Monitor
+pub mod Laws

@@ -2,6 +2,8 @@
 //! stands in `specs/Monitor.antt`, and what it shares with other commands in `command_rows`.
 #![tactic(auto)]
 
+mod laws;
 mod row;
 
+pub use laws::tells;
 pub use row::monitor;

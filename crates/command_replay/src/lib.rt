@@ -2,6 +2,8 @@
 //! what it shares with other commands in `command_rows`.
 #![tactic(auto)]
 
+mod laws;
 mod row;
 
+pub use laws::replays;
 pub use row::replay;

@@ -3,3 +3,10 @@ pub mod OpensLemmas
 pub mod RowLemmas
 pub mod TracesLemmas
 pub mod OpenerLemmas
+pub mod ShownLemmas
+pub mod LeavesLemmas
+pub mod RowLawsLemmas
+pub mod AlwaysLemmas
+pub mod SoundLemmas
+pub mod AloneLemmas
+pub mod ShownPlantLemmas

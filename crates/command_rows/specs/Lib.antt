@@ -7,5 +7,9 @@ pub mod MadeFile
 pub mod Kinds
 pub mod Opener
 pub mod OpenerLaws
+pub mod Shown
+pub mod ShownLaws
 pub mod Row
+pub mod Sound
+pub mod RowLaws
 pub mod StopInside

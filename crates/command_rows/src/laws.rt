@@ -2,6 +2,11 @@
 
 ghost use Rattle.command_rows.specs.OpenerLaws.{OpeningCounts, OpeningHasCause};
 ghost use Rattle.command_rows.specs.OpenerLaws.{OpeningMakesNone, OpeningReadsFront};
+ghost use Rattle.command_rows.specs.ShownLaws.{OpeningFollowsShown, OpeningGivesBack};
+ghost use Rattle.command_rows.specs.ShownLaws.{OpeningLeavesOthers, ReadingCountsOn};
+ghost use Rattle.command_rows.specs.ShownLaws.{ShownPlantsArePlants};
+
+use plant_rules::a_plant_file_is_right;
 
 /// Opening reads a front of a form's files, in order: all was well, but one that it tells of as missing or failed is the last.
 /// What stops the run has its cause there, in what the files hold of it when its turn comes. The files' count of faults rises
@@ -12,3 +17,16 @@ pub fn opening()
     ensures counts { OpeningCounts }
     ensures makes_none { OpeningMakesNone }
 {}
+
+/// What the files show decides what opening leads to, unless memory runs out or the files have a fault. Behind files that were
+/// read well each opening finds what the one behind them would have found. Every source is given back, and what is held of names
+/// that the form doesn't have stays.
+pub fn shown()
+    ensures follows { OpeningFollowsShown }
+    ensures counts { ReadingCountsOn }
+    ensures sources { OpeningGivesBack }
+    ensures others { OpeningLeavesOthers }
+    ensures plants { ShownPlantsArePlants }
+{
+    a_plant_file_is_right();
+}

@@ -13,7 +13,7 @@ mod traces;
 mod whole;
 mod written;
 
-pub use laws::opening;
+pub use laws::{opening, shown};
 pub use number::said_number;
 pub use plant::open_plant;
 pub use script::{read_script, refuse_line};

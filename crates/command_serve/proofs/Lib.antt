@@ -1,2 +1,7 @@
 pub mod TraceSinkLemmas
 pub mod ServeLemmas
+pub mod CameLemmas
+pub mod LawLemmas
+pub mod KeptLemmas
+pub mod PanelWholeLemmas
+pub mod WholeLemmas

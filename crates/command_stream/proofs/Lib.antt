@@ -1,2 +1,3 @@
 pub mod StreamPortLemmas
 pub mod StreamLemmas
+pub mod LawLemmas

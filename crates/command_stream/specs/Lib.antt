@@ -1,2 +1,3 @@
 pub mod Stream
 pub mod StreamInside
+pub mod Laws

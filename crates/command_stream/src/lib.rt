@@ -3,6 +3,8 @@
 #![tactic(auto)]
 
 mod file_port;
+mod laws;
 mod row;
 
+pub use laws::streams;
 pub use row::stream;

@@ -1,179 +1,121 @@
--- How a run of the whole program ends, and what its status tells.
-use Rattle.std.proofs.Common.{◌≡◌, ◌≢◌, ◌⊎◌, inl, inr, ℕ, ◌<◌, List, length, refl, sym, ◌∙◌, ap, subst, arith}
+-- What runs of the whole program tell.
+use Rattle.std.proofs.Common.{◌≡◌, ◌≢◌, ◌⊎◌, inl, inr, ℕ, Bool, true, false, List, [], ◌∷◌, refl, sym, ◌∙◌, ap, subst, arith}
 use Rattle.ctl_io.specs.Faults.{one_more}
-use Rattle.ctl_io.specs.Sink.{appended}
 use Rattle.panel_server.specs.PlantServed.{NetData}
-use Rattle.commands.specs.Command.{Drill}
-use Rattle.commands.specs.World.{World}
-use Rattle.command_words.specs.Words.{SaysNumber}
-use Rattle.commands.specs.Command.{AskDrill, Service, AskService}
-use Rattle.commands.specs.Lines.{no_memory}
-use Rattle.commands.specs.End.{End, Done, NoMemory, status_of, end_text}
-use Rattle.commands.specs.Drill.{DrillEnds}
-use Rattle.commands.specs.Run.{IsWritten, RunEnds}
-use Rattle.commands.specs.Serve.{serve_status, serve_text}
-use Rattle.commands.specs.Program.{DrillRunEnds, ProgramEnds}
-use Rattle.commands.specs.Statuses.{IsKnown}
-use Rattle.commands.specs.ProgramStatuses.{WasDrilled, OthersRunQuietly, OthersLeaveNet, ZeroHasDrilled, OneSaysNoMemory, DrillEndsWithZero, DrillsLeaveFiles, ProgramTwoTellsUsage, NoProgramFormEndsWithTwo, ProgramSevenHasCause, ProgramOthersWriteAll}
-use Rattle.commands.proofs.CauseLemmas.{is_written, status_or_7, written-unless-7}
-use Rattle.commands.proofs.DrillWordsLemmas.{ask_only}
-use Rattle.commands.proofs.ServiceWordsLemmas.{counted}
-use Rattle.commands.proofs.ServiceEndLemmas.{service_statuses, status_so}
-use Rattle.commands.proofs.RunEndsLemmas.{eight_statuses, output_cause, output_others}
-use Rattle.commands.proofs.StatusesLemmas.{usage_no_form, usage_line, usage_always}
-
--- words ask for one drill
-
-once : (least most : ℕ) (word : List ℕ) (one other : ℕ) → SaysNumber least most word one → SaysNumber least most word other → one ≡ other
-once least most word one other a b = a.spells.number_is ∙ sym b.spells.number_is
-
-same_messages : (word : List ℕ) (one other : Drill) → one.panels ≡ other.panels → SaysNumber one.panels 200000 word one.messages → SaysNumber other.panels 200000 word other.messages
-    → one.messages ≡ other.messages
-same_messages word one other panels a b = a.spells.number_is ∙ sym b.spells.number_is
-
-pub same_drill : (words : List (List ℕ)) (one other : Drill) → AskDrill words one → AskDrill words other → one ≡ other
-same_drill words one other a b =
-    let say = ask_only words _ a.number a.panels a.messages other a.form b in
-    let panels = once 1 16 a.panels one.panels other.panels a.say.says_panels say.says_panels in
-    let numbers = once 0 4294967295 a.number one.number other.number a.say.says_number say.says_number in
-    let messages = same_messages a.messages one other panels a.say.says_messages say.says_messages in
-    λ i. record { number = numbers i; panels = panels i; messages = messages i }
-
--- words that ask for a drill ask for no service
-pub not_both : (words : List (List ℕ)) (drill : Drill) (service : Service) → AskDrill words drill → AskService words service → ⊥
-not_both words drill service a b = omega (arith, ap length a.form, (counted words service b).1)
-
--- what its status tells
-
-done_at : (drill : Drill) (before now : World) (end : End) → DrillEnds drill end → IsWritten (status_of end) (end_text end) before now 0 → WasDrilled drill before now
-done_at drill before now (Done output) ends written = record { appends = written.appends ∙ ap (appended before.written) ends.0; trace = ends.1.0; is_trace = ends.1.1 }
-done_at drill before now NoMemory ends written = absurd (let h = written.status_is in omega arith)
-done_at drill before now other ends written = absurd ends
-
-memory_at : (drill : Drill) (before now : World) (end : End) → DrillEnds drill end → IsWritten (status_of end) (end_text end) before now 1 → now.written ≡ appended before.written no_memory
-memory_at drill before now (Done output) ends written = absurd (let h = written.status_is in omega arith)
-memory_at drill before now NoMemory ends written = written.appends
-memory_at drill before now other ends written = absurd ends
-
--- a drill's own ends have one of two statuses
-status_at : (drill : Drill) (end : End) → DrillEnds drill end → (status_of end ≡ 0) ⊎ (status_of end ≡ 1)
-status_at drill (Done output) ends = inl refl
-status_at drill NoMemory ends = inr refl
-status_at drill other ends = absurd ends
-
-not_other : (drill : Drill) (end : End) (status : ℕ) → DrillEnds drill end → status ≡ status_of end → status ≢ 0 → status ≢ 1 → ⊥
-not_other drill end status ends is zero one = elim (status_at drill end ends) [ inl h ↦ zero (is ∙ h) | inr h ↦ one (is ∙ h) ]
-
-no_2 : (drill : Drill) (before now : World) → DrillRunEnds drill before now 2 → ⊥
-no_2 drill before now run =
-    let written = is_written run.end before now 2 (λ h. omega arith) run.output in
-    not_other drill run.end 2 run.ends written.status_is (λ h. omega arith) (λ h. omega arith)
-
--- no drill and no quiet run has another status
-pub drill_status : (drill : Drill) (before now : World) (status : ℕ) → DrillRunEnds drill before now status → (status ≡ 0 → ⊥) → (status ≡ 1 → ⊥) → (status ≡ 7 → ⊥) → ⊥
-drill_status drill before now status run zero one seven = elim (status_or_7 run.end before now status run.output) [
-  | inl is ↦ not_other drill run.end status run.ends is zero one
-  | inr failed ↦ seven failed.0
-]
-
-below_8 : (status : ℕ) → IsKnown status → 7 < status → ⊥
-below_8 status (inl none) more = omega (arith, none, more)
-below_8 status (inr (inl one)) more = omega (arith, one, more)
-below_8 status (inr (inr (inl two))) more = omega (arith, two, more)
-below_8 status (inr (inr (inr (inl three)))) more = omega (arith, three, more)
-below_8 status (inr (inr (inr (inr (inl four))))) more = omega (arith, four, more)
-below_8 status (inr (inr (inr (inr (inr (inl five)))))) more = omega (arith, five, more)
-below_8 status (inr (inr (inr (inr (inr (inr (inl six))))))) more = omega (arith, six, more)
-below_8 status (inr (inr (inr (inr (inr (inr (inr seven))))))) more = omega (arith, seven, more)
-
-pub quiet_status : (words : List (List ℕ)) (before now : World) (status : ℕ) → RunEnds words before now status → 7 < status → ⊥
-quiet_status words before now status run more = below_8 status (eight_statuses words before now status run) more
-
-drill_seven : (drill : Drill) (before now : World) → DrillRunEnds drill before now 7 → now.output_faults ≡ one_more before.output_faults
-drill_seven drill before now run = elim (status_or_7 run.end before now 7 run.output) [
-  | inl is ↦ absurd (not_other drill run.end 7 run.ends is (λ h. omega arith) (λ h. omega arith))
-  | inr failed ↦ failed.1
-]
+use Rattle.command_words.specs.Parts.{NoMore, Prefix}
+use Rattle.command_words.specs.Table.{AskNone, AskOne}
+use Rattle.command_rows.specs.Moment.{Moment}
+use Rattle.command_rows.specs.Row.{RowRuns}
+use Rattle.command_rows.specs.RowLaws.{CouldNotWrite}
+use Rattle.command_rows.specs.Sound.{IsOneOf}
+use Rattle.command_rows.proofs.RowLawsLemmas.{no_usage, write_all}
+use Rattle.command_rows.proofs.SoundLemmas.{known, seven_cause}
+use Rattle.command_drill.specs.Drill as drills
+use Rattle.command_drill.proofs.LawLemmas as drill
+use Rattle.command_serve.specs.Serve as serves
+use Rattle.command_serve.specs.Laws.{Serves}
+use Rattle.command_serve.specs.Whole.{ZeroServesWhole as ServicesServeWhole}
+use Rattle.command_serve.proofs.LawLemmas.{are_rows, known as serve_known}
+use Rattle.commands.specs.declared.rows.Verb.{Verb}
+use Rattle.commands.specs.declared.rows.Verb.TheVariants as verbs
+use Rattle.commands.specs.Rows.{AskFor, SaidOf, line_of, row_of, table}
+use Rattle.commands.specs.Quiet.{RunsRow, QuietEnds}
+use Rattle.commands.specs.Program.{Waits, WaitingEnds, ProgramEnds}
+use Rattle.commands.specs.ProgramLaws.{AskedWaits, OthersRunQuietly, OthersLeaveNet, ZeroServesWhole, EightIsOfServices, ProgramTwoTellsUsage, NoFormEndsProgramWithTwo, ProgramSevenHasCause, ProgramWritesAll}
+use Rattle.commands.proofs.SaidLemmas.{asked_so}
+use Rattle.commands.proofs.QuietLemmas.{eight, no_form, usage_told, formless, seven, others}
 
 module _ {P : Type 0} (WasSent : P → List (List ℕ) → Type 0) (faults : P → ℕ) where
-  -- a run whose words ask for a drill ends with it
-  drill_of : (words : List (List ℕ)) (before now : World) (net net_then : NetData P) (status : ℕ) (drill : Drill) → AskDrill words drill → ProgramEnds WasSent faults words before now net net_then status
-      → DrillRunEnds drill before now status
-  drill_of words before now net net_then status drill ask (inl ends) = subst (λ (d : Drill). DrillRunEnds d before now status) (same_drill words ends.0 drill ends.1 ask) ends.2
-  drill_of words before now net net_then status drill ask (inr (inl ends)) = absurd (not_both words drill ends.0 ask ends.1)
-  drill_of words before now net net_then status drill ask (inr (inr ends)) = absurd (ends.0 drill ask)
+  -- a command that waits isn't a quiet one
+  no_quiet : (verb : Verb) (said : SaidOf verb) (before now : Moment) (net net_then : NetData P) (status : ℕ) → Waits WasSent faults verb said before now net net_then status → (row_of verb).form.is_quiet ≡ false
+  no_quiet verbs.Serve said before now net net_then status waits = refl
+  no_quiet verbs.Drill said before now net net_then status waits = refl
+  no_quiet other said before now net net_then status waits = absurd waits
 
-  pub drill_done : ZeroHasDrilled WasSent faults
-  drill_done words before now net net_then drill ask run =
-      let ended = drill_of words before now net net_then 0 drill ask run in
-      done_at drill before now ended.end ended.ends (is_written ended.end before now 0 (λ h. omega arith) ended.output)
+  one_waits : (words : List (List ℕ)) (verb : Verb) (said : SaidOf verb) → AskFor words verb said → (row_of verb).form.is_quiet ≡ false → AskOne table false words
+  one_waits words verb said ask quiet = record { line = line_of verb; quiet = quiet; said = said; ask = ask }
 
-  pub drill_memory : OneSaysNoMemory WasSent faults
-  drill_memory words before now net net_then drill ask run =
-      let ended = drill_of words before now net net_then 1 drill ask run in
-      memory_at drill before now ended.end ended.ends (is_written ended.end before now 1 (λ h. omega arith) ended.output)
+  pub asked_waits : AskedWaits WasSent faults
+  asked_waits words verb said before now net net_then status ask quiet (inl run) =
+      asked_so words run.verb verb run.said said (λ v s. Waits WasSent faults v s before now net net_then status) run.ask ask run.waits
+  asked_waits words verb said before now net net_then status ask quiet (inr run) = absurd (run.none (one_waits words verb said ask quiet))
 
-  pub drill_always : DrillEndsWithZero WasSent faults
-  drill_always words before now net net_then status drill ask run =
-      let ended = drill_of words before now net net_then status drill ask run in
-      elim (status_or_7 ended.end before now status ended.output) [
-        | inl is ↦ elim (status_at drill ended.end ended.ends) [ inl h ↦ inl (is ∙ h) | inr h ↦ inr (inl (is ∙ h)) ]
-        | inr failed ↦ inr (inr failed)
-      ]
+  pub run_quietly : OthersRunQuietly WasSent faults
+  run_quietly words before now net net_then status none (inl run) = absurd (none (one_waits words run.verb run.said run.ask (no_quiet run.verb run.said before now net net_then status run.waits)))
+  run_quietly words before now net net_then status none (inr run) = run.ends
 
-  pub drill_files : DrillsLeaveFiles WasSent faults
-  drill_files words before now net net_then status drill ask run = (drill_of words before now net net_then status drill ask run).files
-
-  pub others_quiet : OthersRunQuietly WasSent faults
-  others_quiet words before now net net_then status no_drill no_service (inl ends) = absurd (no_drill ends.0 ends.1)
-  others_quiet words before now net net_then status no_drill no_service (inr (inl ends)) = absurd (no_service ends.0 ends.1)
-  others_quiet words before now net net_then status no_drill no_service (inr (inr ends)) = ends.2
+  leave_net : (words : List (List ℕ)) (verb : Verb) (said : SaidOf verb) (before now : Moment) (net net_then : NetData P) (status : ℕ) → AskFor words verb said → ((its : SaidOf verbs.Serve) → AskFor words verbs.Serve its → ⊥)
+      → Waits WasSent faults verb said before now net net_then status → net_then ≡ net
+  leave_net words verbs.Serve said before now net net_then status ask none waits = absurd (none said ask)
+  leave_net words verbs.Drill said before now net net_then status ask none waits = waits.0
+  leave_net words other said before now net net_then status ask none waits = absurd waits
 
   pub others_net : OthersLeaveNet WasSent faults
-  others_net words before now net net_then status no_service (inl ends) = ends.3
-  others_net words before now net net_then status no_service (inr (inl ends)) = absurd (no_service ends.0 ends.1)
-  others_net words before now net net_then status no_service (inr (inr ends)) = ends.3
+  others_net words before now net net_then status none (inl run) = leave_net words run.verb run.said before now net net_then status run.ask none run.waits
+  others_net words before now net net_then status none (inr run) = run.untouched
 
-  -- statuses of all runs
+  -- a service that ends with 0
+  pub zero_whole : ServicesServeWhole WasSent faults → ZeroServesWhole WasSent faults
+  zero_whole whole words said before now net net_then ask run = whole said before now net net_then (asked_waits words verbs.Serve said before now net net_then 0 ask refl run)
+
+  -- 8 and 9 are of services
+  not_drill : (said : SaidOf verbs.Drill) (before now : Moment) (status : ℕ) → (status ≡ 8) ⊎ (status ≡ 9) → RowRuns drills.parts NoMore drills.DrillRow said before now status → ⊥
+  not_drill said before now status one runs =
+      let few = (known drills.parts NoMore drills.DrillRow (0 ∷ 1 ∷ []) drill.sound said before now status runs).eight in
+      elim one [ inl is ↦ omega (arith, few, is) | inr is ↦ omega (arith, few, is) ]
+
+  of_service : (words : List (List ℕ)) (verb : Verb) (said : SaidOf verb) (before now : Moment) (net net_then : NetData P) (status : ℕ) → (status ≡ 8) ⊎ (status ≡ 9) → AskFor words verb said
+      → Waits WasSent faults verb said before now net net_then status → (its : SaidOf verbs.Serve) × AskFor words verbs.Serve its × Serves WasSent faults its before now net net_then status
+  of_service words verbs.Serve said before now net net_then status one ask waits = (said, ask, waits)
+  of_service words verbs.Drill said before now net net_then status one ask waits = absurd (not_drill said before now status one waits.1)
+  of_service words other said before now net net_then status one ask waits = absurd waits
+
+  pub eight_of : EightIsOfServices WasSent faults
+  eight_of words before now net net_then status one (inl run) = of_service words run.verb run.said before now net net_then status one run.ask run.waits
+  eight_of words before now net net_then status one (inr run) =
+      let few = eight words before now status run.ends in
+      absurd (elim one [ inl is ↦ omega (arith, few, is) | inr is ↦ omega (arith, few, is) ])
+
+  -- a waiting command is a row: no usage line, and what its writes came to
+  waits_not_2 : (verb : Verb) (said : SaidOf verb) (before now : Moment) (net net_then : NetData P) (status : ℕ) → Waits WasSent faults verb said before now net net_then status → status ≢ 2
+  waits_not_2 verbs.Serve said before now net net_then status waits =
+      no_usage serves.parts Prefix (serves.ServeRow WasSent faults net net_then) said before now status (are_rows WasSent faults said before now net net_then status waits)
+  waits_not_2 verbs.Drill said before now net net_then status waits = no_usage drills.parts NoMore drills.DrillRow said before now status waits.1
+  waits_not_2 other said before now net net_then status waits = absurd waits
+
+  waits_write : (verb : Verb) (said : SaidOf verb) (before now : Moment) (net net_then : NetData P) (status : ℕ) → Waits WasSent faults verb said before now net net_then status → status ≢ 7 → now.output.faults ≡ before.output.faults
+  waits_write verbs.Serve said before now net net_then status waits =
+      write_all serves.parts Prefix (serves.ServeRow WasSent faults net net_then) said before now status (are_rows WasSent faults said before now net net_then status waits)
+  waits_write verbs.Drill said before now net net_then status waits = write_all drills.parts NoMore drills.DrillRow said before now status waits.1
+  waits_write other said before now net net_then status waits = absurd waits
+
+  not_seven : (before now : Moment) → IsOneOf (0 ∷ 1 ∷ 3 ∷ 4 ∷ 8 ∷ 9 ∷ []) 7 ⊎ CouldNotWrite before now 7 → now.output.faults ≡ one_more before.output.faults
+  not_seven before now (inr cut) = cut.1
+  not_seven before now (inl (inl is)) = absurd (omega (arith, is))
+  not_seven before now (inl (inr (inl is))) = absurd (omega (arith, is))
+  not_seven before now (inl (inr (inr (inl is)))) = absurd (omega (arith, is))
+  not_seven before now (inl (inr (inr (inr (inl is))))) = absurd (omega (arith, is))
+  not_seven before now (inl (inr (inr (inr (inr (inl is)))))) = absurd (omega (arith, is))
+  not_seven before now (inl (inr (inr (inr (inr (inr (inl is))))))) = absurd (omega (arith, is))
+  not_seven before now (inl (inr (inr (inr (inr (inr (inr none))))))) = absurd none
+
+  waits_seven : (verb : Verb) (said : SaidOf verb) (before now : Moment) (net net_then : NetData P) → Waits WasSent faults verb said before now net net_then 7 → now.output.faults ≡ one_more before.output.faults
+  waits_seven verbs.Serve said before now net net_then waits = not_seven before now (serve_known WasSent faults said before now net net_then 7 waits)
+  waits_seven verbs.Drill said before now net net_then waits = seven_cause drills.parts NoMore drills.DrillRow (0 ∷ 1 ∷ []) drill.sound said before now waits.1
+  waits_seven other said before now net net_then waits = absurd waits
 
   pub two_usage : ProgramTwoTellsUsage WasSent faults
-  two_usage words before now net net_then (inl ends) = absurd (no_2 ends.0 before now ends.2)
-  two_usage words before now net net_then (inr (inl ends)) = absurd (
-      elim (service_statuses WasSent faults ends.0 before now net net_then 2 ends.2) [
-        | inl none ↦ omega (arith, none)
-        | inr (inl one) ↦ omega (arith, one)
-        | inr (inr (inl three)) ↦ omega (arith, three)
-        | inr (inr (inr (inl four))) ↦ omega (arith, four)
-        | inr (inr (inr (inr (inl seven)))) ↦ omega (arith, seven)
-        | inr (inr (inr (inr (inr (inl eight))))) ↦ omega (arith, eight)
-        | inr (inr (inr (inr (inr (inr nine))))) ↦ omega (arith, nine)
-      ]
-      )
-  two_usage words before now net net_then (inr (inr ends)) = ((usage_no_form words before now ends.2, ends.0, ends.1), usage_line words before now ends.2)
+  two_usage words before now net net_then (inl run) = absurd (waits_not_2 run.verb run.said before now net net_then 2 run.waits refl)
+  two_usage words before now net net_then (inr run) = ((no_form words before now run.ends, run.none), usage_told words before now run.ends)
 
-  pub two_always : NoProgramFormEndsWithTwo WasSent faults
-  two_always words before now net net_then status none (inl ends) = absurd (none.1 ends.0 ends.1)
-  two_always words before now net net_then status none (inr (inl ends)) = absurd (none.2 ends.0 ends.1)
-  two_always words before now net net_then status none (inr (inr ends)) = usage_always words before now status none.0 ends.2
+  pub two_always : NoFormEndsProgramWithTwo WasSent faults
+  two_always words before now net net_then status none (inl run) = absurd (none.1 (one_waits words run.verb run.said run.ask (no_quiet run.verb run.said before now net net_then status run.waits)))
+  two_always words before now net net_then status none (inr run) = formless words before now status none.0 run.ends
 
-  pub seven_cause : ProgramSevenHasCause WasSent faults
-  seven_cause words before now net net_then (inl ends) = drill_seven ends.0 before now ends.2
-  seven_cause words before now net net_then (inr (inl ends)) = elim (status_so WasSent faults ends.0 before now net net_then 7 ends.2) [
-    | inl same ↦ absurd (
-        elim same [
-          | inl none ↦ omega (arith, none)
-          | inr (inl one) ↦ omega (arith, one)
-          | inr (inr (inl three)) ↦ omega (arith, three)
-          | inr (inr (inr (inl four))) ↦ omega (arith, four)
-          | inr (inr (inr (inr (inl eight)))) ↦ omega (arith, eight)
-          | inr (inr (inr (inr (inr nine)))) ↦ omega (arith, nine)
-        ]
-        )
-    | inr failed ↦ failed.1
-  ]
-  seven_cause words before now net net_then (inr (inr ends)) = output_cause words before now ends.2
+  pub program_seven : ProgramSevenHasCause WasSent faults
+  program_seven words before now net net_then (inl run) = waits_seven run.verb run.said before now net net_then run.waits
+  program_seven words before now net net_then (inr run) = seven words before now run.ends
 
-  pub seven_others : ProgramOthersWriteAll WasSent faults
-  seven_others words before now net net_then status (inl ends) other = (is_written ends.2.end before now status other ends.2.output).output_faults
-  seven_others words before now net net_then status (inr (inl ends)) other = (written-unless-7 (serve_status ends.2.end) (serve_text ends.2.end) before now status other ends.2.output).output_faults
-  seven_others words before now net net_then status (inr (inr ends)) other = output_others words before now status ends.2 other
+  pub program_writes : ProgramWritesAll WasSent faults
+  program_writes words before now net net_then status (inl run) other = waits_write run.verb run.said before now net net_then status run.waits other
+  program_writes words before now net net_then status (inr run) other = others words before now status run.ends other

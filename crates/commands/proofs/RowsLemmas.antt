@@ -9,9 +9,9 @@ use Rattle.command_words.specs.ReadTable.{AsksSo}
 use Rattle.command_words.specs.Words.{texts}
 use Rattle.command_words.specs.Table.{Line, Ask, AskNone, Asks, SaidFor}
 use Rattle.command_words.specs.ClapForms.{ClapTakes}
-use Rattle.commands.specs.Rows.{AsksFor, line_of, table, verbs}
+use Rattle.commands.specs.Rows.{AskFor, AsksFor, SaidOf, line_of, table, verbs}
 use Rattle.command_words.proofs.ClapTable.{Fits, clap_takes}
-use Rattle.command_words.proofs.TableLemmas.{of_verb}
+use Rattle.command_words.proofs.TableLemmas.{of_verb, one_verb}
 
 fits : Fits table
 unfolding clap_on_literals
@@ -33,6 +33,10 @@ module _ (is_quiet : Bool) (words : List (List ℕ)) (behind : List (List ℕ)) 
       let line = asks.one.line in
       by_line line verb asks.one.said asks.one.ask
       (of_verb line_of (λ v. refl) (λ (l : Line Verb). bytes_eq l.name line.name) verbs line asks.one.ask.stands ∙ ap line_of asks.verb_is) asks.one.quiet asks.behind_is
+
+-- words ask for one command
+pub same_verb : (words : List (List ℕ)) (one other : Verb) (said : SaidOf one) (also : SaidOf other) → AskFor words one said → AskFor words other also → one ≡ other
+same_verb words one other said also a b = one_verb line_of (λ v. refl) verbs words one other said also a b
 
 -- what is read by a line is read by its row
 pub read_for : (is_quiet : Bool) (words : List (List ℕ)) (read : Option (Asked Verb)) → MatchOption read (AskNone table is_quiet words) (λ asked. AsksSo table is_quiet words asked)

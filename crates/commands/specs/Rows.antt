@@ -1,11 +1,25 @@
--- The table of commands.
+-- The table of commands, and what the row of each promises.
 use Rattle.std.specs.Prelude.{◌≡◌, ℕ, Bool, List, [], ◌∷◌, map, codes, true, false}
+use Rattle.command_rows.specs.Row.{Promise}
+use Rattle.command_rows.specs.Sound.{IsSound, Nothing}
+use Rattle.command_rows.proofs.AloneLemmas.{nothing_sound}
+use Rattle.command_check.proofs.LawLemmas as check
+use Rattle.command_replay.proofs.LawLemmas as replay
+use Rattle.command_audit.proofs.LawLemmas as audit
+use Rattle.command_drill.proofs.LawLemmas as drill
+use Rattle.command_stream.proofs.LawLemmas as stream
+use Rattle.command_monitor.proofs.LawLemmas as monitor
 use Rattle.commands.specs.declared.rows.Verb.{Verb}
 use Rattle.commands.specs.declared.rows.Verb.TheVariants.{Check, Replay, Audit, Serve, Drill, Stream, Monitor}
 use Rattle.command_words.specs.Parts.{FileKind, AtLeast, AsBefore, Part, Plant, Whole, Made, Number, Last, NoMore, Wholes, Prefix, Form}
 use Rattle.command_words.specs.Table.{Ask, Line, SaidFor}
 use Rattle.command_rows.specs.Kinds.{script, trace}
-use Rattle.command_monitor.specs.Monitor.{recording}
+use Rattle.command_monitor.specs.Monitor.{recording, MonitorRow}
+use Rattle.command_check.specs.Check.{CheckRow}
+use Rattle.command_replay.specs.Replay.{ReplayRow}
+use Rattle.command_audit.specs.Audit.{AuditRow}
+use Rattle.command_drill.specs.Drill.{DrillRow}
+use Rattle.command_stream.specs.Stream.{StreamRow}
 
 -- What stands in the table of a command: its first word, its form, and what the usage line calls the words behind the first.
 pub record Row : Type 0 where
@@ -49,6 +63,37 @@ row_of Drill = waiting (codes "drill")
 row_of Stream = quiet (codes "stream") (Plant ∷ Whole script ∷ Made ∷ []) NoMore
     (codes "PLANT" ∷ codes "SCRIPT" ∷ codes "OUT" ∷ [])
 row_of Monitor = quiet (codes "monitor") (Whole recording ∷ []) NoMore (codes "FILE" ∷ [])
+
+-- What the row of each promises. `serve` asks the net too, and its ends stand apart.
+abbrev pub promise_of : (verb : Verb) → Promise (row_of verb).form.parts (row_of verb).form.last
+promise_of Check = CheckRow
+promise_of Replay = ReplayRow
+promise_of Audit = AuditRow
+promise_of Serve = Nothing (row_of Serve).form.parts (row_of Serve).form.last
+promise_of Drill = DrillRow
+promise_of Stream = StreamRow
+promise_of Monitor = MonitorRow
+
+-- the statuses that each may have of its own, once its inputs are opened, if all is written
+abbrev pub statuses_of : Verb → List ℕ
+statuses_of Check = 0 ∷ 1 ∷ []
+statuses_of Replay = 0 ∷ 1 ∷ 5 ∷ []
+statuses_of Audit = 0 ∷ 1 ∷ 5 ∷ 6 ∷ []
+statuses_of Serve = []
+statuses_of Drill = 0 ∷ 1 ∷ []
+statuses_of Stream = 0 ∷ 1 ∷ 3 ∷ 5 ∷ []
+statuses_of Monitor = 0 ∷ 1 ∷ []
+
+-- So the promise of each is sound.
+pub sound_of : (verb : Verb) → IsSound (row_of verb).form.parts (row_of verb).form.last
+    (promise_of verb) (statuses_of verb)
+sound_of Check = check.sound
+sound_of Replay = replay.sound
+sound_of Audit = audit.sound
+sound_of Serve = nothing_sound
+sound_of Drill = drill.sound
+sound_of Stream = stream.sound
+sound_of Monitor = monitor.sound
 
 abbrev pub line_of : Verb → Line Verb
 line_of verb = record {

@@ -1,45 +1,50 @@
-//! What the exit statuses tell of a run, each as a law over the ends of runs.
+//! What the exit statuses tell of a quiet run, each as a law over the ends of runs. What a command adds of its own are the laws of
+//! its crate.
 
-ghost use Rattle.commands.specs.RowRun.{RowsEndRuns};
-ghost use Rattle.commands.specs.Statuses.{StatusesAreKnown, ZeroHasDone, OneRanOutOfMemory};
-ghost use Rattle.commands.specs.Statuses.{ReplaysShowHistories};
-ghost use Rattle.commands.specs.Statuses.{TwoHasNoForm, TwoTellsUsage, NoFormEndsWithTwo};
-ghost use Rattle.commands.specs.Statuses.{ThreeHasCause, NoPlantEndsWithThree};
-ghost use Rattle.commands.specs.Statuses.{NoScriptEndsWithThree, NoTraceEndsWithThree};
-ghost use Rattle.commands.specs.Statuses.{FourHasCause, RefusedPlantEndsWithFour};
-ghost use Rattle.commands.specs.Statuses.{FourOpensNoScript};
-ghost use Rattle.commands.specs.Statuses.{FiveHasCause, RefusedEndsWithFive, AcceptedEndsWithZero};
-ghost use Rattle.commands.specs.Statuses.{PlantEndsWithZero, LongTracesEndWithFive};
-ghost use Rattle.commands.specs.Statuses.{StreamEndsWithZero, NoStreamEndsWithThree};
-ghost use Rattle.commands.specs.Statuses.{LongStreamEndsWithFive};
-ghost use Rattle.commands.specs.Statuses.{SixHasCause, VerdictsEndRuns};
-ghost use Rattle.commands.specs.Statuses.{SevenHasCause, OthersWriteAll};
-ghost use Rattle.commands.specs.Statuses.{SourcesComeBack, SinksComeBack, NoSinkIsMade};
-ghost use Rattle.commands.specs.Statuses.{OtherNamesStay, StreamsAreMade};
-ghost use Rattle.commands.specs.Statuses.{FileFaultsStay, FileFaultsRiseOnce};
+ghost use Rattle.command_rows.specs.RowLaws.{FourHasCause, GivenIsWorked};
+ghost use Rattle.command_rows.specs.RowLaws.{MissingFirstEndsWithThree, NoRowTellsUsage};
+ghost use Rattle.command_rows.specs.RowLaws.{OneHasCause, RowsHaveCause, RowsLeaveAll};
+ghost use Rattle.command_rows.specs.RowLaws.{RowsWriteAll, SevenHasCause, StopsAreTold};
+ghost use Rattle.commands.specs.QuietLaws.{AskedRuns, NoFormEndsWithTwo, OfEachRow};
+ghost use Rattle.commands.specs.QuietLaws.{QuietLeaves, QuietSevenHasCause, QuietWritesAll};
+ghost use Rattle.commands.specs.QuietLaws.{ReplaysShowHistories, RowsHaveTheirStatuses};
+ghost use Rattle.commands.specs.QuietLaws.{StatusesAreKnown};
+ghost use Rattle.commands.specs.QuietLaws.{TwoHasNoForm, TwoTellsUsage, WorkIsDone};
 
-use plant_rules::a_plant_file_is_right;
-use record_replay::{lines_answer_items, one_history};
+use command_replay::replays;
 
-/// What ends by the row of a command ends as the laws on statuses say.
-pub fn rows_end()
-    ensures { RowsEndRuns }
+/// Of the row of each command, whatever its parts are. Its run ended at its inputs, with exactly the line of that, or as the row
+/// promises, with exactly the text of that, or a write failed. Status 1: nothing but the line that says so was appended, and
+/// memory ran out at a file that may be here, behind others that were read well, or behind all. Status 4: a plant's file has a
+/// fault or is too long; no file behind it was opened. Where the files show that opening is stopped, by a file that is missing, by
+/// a plant that is refused, or by a length, the run always ends with the line of that, and where they show what is given, the row
+/// is always worked with that; unless memory runs out, the files fail or a write does. If the first file is shown to be missing,
+/// memory is no cause.
+pub fn each_row()
+    ensures cause { OfEachRow RowsHaveCause }
+    ensures statuses { RowsHaveTheirStatuses }
+    ensures memory { OfEachRow OneHasCause }
+    ensures usage { OfEachRow NoRowTellsUsage }
+    ensures plant { OfEachRow FourHasCause }
+    ensures stops { OfEachRow StopsAreTold }
+    ensures given { OfEachRow GivenIsWorked }
+    ensures missing { OfEachRow MissingFirstEndsWithThree }
+    ensures failed { OfEachRow SevenHasCause }
+    ensures others { OfEachRow RowsWriteAll }
+    ensures left { OfEachRow RowsLeaveAll }
 {}
 
-/// No other status is answered.
+/// Words that ask for a quiet command run its row, unless memory runs out before any file is opened. So what is said of runs of a
+/// row is said of runs with such words.
+pub fn asked()
+    ensures { AskedRuns }
+{}
+
+/// No other status is answered than 0 to 7. Of 0 and 6, a row was worked that has such a status of its own: 6 is that of an audit
+/// alone.
 pub fn statuses()
-    ensures { StatusesAreKnown }
-{}
-
-/// Status 0: exactly the plant's ten lines, the script's replay text, the line that confirms the traces, or the lines of
-/// the stream's items were appended, and in the history behind a replay text no tie ever carries two sources. Status 1:
-/// memory ran out.
-pub fn done()
-    ensures done { ZeroHasDone }
-    ensures checked { PlantEndsWithZero }
-    ensures told { StreamEndsWithZero }
-    ensures streamed { StreamsAreMade }
-    ensures no_memory { OneRanOutOfMemory }
+    ensures known { StatusesAreKnown }
+    ensures worked { WorkIsDone }
 {}
 
 /// Status 0 of a replay whose script and plant the files show: behind the lines that were appended stands a legal history of
@@ -48,69 +53,25 @@ pub fn done()
 pub fn history_shown()
     ensures { ReplaysShowHistories }
 {
-    one_history();
-    lines_answer_items();
+    replays();
 }
 
-/// Status 2: exactly where the words have no form, unless the line could not be written.
+/// Status 2: exactly where the words ask for no quiet command, unless the line could not be written.
 pub fn usage_told()
     ensures no_form { TwoHasNoForm }
     ensures line { TwoTellsUsage }
     ensures always { NoFormEndsWithTwo }
 {}
 
-/// Status 3: a file that the words ask for is missing, or the files had a fault. A missing plant file always ends
-/// so, unless the line could not be written or memory ran out before any file was opened, and a missing script, trace or
-/// stream, unless memory runs out or the output fails.
-pub fn file_refused()
-    ensures cause { ThreeHasCause }
-    ensures no_plant { NoPlantEndsWithThree }
-    ensures no_script { NoScriptEndsWithThree }
-    ensures no_trace { NoTraceEndsWithThree }
-    ensures no_stream { NoStreamEndsWithThree }
-{}
-
-/// Status 4: the plant file's first fault, or its length. Such a file ends the run before the script or a trace is opened.
-pub fn plant_refused()
-    ensures cause { FourHasCause }
-    ensures refused { RefusedPlantEndsWithFour }
-    ensures unopened { FourOpensNoScript }
-{}
-
-/// Status 5: the first line without a form, of a script or of all traces, or the length of the script or of the traces
-/// together, or of a recorded stream. A script that is refused is never replayed, and one that is accepted is never
-/// refused; traces that are too long are never audited, and a stream that is too long is never told.
-pub fn script_refused()
-    ensures cause { FiveHasCause }
-    ensures refused { RefusedEndsWithFive }
-    ensures accepted { AcceptedEndsWithZero }
-    ensures long { LongTracesEndWithFive }
-    ensures long_stream { LongStreamEndsWithFive }
-{}
-
-/// Status 6: the audit found a gap, a repeat or a difference. Traces that aren't too long lead to the status of their
-/// verdict: 0 where they are confirmed, 5 where a line is refused, and 6 where something is found.
-pub fn traces_audited()
-    ensures cause { SixHasCause }
-    ensures verdict { VerdictsEndRuns }
-{
-    a_plant_file_is_right();
-}
-
 /// Status 7: only where a write of the output failed, and no write failed behind any other status.
 pub fn output_fault()
-    ensures failed { SevenHasCause }
-    ensures others { OthersWriteAll }
+    ensures failed { QuietSevenHasCause }
+    ensures others { QuietWritesAll }
 {}
 
-/// Whatever the status, each source and each sink was given back, no sink was made but that of a stream's file, the files hold
-/// what they held of each name that the words don't name, and their count of faults stayed, unless the status is 3 or 7, where
-/// it may have risen by one.
+/// Whatever the status, each source and each sink was given back, no sink was made but that of a file that the words ask to make, the
+/// files hold what they held of each name that the words don't name, and their count of faults stayed, unless the status is 3 or 7,
+/// where it may have risen by one.
 pub fn files_stay()
-    ensures given_back { SourcesComeBack }
-    ensures sinks_back { SinksComeBack }
-    ensures no_sink { NoSinkIsMade }
-    ensures others { OtherNamesStay }
-    ensures stay { FileFaultsStay }
-    ensures rise { FileFaultsRiseOnce }
+    ensures { QuietLeaves }
 {}

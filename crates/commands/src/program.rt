@@ -1,9 +1,8 @@
 //! The top call.
 
-ghost use Rattle.commands.specs.World.{world};
 ghost use Rattle.command_words.specs.Words.{texts};
-ghost use Rattle.commands.specs.Run.{EndsUnworded};
-ghost use Rattle.commands.specs.Program.{ProgramEnds};
+ghost use Rattle.command_rows.specs.Moment.{moment_of, output_of};
+ghost use Rattle.commands.specs.Program.{EndsUnworded, ProgramEnds};
 
 use crate::quiet::run_quiet;
 use crate::rows::{Verb, waiting_command};
@@ -35,8 +34,8 @@ pub fn run<R: Threads + Wait + Sync, F: Files, N: Net, G: Gate, K: Sink>(
     out: &mut K,
 ) -> u8
     ensures { ProgramEnds N.P.was_sent N.P.faults (texts words.now)
-        (world F.shows K.written K.faults files.old out.old)
-        (world F.shows K.written K.faults files.new out.new)
+        (moment_of F.shows K.written K.faults files.old out.old)
+        (moment_of F.shows K.written K.faults files.new out.new)
         (N.shows net.old) (N.shows net.new)
         result }
 {
@@ -46,19 +45,15 @@ pub fn run<R: Threads + Wait + Sync, F: Files, N: Net, G: Gate, K: Sink>(
     match asked.verb {
         Verb::Drill => drill(rt, alloc, asked.behind, gate, out).number(),
         Verb::Serve => serve(rt, alloc, asked.behind, files, net, gate, out).number(),
-        Verb::Check => unreachable!(),
-        Verb::Replay => unreachable!(),
-        Verb::Audit => unreachable!(),
-        Verb::Stream => unreachable!(),
-        Verb::Monitor => unreachable!(),
+        _ => unreachable!(),
     }
 }
 
 /// Ends a run for whose words there is no memory: appends the line that says so, and answers the exit status. That is 1, or
 /// 7 where the line can't be written.
 pub fn end_without_memory<K: Sink>(out: &mut K) -> u8
-    ensures { EndsUnworded result
-        (K.written out.old) (K.written out.new) (K.faults out.old) (K.faults out.new) }
+    ensures { EndsUnworded result (output_of K.written K.faults out.old)
+        (output_of K.written K.faults out.new) }
 {
     Stop::NoMemory.report(out).number()
 }

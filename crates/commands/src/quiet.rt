@@ -1,25 +1,15 @@
 //! The runs that wait for nobody.
 
-ghost use Rattle.std.specs.Prelude.{◌≡◌, true};
 ghost use Rattle.command_words.specs.Table.{usage as usage_line};
 ghost use Rattle.command_words.specs.Words.{texts};
 ghost use Rattle.command_rows.specs.End.{ComesTo, ended};
 ghost use Rattle.command_rows.specs.Moment.{moment_of, output_of};
-ghost use Rattle.command_rows.specs.Opener.{SaySome};
-ghost use Rattle.command_rows.specs.Row.{RunsOn};
 ghost use Rattle.command_rows.specs.StopInside.{number_of};
-ghost use Rattle.commands.specs.World.{world};
-ghost use Rattle.commands.specs.Rows.{row_of, table};
-ghost use Rattle.commands.specs.RowRun.{promise_of, QuietEnds};
-ghost use Rattle.commands.specs.Run.{RunEnds};
+ghost use Rattle.commands.specs.Rows.{table};
+ghost use Rattle.commands.specs.Quiet.{QuietEnds};
 
-use crate::rows::{Verb, quiet_command, usage};
-use command_audit::audit;
-use command_check::check;
-use command_monitor::monitor;
-use command_replay::replay;
+use crate::rows::{quiet_command, run_row, usage};
 use command_rows::{Status, Stop};
-use command_stream::stream;
 use ctl_io::{Files, Sink, write_all};
 use std::alloc::Global;
 
@@ -35,13 +25,9 @@ pub fn run_quiet<F: Files, K: Sink>(
     files: &mut F,
     out: &mut K,
 ) -> u8
-    ensures rows { QuietEnds (texts words.now)
+    ensures { QuietEnds (texts words.now)
         (moment_of F.shows K.written K.faults files.old out.old)
         (moment_of F.shows K.written K.faults files.new out.new)
-        result }
-    ensures ends { RunEnds (texts words.now)
-        (world F.shows K.written K.faults files.old out.old)
-        (world F.shows K.written K.faults files.new out.new)
         result }
 {
     run_by_row(alloc, words, files, out).number()
@@ -75,32 +61,5 @@ fn tell_usage<K: Sink>(out: &mut K) -> Status
         Status::Usage
     } else {
         Status::Output
-    }
-}
-
-// Runs the row of a quiet command, with these words behind its name.
-fn run_row<F: Files, K: Sink>(
-    alloc: Global,
-    verb: Verb,
-    behind: &[String],
-    files: &mut F,
-    out: &mut K,
-) -> Status
-    requires said { SaySome (row_of verb).form.parts (row_of verb).form.last (texts behind.now) }
-    requires quiet { (row_of verb).form.is_quiet ≡ true }
-    ensures { RunsOn (row_of verb).form.parts (row_of verb).form.last (promise_of verb)
-        (texts behind.now)
-        (moment_of F.shows K.written K.faults files.old out.old)
-        (moment_of F.shows K.written K.faults files.new out.new)
-        (number_of result) }
-{
-    match verb {
-        Verb::Check => check(alloc, behind, files, out),
-        Verb::Replay => replay(alloc, behind, files, out),
-        Verb::Audit => audit(alloc, behind, files, out),
-        Verb::Stream => stream(alloc, behind, files, out),
-        Verb::Monitor => monitor(alloc, behind, files, out),
-        Verb::Serve => unreachable!(),
-        Verb::Drill => unreachable!(),
     }
 }

@@ -1,11 +1,22 @@
-//! The table of commands.
+//! The table of commands, and the row of each quiet one.
 
 ghost use Rattle.std.specs.Prelude.{◌≡◌, IfErr, IfOk, MatchOption, false, true};
-ghost use Rattle.commands.specs.Rows.{AsksFor, table};
+ghost use Rattle.commands.specs.Rows.{AsksFor, promise_of, row_of, table};
 ghost use Rattle.command_words.specs.Table.{AskNone, AskOne, usage as line_of_usage};
 ghost use Rattle.command_words.specs.Words.{texts};
+ghost use Rattle.command_rows.specs.Moment.{moment_of};
+ghost use Rattle.command_rows.specs.Opener.{SaySome};
+ghost use Rattle.command_rows.specs.Row.{RunsOn};
+ghost use Rattle.command_rows.specs.StopInside.{number_of};
 
+use command_audit::audit;
+use command_check::check;
+use command_monitor::monitor;
+use command_replay::replay;
+use command_rows::Status;
+use command_stream::stream;
 use command_words::{Asked, FileKind, Last, Line, Low, Part, read_quiet, read_waiting};
+use ctl_io::{Files, Sink};
 use std::alloc::{AllocError, Global};
 
 /// A command.
@@ -126,4 +137,31 @@ pub fn usage() -> &'static [u8]
     ensures { result.now ≡ line_of_usage table }
 {
     b"usage: plantctl check PLANT, replay PLANT SCRIPT, audit PLANT TRACE.., serve PLANT [PREFIX], drill NUMBER PANELS MESSAGES, stream PLANT SCRIPT OUT, monitor FILE\n"
+}
+
+// Runs the row of a quiet command, with these words behind its name.
+pub(crate) fn run_row<F: Files, K: Sink>(
+    alloc: Global,
+    verb: Verb,
+    behind: &[String],
+    files: &mut F,
+    out: &mut K,
+) -> Status
+    requires said { SaySome (row_of verb).form.parts (row_of verb).form.last (texts behind.now) }
+    requires quiet { (row_of verb).form.is_quiet ≡ true }
+    ensures { RunsOn (row_of verb).form.parts (row_of verb).form.last (promise_of verb)
+        (texts behind.now)
+        (moment_of F.shows K.written K.faults files.old out.old)
+        (moment_of F.shows K.written K.faults files.new out.new)
+        (number_of result) }
+{
+    match verb {
+        Verb::Check => check(alloc, behind, files, out),
+        Verb::Replay => replay(alloc, behind, files, out),
+        Verb::Audit => audit(alloc, behind, files, out),
+        Verb::Stream => stream(alloc, behind, files, out),
+        Verb::Monitor => monitor(alloc, behind, files, out),
+        Verb::Serve => unreachable!(),
+        Verb::Drill => unreachable!(),
+    }
 }
