@@ -1,4 +1,4 @@
--- Takes go through the notices of a board in their order.
+-- Removals go through the notices of a board in their order.
 use Rattle.std.proofs.Common.{◌≡◌, ◌≢◌, ℕ, ◌+◌, ◌<◌, ◌≤◌, true, false, List, [], ◌∷◌, drop, zero, suc, Option, Some, None, is_some, inl, inr, refl, sym, ap, ◌∙◌, arith, slice_get}
 use Rattle.std.proofs.lemmas.Bool.{cases_eq, false_from_ne_true}
 use Rattle.std.specs.List.{flat_map, range_with_len}
@@ -7,7 +7,7 @@ use Rattle.std.specs.FinSet.{contains, contains-empty}
 use Rattle.change_boards.specs.declared.sort.Sort.{Sort}
 use Rattle.change_boards.specs.declared.sort.Sort.TheVariants.{Source, Protect}
 use Rattle.change_boards.specs.Board.{Board, IsEmpty, has_notice, next, without, without_next}
-use Rattle.change_boards.specs.Laws.{notices_at, notices_below, TakesInOrder}
+use Rattle.change_boards.specs.Laws.{notices_at, notices_below, RemovalsInOrder}
 use Rattle.change_boards.proofs.NextLemmas.{next-None}
 use Rattle.change_boards.proofs.OneNotice.{IsNext, next-IsNext, removed, removed_less, removed_other}
 
@@ -107,7 +107,7 @@ slice_get-drop : (n : ℕ) (notices : List (ℕ × Sort)) → slice_get (drop 1 
 slice_get-drop n [] = refl
 slice_get-drop n (notice ∷ notices) = refl
 
-pub takes_in_order : (takes : ℕ) (board : Board) (destinations : ℕ) → ((dest : ℕ) (sort : Sort) → has_notice board dest sort ≡ true → dest < destinations) → TakesInOrder board destinations takes
+pub takes_in_order : (takes : ℕ) (board : Board) (destinations : ℕ) → ((dest : ℕ) (sort : Sort) → has_notice board dest sort ≡ true → dest < destinations) → RemovalsInOrder board destinations takes
 takes_in_order zero board destinations below = record { left = refl; next = (one_take board destinations below).1 }
 takes_in_order (suc takes) board destinations below =
     let one = one_take board destinations below in

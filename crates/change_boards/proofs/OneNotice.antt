@@ -7,8 +7,8 @@ use Rattle.change_boards.specs.declared.sort.Sort.{Sort}
 use Rattle.change_boards.specs.declared.sort.Sort.TheVariants.{Source, Protect}
 use Rattle.change_boards.specs.Destinations.{Destinations, lowest}
 use Rattle.change_boards.specs.Board.{Board, blank, dests_of, has_notice, with_dests, marked, sooner, next}
-use Rattle.change_boards.specs.Notices.{board_of, has, has_left, with_mark, with_take}
-use Rattle.change_boards.specs.Laws.{DiffersAt, Gives, IsBefore, Takes}
+use Rattle.change_boards.specs.Notices.{board_of, has, has_left, with_mark, with_removal}
+use Rattle.change_boards.specs.Laws.{DiffersAt, Adds, IsBefore, Removes}
 use Rattle.number_tables.proofs.Members.{contains_inserted, contains_removed}
 use Rattle.number_tables.proofs.LowestLemmas.{IsLowest, IsLowest-lowest, none_lowest}
 
@@ -86,12 +86,12 @@ marked_open board dest sort open_board = rw open_board refl
 pub marked_left : (board : Board) (dest : ℕ) (sort : Sort) → board.left ≡ true → marked board dest sort ≡ board
 marked_left board dest sort left = rw left refl
 
-pub with_mark-Gives : (boards : List Board) (panel dest : ℕ) (sort : Sort) → panel < length boards → has_left boards panel ≡ false → Gives boards (with_mark boards panel dest sort) panel dest sort
-with_mark-Gives boards panel dest sort within stays =
+pub with_mark-Adds : (boards : List Board) (panel dest : ℕ) (sort : Sort) → panel < length boards → has_left boards panel ≡ false → Adds boards (with_mark boards panel dest sort) panel dest sort
+with_mark-Adds boards panel dest sort within stays =
     let board : Board = board_of boards panel in
     let new : Board = with_dests board sort (insert (dests_of board sort) dest) in
-    subst (λ b. Gives boards (set boards panel b) panel dest sort) (sym (marked_open board dest sort stays)) (record {
-      given = ap (λ b. has_notice b dest sort) (board_same boards panel new within) ∙ given board dest sort;
+    subst (λ b. Adds boards (set boards panel b) panel dest sort) (sym (marked_open board dest sort stays)) (record {
+      added = ap (λ b. has_notice b dest sort) (board_same boards panel new within) ∙ given board dest sort;
       rest = one_board boards panel dest sort new within (given_other board dest sort) (same_left board sort (insert (dests_of board sort) dest));
     })
 
@@ -160,8 +160,8 @@ next_is board dest sort (Some source) (Some protect) s p h = go (nat_lt protect 
 pub next-IsNext : (board : Board) (dest : ℕ) (sort : Sort) → next board ≡ Some (dest, sort) → IsNext board dest sort
 next-IsNext board dest sort h = next_is board dest sort (lowest board.source) (lowest board.protect) refl refl h
 
-pub with_take-Takes : (boards : List Board) (panel dest : ℕ) (sort : Sort) → panel < length boards → next (board_of boards panel) ≡ Some (dest, sort) → Takes boards (with_take boards panel) panel dest sort
-with_take-Takes boards panel dest sort within h =
+pub with_removal-Removes : (boards : List Board) (panel dest : ℕ) (sort : Sort) → panel < length boards → next (board_of boards panel) ≡ Some (dest, sort) → Removes boards (with_removal boards panel) panel dest sort
+with_removal-Removes boards panel dest sort within h =
     let board : Board = board_of boards panel in
     let new : Board = with_dests board sort (remove (dests_of board sort) dest) in
     let is = next-IsNext board dest sort h in

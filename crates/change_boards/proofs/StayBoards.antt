@@ -8,7 +8,7 @@ use Rattle.std.specs.FinSet.{contains, contains-empty, insert}
 use Rattle.change_boards.specs.declared.sort.Sort.{Sort}
 use Rattle.change_boards.specs.declared.sort.Sort.TheVariants.{Source, Protect}
 use Rattle.change_boards.specs.Board.{Board, IsEmpty, blank, abandoned, dests_of, has_notice, marked, next, without, without_next}
-use Rattle.change_boards.specs.Notices.{board_of, start_boards, with_mark, with_take, with_leave}
+use Rattle.change_boards.specs.Notices.{board_of, start_boards, with_mark, with_removal, with_leave}
 use Rattle.change_boards.specs.Laws.{AreBoards}
 use Rattle.change_boards.proofs.NextLemmas.{IsEmpty-next}
 use Rattle.change_boards.proofs.OneNotice.{given_other, marked_left, marked_open, same_left, board_same, board_other}
@@ -93,8 +93,8 @@ pub AreBoards-mark : (boards : List Board) (panels destinations panel dest : ℕ
 AreBoards-mark boards panels destinations panel dest sort within are =
     AreBoards-set boards panels destinations panel _ are (IsBoard-marked (board_of boards panel) destinations dest sort within (board_at boards panels destinations panel are))
 
-pub AreBoards-take : (boards : List Board) (panels destinations panel : ℕ) → AreBoards boards panels destinations → AreBoards (with_take boards panel) panels destinations
-AreBoards-take boards panels destinations panel are =
+pub AreBoards-removal : (boards : List Board) (panels destinations panel : ℕ) → AreBoards boards panels destinations → AreBoards (with_removal boards panel) panels destinations
+AreBoards-removal boards panels destinations panel are =
     AreBoards-set boards panels destinations panel _ are (IsBoard-taken (board_of boards panel) destinations (board_at boards panels destinations panel are))
 
 pub AreBoards-leave : (boards : List Board) (panels destinations panel : ℕ) → AreBoards boards panels destinations → AreBoards (with_leave boards panel) panels destinations

@@ -61,7 +61,7 @@ sooner (Some source) None = Some (source, Source)
 sooner (Some source) (Some protect) =
     if nat_lt protect source then Some (protect, Protect) else Some (source, Source)
 
--- the notice that is taken next
+-- the notice that is removed next
 abbrev pub next : Board → Option (ℕ × Sort)
 next board = sooner (lowest board.source) (lowest board.protect)
 
@@ -70,6 +70,6 @@ abbrev pub without : Board → Option (ℕ × Sort) → Board
 without board None = board
 without board (Some (dest, sort)) = with_dests board sort (remove (dests_of board sort) dest)
 
--- A take removes the next notice and no other.
+-- A removal removes the next notice and no other.
 abbrev pub without_next : Board → Board
 without_next board = without board (next board)

@@ -4,7 +4,7 @@ use Rattle.std.specs.List.{flat_map, range_with_len}
 use Rattle.change_boards.specs.declared.sort.Sort.{Sort}
 use Rattle.change_boards.specs.declared.sort.Sort.TheVariants.{Source, Protect}
 use Rattle.change_boards.specs.Board.{Board, IsEmpty, has_notice, next, without_next}
-use Rattle.change_boards.specs.Notices.{board_of, has, has_left, with_mark, with_take, with_leave}
+use Rattle.change_boards.specs.Notices.{board_of, has, has_left, with_mark, with_removal, with_leave}
 
 -- The panels have the same notices but for this one.
 abbrev pub SameNoticesBut : List Board → List Board → ℕ → ℕ → Sort → Type 0
@@ -17,9 +17,9 @@ pub record DiffersAt (old new : List Board) (panel dest : ℕ) (sort : Sort) : T
   pub others : SameNoticesBut old new panel dest sort
   pub left : (p : ℕ) → has_left new p ≡ has_left old p
 
--- A panel was given this notice, and nothing else changed.
-pub record Gives (old new : List Board) (panel dest : ℕ) (sort : Sort) : Type 0 where
-  pub given : has new panel dest sort ≡ true
+-- This notice was added to a panel, and nothing else changed.
+pub record Adds (old new : List Board) (panel dest : ℕ) (sort : Sort) : Type 0 where
+  pub added : has new panel dest sort ≡ true
   pub rest : DiffersAt old new panel dest sort
 
 -- One notice comes before another: its destination is lower, or it is the source notice of the same destination.
@@ -31,8 +31,8 @@ abbrev pub IsFirstNotice : List Board → ℕ → ℕ → Sort → Type 0
 IsFirstNotice boards panel dest sort = (d : ℕ) (s : Sort) → has boards panel d s ≡ true
     → (let notice : ℕ × Sort = (d, s) in notice ≢ (dest, sort)) → IsBefore dest sort d s
 
--- A panel had this notice and no other before it; the notice was taken, and nothing else changed.
-pub record Takes (old new : List Board) (panel dest : ℕ) (sort : Sort) : Type 0 where
+-- A panel had this notice and no other before it; the notice was removed, and nothing else changed.
+pub record Removes (old new : List Board) (panel dest : ℕ) (sort : Sort) : Type 0 where
   pub stood : has old panel dest sort ≡ true
   pub first : IsFirstNotice old panel dest sort
   pub gone : has new panel dest sort ≡ false
@@ -44,28 +44,28 @@ pub record Leaves (old new : List Board) (panel : ℕ) : Type 0 where
   pub nothing : IsEmpty (board_of new panel)
   pub others : (p : ℕ) → p ≢ panel → board_of new p ≡ board_of old p
 
--- A mark gives its notice to its panel, where that hasn't left.
+-- A mark adds its notice to its panel, where that hasn't left.
 abbrev pub PresentAreMarked : List Board → Type 0
 PresentAreMarked boards =
     (panel dest : ℕ) (sort : Sort) → panel < length boards → has_left boards panel ≡ false
-    → Gives boards (with_mark boards panel dest sort) panel dest sort
+    → Adds boards (with_mark boards panel dest sort) panel dest sort
 
 -- A mark of a panel that has left changes nothing.
 abbrev pub LeftAreNotMarked : List Board → Type 0
 LeftAreNotMarked boards = (panel dest : ℕ) (sort : Sort) → has_left boards panel ≡ true
     → with_mark boards panel dest sort ≡ boards
 
--- A mark gives one notice to one panel. On a panel that has left it changes nothing.
-pub record MarksGiveOneNotice (boards : List Board) : Type 0 where
-  pub gives : PresentAreMarked boards
+-- A mark adds one notice to one panel. On a panel that has left it changes nothing.
+pub record MarksAddOneNotice (boards : List Board) : Type 0 where
+  pub adds : PresentAreMarked boards
   pub left : LeftAreNotMarked boards
 
--- A take removes the first notice of its panel and no other.
-abbrev pub TakesRemoveOneNotice : List Board → Type 0
-TakesRemoveOneNotice boards =
+-- A removal removes the first notice of its panel and no other.
+abbrev pub RemovalsAreOfOneNotice : List Board → Type 0
+RemovalsAreOfOneNotice boards =
     (panel dest : ℕ) (sort : Sort) → panel < length boards
     → next (board_of boards panel) ≡ Some (dest, sort)
-    → Takes boards (with_take boards panel) panel dest sort
+    → Removes boards (with_removal boards panel) panel dest sort
 
 -- A panel that leaves has no notices, and nothing of another panel changes.
 abbrev pub LeavesAreOfOnePanel : List Board → Type 0
@@ -88,10 +88,10 @@ abbrev pub MarkedAreBoards : List Board → ℕ → ℕ → Type 0
 MarkedAreBoards boards panels destinations = (panel dest : ℕ) (sort : Sort) → dest < destinations
     → AreBoards (with_mark boards panel dest sort) panels destinations
 
--- Boards stay so after a mark of a destination below the count, after a take, and after a panel has left.
+-- Boards stay so after a mark of a destination below the count, after a removal, and after a panel has left.
 pub record StayBoards (boards : List Board) (panels destinations : ℕ) : Type 0 where
   pub mark : MarkedAreBoards boards panels destinations
-  pub take : (panel : ℕ) → AreBoards (with_take boards panel) panels destinations
+  pub removal : (panel : ℕ) → AreBoards (with_removal boards panel) panels destinations
   pub leave : (panel : ℕ) → AreBoards (with_leave boards panel) panels destinations
 
 -- the notices of one destination, that of its source first
@@ -104,18 +104,18 @@ notices_at board dest =
 abbrev pub notices_below : ℕ → Board → List (ℕ × Sort)
 notices_below destinations board = flat_map (notices_at board) (range_with_len 0 destinations)
 
--- a board after so many takes
-abbrev pub taken_times : ℕ → Board → Board
-taken_times zero board = board
-taken_times (suc n) board = taken_times n (without_next board)
+-- a board after so many removals
+abbrev pub removed_times : ℕ → Board → Board
+removed_times zero board = board
+removed_times (suc n) board = removed_times n (without_next board)
 
--- So many takes leave the notices of those below a count but for the first so many.
+-- So many removals leave the notices of those below a count but for the first so many.
 abbrev pub LoseFirst : Board → ℕ → ℕ → Type 0
 LoseFirst board destinations takes =
-    notices_below destinations (taken_times takes board)
+    notices_below destinations (removed_times takes board)
     ≡ drop takes (notices_below destinations board)
 
--- So many takes remove the first so many notices of those below a count, in their order, and one more takes the next.
-pub record TakesInOrder (board : Board) (destinations takes : ℕ) : Type 0 where
+-- So many removals remove the first so many notices of those below a count, in their order, and one more is of the next.
+pub record RemovalsInOrder (board : Board) (destinations takes : ℕ) : Type 0 where
   pub left : LoseFirst board destinations takes
-  pub next : next (taken_times takes board) ≡ slice_get (notices_below destinations board) takes
+  pub next : next (removed_times takes board) ≡ slice_get (notices_below destinations board) takes

@@ -19,12 +19,12 @@ has boards panel dest sort = has_notice (board_of boards panel) dest sort
 abbrev pub has_left : List Board → ℕ → Bool
 has_left boards panel = (board_of boards panel).left
 
--- the boards after a panel was given a notice, after its next one was taken, and after it has left
+-- the boards after a notice was added to a panel, after its next one was removed, and after it has left
 abbrev pub with_mark : List Board → ℕ → ℕ → Sort → List Board
 with_mark boards panel dest sort = slice_set boards panel (marked (board_of boards panel) dest sort)
 
-abbrev pub with_take : List Board → ℕ → List Board
-with_take boards panel = slice_set boards panel (without_next (board_of boards panel))
+abbrev pub with_removal : List Board → ℕ → List Board
+with_removal boards panel = slice_set boards panel (without_next (board_of boards panel))
 
 abbrev pub with_leave : List Board → ℕ → List Board
 with_leave boards panel = slice_set boards panel abandoned

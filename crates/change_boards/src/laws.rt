@@ -6,26 +6,26 @@ ghost use Rattle.plant_config.specs.IsPlant.{IsPlant};
 ghost use Rattle.change_boards.specs.Board.{Board};
 ghost use Rattle.change_boards.specs.Notices.{start_boards};
 ghost use Rattle.change_boards.specs.Laws.{AreBoards, IsBelow, LeavesAreOfOnePanel};
-ghost use Rattle.change_boards.specs.Laws.{MarksGiveOneNotice, StayBoards, TakesInOrder};
-ghost use Rattle.change_boards.specs.Laws.{TakesRemoveOneNotice};
+ghost use Rattle.change_boards.specs.Laws.{MarksAddOneNotice, StayBoards, RemovalsInOrder};
+ghost use Rattle.change_boards.specs.Laws.{RemovalsAreOfOneNotice};
 ghost use Rattle.change_boards.specs.Shown as shown;
 ghost use Rattle.change_boards.specs.ShownLaws.{HasItsDisplays, ShowsAreOfOneDisplay};
 ghost use Rattle.change_boards.specs.ShownLaws.{ForgetsAreOfTheseDisplays};
 
-/// A mark gives one notice to one panel, and a mark on a panel that has left changes nothing.
-pub fn marks_give_one_notice()
-    ensures { (boards : List Board) → MarksGiveOneNotice boards }
+/// A mark adds one notice to one panel, and a mark on a panel that has left changes nothing.
+pub fn marks_add_one_notice()
+    ensures { (boards : List Board) → MarksAddOneNotice boards }
 {}
 
-/// A take removes the first notice of its panel and no other.
-pub fn takes_remove_one_notice()
-    ensures { (boards : List Board) → TakesRemoveOneNotice boards }
+/// A removal removes the first notice of its panel and no other.
+pub fn removals_are_of_one_notice()
+    ensures { (boards : List Board) → RemovalsAreOfOneNotice boards }
 {}
 
-/// With no mark between, so many takes remove the first so many notices of a panel, in their order.
-pub fn takes_go_in_order()
+/// With no mark between, so many removals remove the first so many notices of a panel, in their order.
+pub fn removals_go_in_order()
     ensures { (board : Board) (count takes : ℕ) →
-        IsBelow board count → TakesInOrder board count takes }
+        IsBelow board count → RemovalsInOrder board count takes }
 {}
 
 /// A panel that leaves has no notices, and nothing of another panel changes.
@@ -34,7 +34,7 @@ pub fn leaves_are_of_one_panel()
 {}
 
 /// Whoever has left has no notices and gets none, and all notices are of destinations of the plant, whatever is
-/// marked, taken and left.
+/// marked, removed and left.
 pub fn boards_stay_boards()
     ensures start { (panels count : ℕ) → AreBoards (start_boards panels) panels count }
     ensures stay { (boards : List Board) (panels count : ℕ) → AreBoards boards panels count →

@@ -3,7 +3,7 @@
 ghost use Rattle.std.specs.Prelude.{◌≡◌, ◌<◌, ◌↔◌, length, All, IsTrue, IsNone, IfOk};
 ghost use Rattle.change_boards.specs.Board.{IsEmpty, next};
 ghost use Rattle.change_boards.specs.Notices.{board_of, has, has_left, start_boards, with_mark};
-ghost use Rattle.change_boards.specs.Notices.{with_take, with_leave};
+ghost use Rattle.change_boards.specs.Notices.{with_removal, with_leave};
 
 use crate::panel_board::PanelBoard;
 use crate::sort::Sort;
@@ -42,7 +42,7 @@ impl Notices {
         Ok(Notices { boards })
     }
 
-    /// Gives a panel the notice that the destination changed. Where the panel has left, nothing changes.
+    /// Adds a panel the notice that the destination changed. Where the panel has left, nothing changes.
     pub fn mark(&mut self, panel: PanelNo, dest: DestId, sort: Sort)
         requires panel { panel < length self.old }
         requires dest { dest < MAX_DESTINATIONS }
@@ -52,16 +52,16 @@ impl Notices {
         board.mark(dest, sort);
     }
 
-    /// Takes a panel's lowest notice: that of the lowest destination, and for one destination the source notice first.
+    /// Removes a panel's lowest notice: that of the lowest destination, and for one destination the source notice first.
     #[inline(always)]
-    pub fn take_lowest(&mut self, panel: PanelNo) -> Option<(DestId, Sort)>
+    pub fn remove_lowest(&mut self, panel: PanelNo) -> Option<(DestId, Sort)>
         requires { panel < length self.old }
         ensures next { result ≡ next (board_of self.old panel) }
-        ensures taken { self.new ≡ with_take self.old panel }
+        ensures removed { self.new ≡ with_removal self.old panel }
         ensures none { IsNone result ↔ IsEmpty (board_of self.old panel) }
     {
         let board = &mut self.boards[panel.get() as usize];
-        board.take_lowest()
+        board.remove_lowest()
     }
 
     /// Whether a panel has the notice that the destination changed.
@@ -83,7 +83,7 @@ impl Notices {
         board.is_empty()
     }
 
-    /// A panel leaves: its notices are taken away, and it gets none from now on.
+    /// A panel leaves: its notices are removed, and it gets none from now on.
     pub fn drop_panel(&mut self, panel: PanelNo)
         requires { panel < length self.old }
         ensures { self.new ≡ with_leave self.old panel }

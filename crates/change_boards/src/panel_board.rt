@@ -77,7 +77,7 @@ impl PanelBoard {
         self.source.is_empty() && self.protect.is_empty()
     }
 
-    /// Gives the panel a notice, unless it has left.
+    /// Adds the panel a notice, unless it has left.
     pub(crate) fn mark(&mut self, dest: DestId, sort: Sort)
         requires { dest < MAX_DESTINATIONS }
         ensures { self.new ≡ marked self.old dest sort }
@@ -111,11 +111,11 @@ impl PanelBoard {
         }
     }
 
-    /// Takes the notice that is next.
+    /// Removes the notice that is next.
     #[inline(always)]
-    pub(crate) fn take_lowest(&mut self) -> Option<(DestId, Sort)>
+    pub(crate) fn remove_lowest(&mut self) -> Option<(DestId, Sort)>
         ensures next { result ≡ next self.old }
-        ensures taken { self.new ≡ without_next self.old }
+        ensures removed { self.new ≡ without_next self.old }
         ensures none { IsNone result ↔ IsEmpty self.old }
     {
         let (dest, sort) = self.next()?;
@@ -126,7 +126,7 @@ impl PanelBoard {
         Some((dest, sort))
     }
 
-    /// Takes all notices away, and gives none from now on.
+    /// Removes all notices away, and gives none from now on.
     pub(crate) fn leave(&mut self)
         ensures { self.new ≡ abandoned }
     {

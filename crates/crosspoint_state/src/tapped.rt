@@ -8,7 +8,7 @@ ghost use Rattle.tap_lists.specs.Lists.{IsLoose};
 ghost use Rattle.crosspoint_state.specs.TapsInside.{Loosens, Moves};
 
 use plant_config::{Plant, SourceId};
-use tap_lists::{Taps, links_put_first, unlinks_take_out};
+use tap_lists::{Taps, links_insert_first, unlinks_remove};
 
 // The number of the local source that a source stands for. `None` where there is no source, or the plant hasn't this one.
 pub(crate) fn origin_of(plant: &Plant, source: Option<SourceId>) -> Option<u32>
@@ -38,7 +38,7 @@ pub(crate) fn move_to(taps: &mut Taps, dest: u32, head: Option<u32>)
 fn loosen(taps: &mut Taps, dest: u32)
     ensures { Loosens taps.old taps.new dest }
 {
-    unlinks_take_out();
+    unlinks_remove();
     match taps.head_of(dest) {
         Some(_head) => taps.unlink(dest),
         None => {}
@@ -52,6 +52,6 @@ fn put_under(taps: &mut Taps, head: u32, dest: u32)
     requires loose { IsLoose taps.old dest }
     ensures { Moves taps.old taps.new dest (Some head) }
 {
-    links_put_first();
+    links_insert_first();
     taps.link(head, dest);
 }

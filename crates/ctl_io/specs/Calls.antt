@@ -19,8 +19,8 @@ called failed calls =
     record calls { made = one_more calls.made; faults = count_after failed calls.faults }
 
 -- after an object with such a count of faults was given back
-abbrev pub took_back : ℕ → Calls → Calls
-took_back faults calls = record calls { faults = count_after (is_faulty faults) calls.faults }
+abbrev pub counted_back : ℕ → Calls → Calls
+counted_back faults calls = record calls { faults = count_after (is_faulty faults) calls.faults }
 
 -- no call was made, and these will fail
 abbrev pub uncalled : List ℕ → Calls

@@ -2,7 +2,7 @@
 use Rattle.std.specs.Prelude.{ℕ, ◌+◌, ◌-◌, ◌==◌, nat_lt, Bool, ◌||◌, ◌&&◌, not, List, [], ◌∷◌, ◌++◌, map, filter, find, Option, Some, None, if◌then◌else◌}
 use Rattle.std.specs.List.{slice_get, AllByRecursion}
 use Rattle.std.specs.Str.{bytes_eq}
-use Rattle.ctl_io.specs.Calls.{Calls, next_fails, called, took_back, uncalled}
+use Rattle.ctl_io.specs.Calls.{Calls, next_fails, called, counted_back, uncalled}
 use Rattle.ctl_io.specs.Custody.{FilesCustody, SourceEnd, SinkEnd}
 use Rattle.ctl_io.specs.Named.{is_listed, without_first}
 use Rattle.ctl_io.specs.MemDisks.{DisksState, MadeSize, all_waiting, disk_has, disk_made, after_lending, after_making, after_return, disk_end}
@@ -199,7 +199,7 @@ abbrev pub after_close_source : NamedSource → FilesState → FilesState
 after_close_source entry files = record files {
   sources_out = files.sources_out - 1;
   sources_back = files.sources_back ++ entry ∷ [];
-  calls = took_back entry.source.calls.faults files.calls;
+  calls = counted_back entry.source.calls.faults files.calls;
 }
 
 -- the files after a sink was given back
@@ -207,14 +207,14 @@ abbrev pub after_close_sink : NamedSink → FilesState → FilesState
 after_close_sink entry files = record files {
   sinks_out = files.sinks_out - 1;
   sinks_back = files.sinks_back ++ entry ∷ [];
-  calls = took_back entry.sink.calls.faults files.calls;
+  calls = counted_back entry.sink.calls.faults files.calls;
 }
 
 -- the files after a disk was given back
 abbrev pub after_close_disk : NamedDisk → FilesState → FilesState
 after_close_disk entry files = record files {
   disks = after_return entry files.disks;
-  calls = took_back entry.disk.calls.faults files.calls;
+  calls = counted_back entry.disk.calls.faults files.calls;
 }
 
 -- No call was made of the sources.

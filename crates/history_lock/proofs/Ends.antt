@@ -4,7 +4,7 @@ use Rattle.std.proofs.lemmas.Option.{IfSome_then}
 use Rattle.std.proofs.lemmas.List.Elements.{All-append, filter-append}
 use Rattle.std.proofs.lemmas.List.{append-nil}
 use Rattle.std.proofs.Math.Nat.{mod-eq_of_lt}
-use Rattle.told_value.specs.declared.told.Told.{Told}
+use Rattle.seen_value.specs.declared.seen.Seen.{Seen}
 use mathlib.Core.Option.{some}
 use mathlib.Core.List.{IsPrefix}
 use lib.ListN.{get_elem?}
@@ -124,7 +124,7 @@ module _ {State Request Answer : Type 0} (step : State → Request → Stepped S
           let slots : (0, desk) ≡ (0, desk') = cc (slot, slot') in
           let desks : desk.asked ≡ desk'.asked = ap (λ (x : ℕ × Desk State Request). x.1.asked) slots in
           let one : asks.0 ≡ asks'.0 = cc (asks.1, asks'.1, desks) in
-          let requests : request ≡ request' = sym asks.2 ∙ (ap (λ (x : Told Request). x.value) one ∙ asks'.2) in
+          let requests : request ≡ request' = sym asks.2 ∙ (ap (λ (x : Seen Request). x.value) one ∙ asks'.2) in
           let firsts : first ≡ first' = cc (is_first, is_first') in
           λ i. (ended step (firsts i) m.0 (requests i), ap table.rest slot i),
     )

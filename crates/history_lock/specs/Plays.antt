@@ -2,7 +2,7 @@
 use Rattle.std.specs.Prelude.{◌||◌, nat_lt, ◌≡◌, ℕ, ◌<◌, ◌≤◌, ◌^◌, ◌==◌, if◌then◌else◌, List, [], ◌∷◌, ◌++◌, length, slice_index, All, Option, Some, None, IfSome, MatchBool, false, ◌+◌}
 use Rattle.std.specs.Option.{option_map, unwrap_or}
 use mathlib.Core.List.{IsPrefix}
-use Rattle.told_value.specs.declared.told.Told.{Told}
+use Rattle.seen_value.specs.declared.seen.Seen.{Seen}
 use Rattle.atomic_table.specs.Table.{Me, Step}
 use Rattle.history_lock.specs.declared.entry.Entry.{Entry}
 use Rattle.history_lock.specs.declared.view.Desk.{Desk}
@@ -71,7 +71,7 @@ longer xs ys = if nat_lt (length xs) (length ys) then ys else xs
 -- what was asked last
 abbrev pub IsAsked : {State Request : Type 0} → Desk State Request → Request → Type 0
 IsAsked {State} {Request} desk request =
-    (asked : Told Request) × (desk.asked ≡ Some asked) × (asked.value ≡ request)
+    (asked : Seen Request) × (desk.asked ≡ Some asked) × (asked.value ≡ request)
 
 -- it asked this, which ends the history, and its turn is over
 abbrev pub ended : {State Request Answer : Type 0}

@@ -16,9 +16,9 @@ use crate::rule::{Place, Top};
 use crate::seat::Seat;
 use crate::turns::{answer, enter, queue, seize, take_turn};
 use crate::view::Start;
+use seen_value::Seen;
 use std::sync::Wait;
 use std::sync::atomic::AtomicU64;
-use told_value::Told;
 
 /// One call, at a seat's place.
 fn call_at<M: Machine, R: Wait>(
@@ -26,7 +26,7 @@ fn call_at<M: Machine, R: Wait>(
     top: &Top<M>,
     awaited: &AtomicU64,
     place: &mut Place<M>,
-    start: &Told<Start<M>>,
+    start: &Seen<Start<M>>,
     request: &M::Request,
     out: &mut OutBox<M::Answer>,
 ) -> Result<u64, CallFault>
@@ -56,7 +56,7 @@ fn try_at<M: Machine>(
     top: &Top<M>,
     awaited: &AtomicU64,
     place: &mut Place<M>,
-    start: &Told<Start<M>>,
+    start: &Seen<Start<M>>,
     request: &M::Request,
     out: &mut OutBox<M::Answer>,
 ) -> Result<u64, TryFault>

@@ -15,7 +15,7 @@ use crate::rule::{LockTable, Place, Top};
 use crate::seat::{Closed, Past, Seat};
 use crate::steps::{look, take_seat};
 use crate::view::Desk;
-use told_value::Told;
+use seen_value::Seen;
 
 /// The place of a seat, to which others are joined.
 fn begin<M: Machine>(seat: Seat<M>) -> Place<M>
@@ -100,7 +100,7 @@ impl<M: Machine> HistoryLock<M> {
         } = self;
         let place = gather(&table.shared, seats);
         let past = Past {
-            last: Told::of(&place),
+            last: Seen::of(&place),
         };
         let (machine, entries) = unlock(table, place);
         Closed {

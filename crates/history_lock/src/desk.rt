@@ -6,7 +6,7 @@ ghost use Rattle.history_lock.specs.Plays.{IsAsked};
 use crate::machine::Machine;
 use crate::out_box::OutBox;
 use crate::view::Desk;
-use told_value::Told;
+use seen_value::Seen;
 
 /// Works a request.
 pub fn work<M: Machine>(
@@ -26,5 +26,5 @@ pub fn work<M: Machine>(
         → M.Fits desk.new.machine other }
 {
     desk.machine.step(request, out);
-    desk.asked = Some(Told::of(request));
+    desk.asked = Some(Seen::of(request));
 }

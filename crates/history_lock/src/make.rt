@@ -13,9 +13,9 @@ use crate::rule::{LockTable, Place, Top};
 use crate::seat::Seat;
 use crate::view::{Desk, Start};
 use atomic_table::Table;
+use seen_value::Seen;
 use std::alloc::{AllocError, Global};
 use std::sync::atomic::AtomicU64;
-use told_value::Told;
 
 /// A table with the machine, and the place of the maker of its seats.
 fn lay<M: Machine + Drop>(
@@ -53,7 +53,7 @@ fn give<M: Machine>(top: &Top<M>, maker: &mut Place<M>, start: &Start<M>, number
 {
     Seat {
         place: top.split_seat::<NewSeat>(maker),
-        start: Told::of(start),
+        start: Seen::of(start),
     }
 }
 
@@ -72,7 +72,7 @@ impl<M: Machine + Drop> HistoryLock<M> {
     {
         let mut all = Vec::with_capacity(alloc, seats as usize)?;
         let start = Start {
-            machine: Told::of(&machine),
+            machine: Seen::of(&machine),
             seats,
         };
         let room = machine.room();

@@ -3,15 +3,15 @@
 use crate::machine::Machine;
 use crate::rule::Place;
 use crate::view::Start;
+use seen_value::Seen;
 use std::marker::Model;
-use told_value::Told;
 
 /// A caller's place at a lock, under a number of its own. It has no bytes. Contracts see what was seen through it.
 #[derive(Drop)]
 pub struct Seat<M: Machine> {
     pub(crate) place: Place<M>,
     // What the lock was made with.
-    pub(crate) start: Told<Start<M>>,
+    pub(crate) start: Seen<Start<M>>,
 }
 
 impl<M: Machine> Model for Seat<M> {
@@ -43,7 +43,7 @@ impl<M: Machine> Model for Note<M> {
 /// The history of a closed lock, which contracts see. It has no bytes.
 #[derive(Drop)]
 pub struct Past<M: Machine> {
-    pub(crate) last: Told<Place<M>>,
+    pub(crate) last: Seen<Place<M>>,
 }
 
 impl<M: Machine> Model for Past<M> {

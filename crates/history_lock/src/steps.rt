@@ -16,7 +16,7 @@ use crate::plays::{
 };
 use crate::rule::{Place, Top};
 use crate::view::Start;
-use told_value::Told;
+use seen_value::Seen;
 
 pub fn read_ticket<M: Machine>(top: &Top<M>, place: &mut Place<M>) -> u64
     requires at { IsAt top.now.table_id place.old }
@@ -73,7 +73,7 @@ pub fn await_turn<M: Machine>(top: &Top<M>, place: &mut Place<M>, ticket: u64) -
 pub fn end_turn<M: Machine>(
     top: &Top<M>,
     place: &mut Place<M>,
-    start: &Told<Start<M>>,
+    start: &Seen<Start<M>>,
     request: &M::Request,
 ) -> u64
     requires at { IsAt top.now.table_id place.old }

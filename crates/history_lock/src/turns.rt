@@ -15,9 +15,9 @@ use crate::rule::{Place, Top};
 use crate::steps::{await_turn, end_turn, read_serving, read_ticket, take_ticket, try_ticket};
 use crate::view::Start;
 use crate::waiting::{wait, wake};
+use seen_value::Seen;
 use std::sync::Wait;
 use std::sync::atomic::AtomicU64;
-use told_value::Told;
 
 /// Takes the next ticket in order, `None` where there are no more.
 fn line_up<M: Machine, R: Wait>(rt: &R, top: &Top<M>, place: &mut Place<M>) -> Option<u64>
@@ -84,7 +84,7 @@ pub fn take_turn<M: Machine, R: Wait>(
     top: &Top<M>,
     awaited: &AtomicU64,
     place: &mut Place<M>,
-    start: &Told<Start<M>>,
+    start: &Seen<Start<M>>,
     ticket: u64,
 )
     requires at { IsAt top.now.table_id place.old }
@@ -127,7 +127,7 @@ pub fn seize<M: Machine>(top: &Top<M>, place: &mut Place<M>) -> Result<u64, TryF
 }
 
 /// Enters at once: it took the ticket that it had read of `serving`.
-pub fn enter<M: Machine>(top: &Top<M>, place: &mut Place<M>, start: &Told<Start<M>>, ticket: u64)
+pub fn enter<M: Machine>(top: &Top<M>, place: &mut Place<M>, start: &Seen<Start<M>>, ticket: u64)
     requires at { IsAt top.now.table_id place.old }
     requires waits { place.old.me.0.stage ≡ Waits ticket }
     requires first { place.old.me.0.first ≡ Some start.now.value.machine.value }
@@ -144,7 +144,7 @@ pub fn enter<M: Machine>(top: &Top<M>, place: &mut Place<M>, start: &Told<Start<
 pub fn work<M: Machine>(
     top: &Top<M>,
     place: &mut Place<M>,
-    start: &Told<Start<M>>,
+    start: &Seen<Start<M>>,
     request: &M::Request,
     out: &mut OutBox<M::Answer>,
 )
@@ -170,7 +170,7 @@ pub fn answer<M: Machine>(
     top: &Top<M>,
     awaited: &AtomicU64,
     place: &mut Place<M>,
-    start: &Told<Start<M>>,
+    start: &Seen<Start<M>>,
     request: &M::Request,
     out: &mut OutBox<M::Answer>,
 )

@@ -2,13 +2,13 @@
 //! Word 0 is `serving`, the length of the history, and word 1 is `ticket`. The one slot has the machine.
 
 use crate::entry::Entry;
+use seen_value::Seen;
 use std::collections::LinkedList;
-use told_value::Told;
 
 /// What a lock is told once.
 #[derive(Drop)]
 pub struct Start<M> {
-    pub machine: Told<M>,
+    pub machine: Seen<M>,
     pub seats: u32,
 }
 
@@ -17,7 +17,7 @@ pub struct Start<M> {
 pub struct Desk<M, Q> {
     pub machine: M,
     // kit: `then` of a `Play` sees no argument of its call, as what was asked; so that lies in the slot too.
-    pub asked: Option<Told<Q>>,
+    pub asked: Option<Seen<Q>>,
 }
 
 /// How far a seat is in a call.

@@ -10,17 +10,17 @@ ghost use Rattle.mixer_effects.specs.Wiring.{IsWiringOf};
 use crate::mixers::Mixers;
 use crosspoint_state::Crosspoints;
 use plant_config::{Bus, DestId, DeviceId, Plant, SourceId};
+use seen_value::Seen;
 use std::marker::{Model, PhantomData};
 use std::sync::ledger::Ledger;
 use tap_lists::Steps;
-use told_value::Told;
 
 /// The tables of a plant's devices, and what its destinations carry. A graph tells what its six calls answer, and nothing else:
 /// `origin_at`, `bus`, `device_of`, `fed_device`, `is_on` and `switched_by`. Each looks at a few places of the tables, whatever
 /// the plant has, and counts as one read. It is counted by the ledger that the graph is for, so no other count will do.
 #[derive(Drop)]
 pub struct Graph<'a, L: Ledger> {
-    plant: Told<Plant>,
+    plant: Seen<Plant>,
     mixers: &'a Mixers,
     points: &'a Crosspoints,
     ledger: PhantomData<L>,
@@ -54,7 +54,7 @@ impl<'a, L: Ledger> Graph<'a, L> {
         ensures taps { result.taps ≡ points.now.taps }
     {
         Graph {
-            plant: Told::of(plant),
+            plant: Seen::of(plant),
             mixers,
             points,
             ledger: PhantomData,

@@ -9,7 +9,7 @@ pub record ChangesOne {V : Type 0} (old new : Entries V) (number : ℕ) (value :
   pub here : get new number ≡ value
   pub others : (n : ℕ) → n ≢ number → get new n ≡ get old n
 
--- A put gives one number its value, or takes it away, and changes nothing else.
+-- To set a number gives it its value, or removes it, and changes nothing else.
 abbrev pub PutChangesOne : {V : Type 0} → Entries V → Type 0
 PutChangesOne {V} entries = (number : ℕ) (value : Option V)
     → ChangesOne entries (put entries number value) number value

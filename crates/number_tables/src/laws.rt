@@ -3,12 +3,12 @@
 ghost use Rattle.number_tables.specs.Table.{Entries};
 ghost use Rattle.number_tables.specs.Laws.{PutChangesOne, PutAsItStands};
 
-/// A put gives one number its value, or takes it away, and every other number has what it had.
-pub fn puts_change_one_number<V>()
+/// To set a number gives it its value, or removes it, and every other number has what it had.
+pub fn sets_change_one_number<V>()
     ensures { (entries : Entries V) → PutChangesOne entries }
 {}
 
-/// To put what a number has already changes nothing.
-pub fn values_are_put_as_they_stand<V>()
+/// To set what a number has already changes nothing.
+pub fn a_value_set_again_changes_nothing<V>()
     ensures { (entries : Entries V) → PutAsItStands entries }
 {}

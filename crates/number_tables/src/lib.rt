@@ -9,7 +9,7 @@ mod number_set;
 mod small_set;
 mod words;
 
-pub use laws::{puts_change_one_number, values_are_put_as_they_stand};
+pub use laws::{a_value_set_again_changes_nothing, sets_change_one_number};
 pub use number_map::NumberMap;
 pub use number_set::{MAX_NUMBERS, NumberSet};
 pub use small_set::SmallSet;

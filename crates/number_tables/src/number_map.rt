@@ -43,7 +43,7 @@ impl<V: Copy> NumberMap<V> {
         value_at(&self.values, number as usize)
     }
 
-    /// Gives a number a value, or takes its value away. No other number's value changes.
+    /// Sets the value of a number, or removes it. No other number's value changes.
     pub fn set(&mut self, number: u32, value: Option<V>)
         requires { number < self.old.room }
         ensures entries { self.new.entries ≡ put self.old.entries number value }

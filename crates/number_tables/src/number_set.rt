@@ -74,7 +74,7 @@ impl NumberSet {
         set_bit(&mut self.top, number / 64 / 64);
     }
 
-    /// Takes a number, 0 to 65,535, away.
+    /// Removes a number, 0 to 65,535.
     #[inline]
     pub fn remove(&mut self, number: u32)
         requires { number < number_limit }
@@ -112,7 +112,7 @@ impl NumberSet {
         self.lowest().is_none()
     }
 
-    /// Takes all members away.
+    /// Removes all members.
     #[inline]
     pub fn clear(&mut self)
         ensures { self.new ≡ empty }

@@ -51,7 +51,7 @@ impl SmallSet {
         set_bit(&mut self.summary, number / 64);
     }
 
-    /// Takes a number, 0 to 1,023, away.
+    /// Removes a number, 0 to 1,023.
     pub fn remove(&mut self, number: u32)
         requires { number < small_limit }
         ensures { self.new ≡ remove self.old number }

@@ -15,7 +15,7 @@ use Rattle.change_boards.specs.declared.sort.Sort.TheVariants.{Source, Protect}
 use Rattle.std.specs.FinMap as finite
 use Rattle.change_boards.specs.Board.{Board, IsEmpty, blank, abandoned, next, without, without_next}
 use Rattle.change_boards.specs.Notices.{board_of, has_left, with_leave}
-use Rattle.change_boards.specs.Laws.{Leaves, TakesInOrder, notices_below}
+use Rattle.change_boards.specs.Laws.{Leaves, RemovalsInOrder, notices_below}
 use Rattle.change_boards.proofs.OneNotice.{board_same, board_other, same_left}
 use Rattle.change_boards.proofs.InOrder.{takes_in_order}
 use Rattle.history_lock.specs.Step.{Stepped}
@@ -39,7 +39,7 @@ use Rattle.plant_core.proofs.StepValidity.{IsValid-step}
 use Rattle.plant_core.proofs.TellLemmas.{empty_has, poll-nothing}
 
 -- what so many takes of a panel's notices leave
-in_order : (state : State) (panel takes : ℕ) → IsValid state → TakesInOrder (board_of state.boards panel) (destinations_of state.plant) takes
+in_order : (state : State) (panel takes : ℕ) → IsValid state → RemovalsInOrder (board_of state.boards panel) (destinations_of state.plant) takes
 in_order state panel takes valid = takes_in_order takes (board_of state.boards panel) (destinations_of state.plant) (valid.boards.below panel)
 
 -- a poll takes the first notice

@@ -21,7 +21,7 @@ use Rattle.salvo_groups.specs.Limits.{salvo_limit}
 use Rattle.salvo_groups.specs.Groups as salvos
 use Rattle.salvo_groups.specs.Groups.{Group, group_of, may_store, stored, with_store, with_clear}
 use Rattle.change_boards.specs.Board.{Board, blank, abandoned, has_notice, next, without, without_next}
-use Rattle.change_boards.specs.Notices.{board_of, has, start_boards, with_take, with_leave}
+use Rattle.change_boards.specs.Notices.{board_of, has, start_boards, with_removal, with_leave}
 use Rattle.change_boards.specs.declared.sort.Sort.{Sort}
 use Rattle.change_boards.specs.declared.sort.Sort.TheVariants.{Source, Protect}
 use Rattle.change_boards.proofs.OneNotice.{removed_less, board_same, board_other}
@@ -122,9 +122,9 @@ module _ (plant : PlantData) where
       by None = short
       by (Some (dest, sort)) = λ d stands. short d (removed_less board dest sort d Protect stands)
 
-pub StaysShort-take : (state : State) (panel : ℕ) → StaysShort state → StaysShort (record state { boards = with_take state.boards panel })
+pub StaysShort-take : (state : State) (panel : ℕ) → StaysShort state → StaysShort (record state { boards = with_removal state.boards panel })
 StaysShort-take state panel short =
-    StaysShort-boards state (with_take state.boards panel)
+    StaysShort-boards state (with_removal state.boards panel)
     (each_board (IsShortBoard state.plant) state.boards panel (without_next (board_of state.boards panel)) (blank-short state.plant) short.notices (taken-short state.plant (board_of state.boards panel) (short.notices panel))) short
 
 pub StaysShort-leave : (state : State) (panel : ℕ) → StaysShort state → StaysShort (record state { boards = with_leave state.boards panel })

@@ -15,8 +15,8 @@ use Rattle.plant_config.proofs.SiteLemmas.{dests_are, site_of-number_at, IsSome-
 use Rattle.change_boards.specs.declared.sort.Sort.{Sort}
 use Rattle.change_boards.specs.declared.sort.Sort.TheVariants.{Source, Protect}
 use Rattle.change_boards.specs.Board.{Board, IsEmpty, blank, has_notice, next, without}
-use Rattle.change_boards.specs.Notices.{board_of, has, with_take}
-use Rattle.change_boards.proofs.OneNotice.{next-IsNext, with_take-Takes}
+use Rattle.change_boards.specs.Notices.{board_of, has, with_removal}
+use Rattle.change_boards.proofs.OneNotice.{next-IsNext, with_removal-Removes}
 use Rattle.change_boards.proofs.NextLemmas.{next-None}
 use Rattle.plant_core.specs.declared.request.Request.TheVariants.{Poll}
 use Rattle.plant_core.specs.State.{State, IsValid}
@@ -86,7 +86,7 @@ told_next state panel dest sort item turn valid is =
       told = told_for state dest sort;
       answer = ap (notice_of state) is.next_is;
       tells = notice-tells state dest sort place;
-      taken = with_take-Takes state.boards panel dest sort is.within is.next_is;
+      taken = with_removal-Removes state.boards panel dest sort is.within is.next_is;
       rest = refl;
     }
 
@@ -100,7 +100,7 @@ poll-IsTold state panel dest item turn sort valid h = elim (next_of state panel 
 
 nothing_next : (state : State) (panel item turn : ℕ) → next (board_of state.boards panel) ≡ None → step state (Poll panel item turn) ≡ record { state = state; answers = [] }
 nothing_next state panel item turn none =
-    let same : with_take state.boards panel ≡ state.boards = ap (λ n. set state.boards panel (without (board_of state.boards panel) n)) none ∙ set-get_or state.boards panel blank in
+    let same : with_removal state.boards panel ≡ state.boards = ap (λ n. set state.boards panel (without (board_of state.boards panel) n)) none ∙ set-get_or state.boards panel blank in
     λ i. record { state = record state { boards = same i }; answers = notice_of state (none i) }
 
 pub poll-nothing : (state : State) (panel item turn : ℕ) → IsValid state → ((dest : ℕ) (sort : Sort) → has state.boards panel dest sort ≡ false) → step state (Poll panel item turn) ≡ record { state = state; answers = [] }

@@ -28,12 +28,12 @@ use Rattle.salvo_groups.specs.Groups as salvos
 use Rattle.salvo_groups.specs.Groups.{Group, AreGroups, group_of}
 use Rattle.salvo_groups.proofs.AllGroups.{AreGroups-start}
 use Rattle.change_boards.specs.Board.{Board}
-use Rattle.change_boards.specs.Notices.{with_take, with_leave}
+use Rattle.change_boards.specs.Notices.{with_removal, with_leave}
 use Rattle.change_boards.specs.declared.value.Value.{Value}
 use Rattle.change_boards.specs.Shown.{Shown, last, never_shown}
 use Rattle.change_boards.specs.Laws.{AreBoards}
 use Rattle.change_boards.specs.declared.sort.Sort.{Sort}
-use Rattle.change_boards.proofs.StayBoards.{AreBoards-start, AreBoards-take, AreBoards-leave}
+use Rattle.change_boards.proofs.StayBoards.{AreBoards-start, AreBoards-removal, AreBoards-leave}
 use Rattle.plant_core.specs.State.{State, IsCrosspoint, AreCrosspoints, AreOwners, IsChangeOf, AreShown, IsValid, start, device_of}
 use Rattle.plant_core.specs.Noticed.{marked_for_others, all_marked}
 use Rattle.plant_core.specs.Connects.{source_wanted, change_of}
@@ -207,8 +207,8 @@ pub IsValid-marked : (state : State) (dests : List ℕ) → All (λ dest. dest <
 IsValid-marked state dests within valid =
     IsValid-boards state (all_marked state.boards dests) valid (AreBoards-marked dests state.boards _ _ within valid.boards)
 
-pub IsValid-take : (state : State) (panel : ℕ) → IsValid state → IsValid (record state { boards = with_take state.boards panel })
-IsValid-take state panel valid = IsValid-boards state (with_take state.boards panel) valid (AreBoards-take state.boards _ _ panel valid.boards)
+pub IsValid-take : (state : State) (panel : ℕ) → IsValid state → IsValid (record state { boards = with_removal state.boards panel })
+IsValid-take state panel valid = IsValid-boards state (with_removal state.boards panel) valid (AreBoards-removal state.boards _ _ panel valid.boards)
 
 pub IsValid-leave : (state : State) (panel : ℕ) → IsValid state → IsValid (record state { boards = with_leave state.boards panel })
 IsValid-leave state panel valid = IsValid-boards state (with_leave state.boards panel) valid (AreBoards-leave state.boards _ _ panel valid.boards)

@@ -8,7 +8,7 @@ use Rattle.plant_config.specs.Plant.{destinations_of}
 use Rattle.plant_config.specs.Sites.{dest_at}
 use Rattle.change_boards.specs.Board.{Board}
 use Rattle.change_boards.specs.Notices.{board_of, has, has_left}
-use Rattle.change_boards.specs.Laws.{Leaves, Takes, notices_below}
+use Rattle.change_boards.specs.Laws.{Leaves, Removes, notices_below}
 use Rattle.change_boards.specs.declared.sort.Sort.{Sort}
 use Rattle.change_boards.specs.declared.sort.Sort.TheVariants.{Source, Protect}
 use Rattle.history_lock.specs.Step.{Stepped}
@@ -91,7 +91,7 @@ pub record IsTold (old : State) (panel dest : ℕ) (sort : Sort)
   pub told : Answer
   pub answer : stepped.answers ≡ told ∷ []
   pub tells : Tells old at sort told
-  pub taken : Takes old.boards stepped.state.boards panel dest sort
+  pub taken : Removes old.boards stepped.state.boards panel dest sort
   pub rest : stepped.state ≡ record old { boards = stepped.state.boards }
 
 -- A poll with these numbers, made in this state, tells its panel of a destination.

@@ -9,7 +9,7 @@ use Rattle.swp08_messages.specs.declared.message.Message.TheVariants.{Interrogat
 use Rattle.plant_config.specs.Plant.{PlantData}
 use Rattle.plant_config.specs.Sites.{dest_at, level_at}
 use Rattle.change_boards.specs.Board.{next}
-use Rattle.change_boards.specs.Notices.{board_of, with_take, with_leave}
+use Rattle.change_boards.specs.Notices.{board_of, with_removal, with_leave}
 use Rattle.change_boards.specs.declared.sort.Sort.{Sort}
 use Rattle.change_boards.specs.declared.sort.Sort.TheVariants.{Source, Protect}
 use Rattle.history_lock.specs.Step.{Stepped}
@@ -92,7 +92,7 @@ poll_answers state panel = notice_of state (next (board_of state.boards panel))
 abbrev pub step : State → Request → Stepped State Answer
 step state (Told panel item message) = answered state panel message
 step state (Poll panel item turn) = record {
-  state = record state { boards = with_take state.boards panel };
+  state = record state { boards = with_removal state.boards panel };
   answers = poll_answers state panel;
 }
 step state (Leave panel) =

@@ -4,7 +4,7 @@ ghost use Rattle.std.specs.Prelude.{◌≡◌, ◌<◌, length, Some, IfSome};
 ghost use Rattle.std.specs.Option.{option_to_list};
 ghost use Rattle.plant_config.specs.Plant.{destinations_of};
 ghost use Rattle.change_boards.specs.Board.{next};
-ghost use Rattle.change_boards.specs.Notices.{board_of, with_leave, with_take};
+ghost use Rattle.change_boards.specs.Notices.{board_of, with_leave, with_removal};
 ghost use Rattle.change_boards.specs.declared.sort.Sort.TheVariants.{Protect};
 ghost use Rattle.plant_core.specs.State.{IsValid};
 ghost use Rattle.plant_core.specs.Short.{IsShortDest};
@@ -20,28 +20,30 @@ use plant_config::{DestId, PanelNo};
 use swp08_messages::Message;
 
 impl PlantState {
-    // Takes a panel's next notice, and answers what the panel is told for it.
+    // Removes a panel's next notice, and answers what the panel is told for it.
     #[inline(always)]
     pub(crate) fn poll(&mut self, panel: PanelNo) -> Option<Answer>
         requires { panel < length self.old.plant.panels }
-        ensures state { self.new ≡ record self.old { boards = with_take self.old.boards panel } }
+        ensures state { self.new
+            ≡ record self.old { boards = with_removal self.old.boards panel } }
         ensures answer { option_to_list result ≡ poll_answers self.old panel }
         ensures valid { IsValid self.old }
     {
-        let (dest, sort) = self.take_notice(panel)?;
+        let (dest, sort) = self.remove_notice(panel)?;
         Some(self.told(dest, sort))
     }
 
-    // Takes a panel's next notice.
+    // Removes a panel's next notice.
     #[inline(always)]
-    fn take_notice(&mut self, panel: PanelNo) -> Option<(DestId, Sort)>
+    fn remove_notice(&mut self, panel: PanelNo) -> Option<(DestId, Sort)>
         requires { panel < length self.old.plant.panels }
         ensures next { result ≡ next (board_of self.old.boards panel) }
-        ensures taken { self.new ≡ record self.old { boards = with_take self.old.boards panel } }
+        ensures removed { self.new
+            ≡ record self.old { boards = with_removal self.old.boards panel } }
         ensures dest { IfSome result (λ notice. notice.0 < destinations_of self.old.plant) }
         ensures valid { IsValid self.old }
     {
-        self.notices.take_lowest(panel)
+        self.notices.remove_lowest(panel)
     }
 
     // What a panel is told for a notice: the source that stands, or the owner.

@@ -40,7 +40,7 @@ pub use laws::{
     numbers_have_no_effect, questions_only_ask, states_stay_valid,
 };
 pub use notice_laws::{
-    changes_give_notice, notices_stand_until_told, polls_go_in_order, polls_tell_one_notice,
+    changes_are_noticed, notices_stand_until_told, polls_go_in_order, polls_tell_one_notice,
     whoever_left_hears_nothing,
 };
 pub use protect_laws::{

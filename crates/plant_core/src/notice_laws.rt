@@ -11,7 +11,7 @@ ghost use Rattle.plant_core.specs.NoticeLaws.{LeaversHearNothing, LeaversAreServ
 /// A connect that changes a source, and a protect or a lift that changes an owner, gives notice of it to all other panels
 /// that haven't left, and to nobody else. A go gives notice of the sources that it changes to the asker too. What changes
 /// neither a source nor an owner gives none.
-pub fn changes_give_notice()
+pub fn changes_are_noticed()
     ensures sources { SourcesAreHeard }
     ensures owners { OwnersAreHeard }
     ensures goes { GoesAreHeard }

@@ -146,7 +146,7 @@ impl PlantState {
         } }
         ensures taken { result ≡ allows self.old.owners device dest }
     {
-        self.protects.take(device, dest)
+        self.protects.protect(device, dest)
     }
 
     // Lifts the protect of a destination where no other device protects it, or for a master.

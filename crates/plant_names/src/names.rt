@@ -17,9 +17,9 @@ use crate::made::{levels_of, lowest_of};
 use crate::page::{PageAsk, PageHead};
 use crate::paged::Paged;
 use plant_config::{DestId, Level, Plant, SourceId};
+use seen_value::Seen;
 use std::alloc::{AllocError, Global};
 use std::marker::Model;
-use told_value::Told;
 
 // The commands of pages.
 const SOURCE_PAGE: u8 = 106;
@@ -29,7 +29,7 @@ const DEST_PAGE: u8 = 107;
 /// The names of a plant's sources and destinations, with an index of those of each level. A contract sees it as the plant.
 #[derive(Drop)]
 pub struct Names {
-    plant: Told<Plant>,
+    plant: Seen<Plant>,
     // One place for each level of each matrix that a plant may have.
     levels: Vec<Option<LevelNames>>,
     // The lowest level of each matrix that a plant may have.
@@ -55,7 +55,7 @@ impl Names {
         let levels = levels_of(alloc, plant)?;
         let lowest = lowest_of(alloc, plant)?;
         Ok(Names {
-            plant: Told::of(plant),
+            plant: Seen::of(plant),
             levels,
             lowest,
         })

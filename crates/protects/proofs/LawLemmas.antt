@@ -5,7 +5,7 @@ use Rattle.std.specs.Option.{option_map_or}
 use Rattle.std.specs.FinMap.{get, insert, remove}
 use Rattle.number_tables.proofs.PutLemmas.{get-put_same, get-put_other}
 use Rattle.protects.specs.Owners.{Owners, allows, taken, may_lift, lifted, IsForeign}
-use Rattle.protects.specs.Laws.{OthersKeepOwners, CallsChangeOne, ForeignProtectsStay, TakesAreTold, LiftsFree}
+use Rattle.protects.specs.Laws.{OthersKeepOwners, CallsChangeOne, ForeignProtectsStay, ProtectsAreOwned, LiftsFree}
 
 -- where another device protects the destination
 allows-foreign : (owners : Owners) (device dest : ℕ) → IsForeign owners device dest → allows owners device dest ≡ false
@@ -55,8 +55,8 @@ ForeignProtectsStay-all owners = λ dest owner device owns other. record {
   lift = λ at. stays owners dest owner device at (lifted owners device false at) owns other (OthersStay-lifted owners device false at) (refused_lifted owners device at);
 }
 
-pub TakesAreTold-all : (owners : Owners) → TakesAreTold owners
-TakesAreTold-all owners = λ device dest allowed.
+pub ProtectsAreOwned-all : (owners : Owners) → ProtectsAreOwned owners
+ProtectsAreOwned-all owners = λ device dest allowed.
     ap (λ b. get (cond b (insert owners dest device) owners) dest) allowed ∙ get-put_same owners dest (Some device)
 
 pub LiftsFree-at : (owners : Owners) (device dest : ℕ) → LiftsFree owners device dest

@@ -7,12 +7,12 @@ use Rattle.protects.specs.Owners.{Owners, allows, taken, lifted}
 abbrev pub OthersKeepOwners : Owners → Owners → ℕ → Type 0
 OthersKeepOwners old new dest = (other : ℕ) → other ≢ dest → get new other ≡ get old other
 
--- A take and a lift change no destination but their own.
+-- A protect and a lift change no destination but their own.
 pub record CallsChangeOne (owners : Owners) (device dest : ℕ) : Type 0 where
   pub take : OthersKeepOwners owners (taken owners device dest) dest
   pub lift : (master : Bool) → OthersKeepOwners owners (lifted owners device master dest) dest
 
--- What a device protects it goes on protecting, whatever a device takes, and whatever one lifts that is no master's.
+-- What a device protects it goes on protecting, whatever a device protects, and whatever one lifts that is no master's.
 pub record ForeignProtectStays (owners : Owners) (dest owner device : ℕ) : Type 0 where
   pub take : (at : ℕ) → get (taken owners device at) dest ≡ Some owner
   pub lift : (at : ℕ) → get (lifted owners device false at) dest ≡ Some owner
@@ -22,9 +22,9 @@ abbrev pub ForeignProtectsStay : Owners → Type 0
 ForeignProtectsStay owners = (dest owner device : ℕ) → get owners dest ≡ Some owner
     → owner ≢ device → ForeignProtectStays owners dest owner device
 
--- A take that is allowed makes its device the owner.
-abbrev pub TakesAreTold : Owners → Type 0
-TakesAreTold owners = (device dest : ℕ) → allows owners device dest ≡ true
+-- A protect that is allowed makes its device the owner.
+abbrev pub ProtectsAreOwned : Owners → Type 0
+ProtectsAreOwned owners = (device dest : ℕ) → allows owners device dest ≡ true
     → get (taken owners device dest) dest ≡ Some device
 
 -- A lift that is allowed leaves no owner, and a master's always is.

@@ -23,7 +23,7 @@ pub record IsForeign (owners : Owners) (device dest : ℕ) : Type 0 where
   pub owns : get owners dest ≡ Some owner
   pub other : owner ≢ device
 
--- A take gives a device the destination where it is allowed, and else changes nothing.
+-- A protect makes a device the owner where it is allowed, and else changes nothing.
 abbrev pub taken : Owners → ℕ → ℕ → Owners
 taken owners device dest = if allows owners device dest then insert owners dest device else owners
 

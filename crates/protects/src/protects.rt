@@ -56,7 +56,7 @@ impl Protects {
 
     /// A device protects a destination that is unprotected or its own, and owns it from now on. Else it is refused, and
     /// nothing changes.
-    pub fn take(&mut self, device: u16, dest: DestId) -> bool
+    pub fn protect(&mut self, device: u16, dest: DestId) -> bool
         requires { dest < self.old.room }
         ensures allowed { result ≡ allows self.old.entries device dest }
         ensures refused { (result ≡ false) ↔ IsForeign self.old.entries device dest }

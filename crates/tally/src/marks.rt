@@ -26,7 +26,7 @@ use plant_config::{DestId, DeviceId, Plant, SourceId};
 use std::alloc::{AllocError, Global};
 use std::marker::Model;
 use std::sync::ledger::{Blank, Ledger};
-use tap_lists::{Steps, Taps, links_put_first, unlinks_take_out};
+use tap_lists::{Steps, Taps, links_insert_first, unlinks_remove};
 
 /// Which destinations are marked live, and by them which sources and which devices are on.
 #[derive(Debug, Drop)]
@@ -217,7 +217,7 @@ fn put_lit<L: Ledger>(
     ensures turns { Turns lit.old lit.new turned.old turned.new }
     ensures counted { steps.new ≡ steps.old + 1 }
 {
-    links_put_first();
+    links_insert_first();
     let was_lit = lit.first(origin, steps).is_some();
     lit.link(origin, dest);
     if !was_lit {
@@ -243,7 +243,7 @@ fn take_lit<L: Ledger>(
     ensures turns { Turns lit.old lit.new turned.old turned.new }
     ensures counted { steps.new ≡ steps.old + 1 }
 {
-    unlinks_take_out();
+    unlinks_remove();
     lit.stand_once();
     lit.unlink(dest);
     let is_lit = lit.first(origin, steps).is_some();

@@ -7,13 +7,13 @@ use Rattle.std.proofs.lemmas.Option.{slice_get-get_or, slice_get_past}
 use Rattle.std.specs.List.{slice_get, Contains}
 use Rattle.tap_lists.specs.Lists.{Lists, list_of, linked, unlinked, without, IsUnder}
 use Rattle.tap_lists.specs.ListsInside.{has}
-use Rattle.tap_lists.specs.Laws.{LinksPutFirst, UnlinksTakeOut, WalksAnswerAll}
+use Rattle.tap_lists.specs.Laws.{LinksInsertFirst, UnlinksRemove, WalksAnswerAll}
 use Rattle.tap_lists.proofs.ListLemmas.{true_or, has-without, without-absent}
 use Rattle.tap_lists.proofs.ColumnLemmas.{list_at-set, list_at-map}
 use Rattle.tap_lists.proofs.PlaceLemmas.{has-Contains, Contains-has}
 
-pub LinksPutFirst-all : (lists : Lists) → LinksPutFirst lists
-LinksPutFirst-all lists head member is_head = record {
+pub LinksInsertFirst-all : (lists : Lists) → LinksInsertFirst lists
+LinksInsertFirst-all lists head member is_head = record {
   here = list head ∙ cond_here (head == head) (eq-eqb head head refl);
   others = λ other apart. list other ∙ cond_other other (head == other) (ne_eqb head other (λ e. apart (sym e)));
   under = λ other x. (λ u. into other x (cases_eq head other) u, λ u. back other x (cases_eq head other) u);
@@ -45,8 +45,8 @@ LinksPutFirst-all lists head member is_head = record {
     back other x (inr apart) (inl e) = absurd (apart (sym e.0))
     back other x (inr apart) (inr u) = subst (λ xs. Contains xs x) (sym (list other ∙ cond_other other (head == other) (ne_eqb head other apart))) u
 
-pub UnlinksTakeOut-all : (lists : Lists) → UnlinksTakeOut lists
-UnlinksTakeOut-all lists member = record {
+pub UnlinksRemove-all : (lists : Lists) → UnlinksRemove lists
+UnlinksRemove-all lists member = record {
   loose = λ head u. both_ways _ (gone head) (has-Contains _ member u);
   closes = λ head front behind is no_front no_behind.
       list head ∙ ap (without member) is ∙ closed front behind no_front no_behind;

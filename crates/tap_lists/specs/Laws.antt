@@ -10,8 +10,8 @@ pub record PutsFirst (old new : Lists) (head member : ℕ) : Type 0 where
       ↔ (((other ≡ head) × (x ≡ member)) ⊎ IsUnder old other x)
 
 -- A link of a member to one of the heads puts it first there.
-abbrev pub LinksPutFirst : Lists → Type 0
-LinksPutFirst lists = (head member : ℕ) → head < length lists.by_head
+abbrev pub LinksInsertFirst : Lists → Type 0
+LinksInsertFirst lists = (head member : ℕ) → head < length lists.by_head
     → PutsFirst lists (linked lists head member) head member
 
 -- A list closes where a member stood: what stood before it and what stood behind it are one list now.
@@ -28,8 +28,8 @@ pub record TakesOut (old new : Lists) (member : ℕ) : Type 0 where
   pub under : (head x : ℕ) → x ≢ member → IsUnder new head x ↔ IsUnder old head x
 
 -- An unlink takes a member out.
-abbrev pub UnlinksTakeOut : Lists → Type 0
-UnlinksTakeOut lists = (member : ℕ) → TakesOut lists (unlinked lists member) member
+abbrev pub UnlinksRemove : Lists → Type 0
+UnlinksRemove lists = (member : ℕ) → TakesOut lists (unlinked lists member) member
 
 -- The answers to the reads of one list, numbered from 0: the first member, and then what follows each member that was
 -- answered.

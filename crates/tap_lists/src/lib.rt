@@ -7,6 +7,6 @@ mod links;
 mod steps;
 mod taps;
 
-pub use laws::{links_put_first, unlinks_take_out, walks_answer_all};
+pub use laws::{links_insert_first, unlinks_remove, walks_answer_all};
 pub use steps::Steps;
 pub use taps::Taps;

@@ -1,7 +1,7 @@
 //! The count of the calls that are made of an object in memory.
 
 ghost use Rattle.std.specs.Prelude.{◌≡◌};
-ghost use Rattle.ctl_io.specs.Calls.{next_fails, called, took_back, uncalled};
+ghost use Rattle.ctl_io.specs.Calls.{next_fails, called, counted_back, uncalled};
 
 use crate::FaultCount;
 use std::marker::Model;
@@ -53,8 +53,8 @@ impl CallCount {
     }
 
     /// Counts a fault where an object with `faults` of its own is given back.
-    pub fn take_back(&mut self, faults: u64)
-        ensures { self.new ≡ took_back faults self.old }
+    pub fn count_back(&mut self, faults: u64)
+        ensures { self.new ≡ counted_back faults self.old }
     {
         if faults > 0 {
             self.faults.raise();

@@ -133,7 +133,7 @@ impl MemFiles {
         requires { 0 < self.old.sources_out }
         ensures { self.new ≡ after_close_source source self.old }
     {
-        self.calls.take_back(source.source.faults());
+        self.calls.count_back(source.source.faults());
         self.sources_out -= 1;
         self.sources_back.push_reserved(source);
     }
@@ -143,7 +143,7 @@ impl MemFiles {
         requires { 0 < self.old.sinks_out }
         ensures { self.new ≡ after_close_sink sink self.old }
     {
-        self.calls.take_back(sink.sink.faults());
+        self.calls.count_back(sink.sink.faults());
         self.sinks_out -= 1;
         self.sinks_back.push_reserved(sink);
     }
@@ -153,7 +153,7 @@ impl MemFiles {
         requires { 0 < self.old.disks.out }
         ensures { self.new ≡ after_close_disk disk self.old }
     {
-        self.calls.take_back(disk.disk.faults());
+        self.calls.count_back(disk.disk.faults());
         self.disks.take_back(disk);
     }
 

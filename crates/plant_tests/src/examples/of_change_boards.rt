@@ -16,9 +16,9 @@ fn a_panel_hears_each_change_once(rt: HostRuntime) -> Result<(), Fail> {
     notices.mark(panel, fourth, Sort::Protect);
     notices.mark(panel, fifth, Sort::Source);
 
-    assert!(rt; notices.take_lowest(panel) == Some((fourth, Sort::Protect)));
-    assert!(rt; notices.take_lowest(panel) == Some((fifth, Sort::Source)));
-    assert!(rt; notices.take_lowest(panel) == None);
+    assert!(rt; notices.remove_lowest(panel) == Some((fourth, Sort::Protect)));
+    assert!(rt; notices.remove_lowest(panel) == Some((fifth, Sort::Source)));
+    assert!(rt; notices.remove_lowest(panel) == None);
     Ok(())
 }
 

@@ -10,9 +10,9 @@ fn a_protect_keeps_other_devices_out(rt: HostRuntime) -> Result<(), Fail> {
     let dest = DestId::of(5);
     let (studio, gallery, master) = (7, 9, 1);
 
-    assert!(rt; protects.take(studio, dest));
+    assert!(rt; protects.protect(studio, dest));
     assert!(rt; !protects.allows(gallery, dest));
-    assert!(rt; !protects.take(gallery, dest));
+    assert!(rt; !protects.protect(gallery, dest));
     assert!(rt; !protects.lift(gallery, false, dest));
     assert!(rt; protects.owner(dest) == Some(studio));
 

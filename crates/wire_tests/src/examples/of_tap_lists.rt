@@ -7,7 +7,7 @@ use std::alloc::{AllocError, Global};
 use std::marker::Brand;
 use std::sync::ledger::{Blank, Ledger};
 use std::test::Fail;
-use tap_lists::{Steps, Taps, unlinks_take_out};
+use tap_lists::{Steps, Taps, unlinks_remove};
 
 // Takes a member away from its head, if it is under one.
 fn loosen(taps: &mut Taps, member: u32)
@@ -15,7 +15,7 @@ fn loosen(taps: &mut Taps, member: u32)
     ensures heads { length taps.new.by_head ≡ length taps.old.by_head }
     ensures members { taps.new.members ≡ taps.old.members }
 {
-    unlinks_take_out();
+    unlinks_remove();
     match taps.head_of(member) {
         Some(_head) => taps.unlink(member),
         None => {}

@@ -12,7 +12,7 @@ returns-then-not-was_lit-clause-turns g c =
     let old = c.args.lit.now in
     let origin = c.args.origin in
     let new = linked old origin c.args.dest in
-    let puts = c.links_put_first.ensures old origin c.args.dest c.requires.head in
+    let puts = c.links_insert_first.ensures old origin c.args.dest c.requires.head in
     let dark : is_lit old origin ≡ false = sym (some_first (list_of old origin)) ∙ ap is_some (sym c.first.ensures.first) ∙ sym c.is_some-was_lit.ensures ∙ c.if-not-was_lit.true in
     let here : is_lit new origin ≡ not (is_lit old origin) =
     lit_linked old new origin c.args.dest origin puts ∙ ap (λ b. b || is_lit old origin) (eq-eqb origin origin refl) ∙ sym (ap not dark) in

@@ -16,17 +16,17 @@ same_lit old new origin other here others = by (cases_eq other origin)
     by (inr apart) = others apart
 
 pub returns-then-not-is_lit-clause-others : goal.returns-then-not-is_lit-clause-others
-returns-then-not-is_lit-clause-others g c = λ other apart. ap (λ (lists : Lists). is_lit lists other) c.unlink.ensures ∙ lit_unlinked c.args.lit.now (unlinked c.args.lit.now c.args.dest) c.args.origin c.args.dest other c.stand_once.ensures c.requires.under (c.unlinks_take_out.ensures c.args.lit.now c.args.dest) apart
+returns-then-not-is_lit-clause-others g c = λ other apart. ap (λ (lists : Lists). is_lit lists other) c.unlink.ensures ∙ lit_unlinked c.args.lit.now (unlinked c.args.lit.now c.args.dest) c.args.origin c.args.dest other c.stand_once.ensures c.requires.under (c.unlinks_remove.ensures c.args.lit.now c.args.dest) apart
 
 pub returns-else-not-is_lit-clause-others : goal.returns-else-not-is_lit-clause-others
-returns-else-not-is_lit-clause-others g c = λ other apart. ap (λ (lists : Lists). is_lit lists other) c.unlink.ensures ∙ lit_unlinked c.args.lit.now (unlinked c.args.lit.now c.args.dest) c.args.origin c.args.dest other c.stand_once.ensures c.requires.under (c.unlinks_take_out.ensures c.args.lit.now c.args.dest) apart
+returns-else-not-is_lit-clause-others g c = λ other apart. ap (λ (lists : Lists). is_lit lists other) c.unlink.ensures ∙ lit_unlinked c.args.lit.now (unlinked c.args.lit.now c.args.dest) c.args.origin c.args.dest other c.stand_once.ensures c.requires.under (c.unlinks_remove.ensures c.args.lit.now c.args.dest) apart
 
 pub returns-then-not-is_lit-clause-turns : goal.returns-then-not-is_lit-clause-turns
 returns-then-not-is_lit-clause-turns g c =
     let old = c.args.lit.now in
     let origin = c.args.origin in
     let new = unlinked old c.args.dest in
-    let takes = c.unlinks_take_out.ensures old c.args.dest in
+    let takes = c.unlinks_remove.ensures old c.args.dest in
     let was : is_lit old origin ≡ true = lit_under old origin c.args.dest c.requires.under in
     let dark : is_lit c.unlink.new.self origin ≡ false = sym (some_first (list_of c.unlink.new.self origin)) ∙ ap is_some (sym c.first.ensures.first) ∙ sym c.is_some-is_lit.ensures ∙ c.if-not-is_lit.true in
     let here : is_lit new origin ≡ not (is_lit old origin) = ap (λ (lists : Lists). is_lit lists origin) (sym c.unlink.ensures) ∙ dark ∙ sym (ap not was) in
@@ -38,7 +38,7 @@ returns-else-not-is_lit-clause-turns g c =
     let old = c.args.lit.now in
     let origin = c.args.origin in
     let new = unlinked old c.args.dest in
-    let takes = c.unlinks_take_out.ensures old c.args.dest in
+    let takes = c.unlinks_remove.ensures old c.args.dest in
     let was : is_lit old origin ≡ true = lit_under old origin c.args.dest c.requires.under in
     let lit : is_lit c.unlink.new.self origin ≡ true = sym (some_first (list_of c.unlink.new.self origin)) ∙ ap is_some (sym c.first.ensures.first) ∙ sym c.is_some-is_lit.ensures ∙ c.if-not-is_lit.false in
     let here : is_lit old origin ≡ is_lit new origin = was ∙ sym lit ∙ ap (λ (lists : Lists). is_lit lists origin) c.unlink.ensures in

@@ -14,6 +14,6 @@ pub mark-requires-3-clause-panel : goal.mark-requires-3-clause-panel
 unfolding bench
 mark-requires-3-clause-panel g c = search rules
 
-pub take_lowest-requires : goal.take_lowest-requires
+pub remove_lowest-requires : goal.remove_lowest-requires
 unfolding bench
-take_lowest-requires g c = search rules
+remove_lowest-requires g c = search rules

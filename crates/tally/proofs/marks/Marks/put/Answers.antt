@@ -3,7 +3,7 @@ use Rattle.std.proofs.lemmas.Bool.{both_ways}
 use Rattle.std.specs.FinSet.{contains}
 use Rattle.number_tables.proofs.Members.{contains_inserted}
 use Rattle.tap_lists.specs.Lists.{list_of, IsHeadOf}
-use Rattle.tap_lists.proofs.LawLemmas.{LinksPutFirst-all}
+use Rattle.tap_lists.proofs.LawLemmas.{LinksInsertFirst-all}
 use Rattle.plant_config.specs.Plant.{sources_of}
 use Rattle.crosspoint_state.specs.Taps.{origin_at}
 use Rattle.mixer_effects.specs.Buses.{fed_device}
@@ -49,7 +49,7 @@ returns-then-put_lit-clause-marks g c =
     let was : is_lit old origin ≡ true = sym c.put_lit.ensures.was ∙ c.if-put_lit.true in
     rw (c.insert.ensures, c.put_lit.ensures.lit)
     (marked_lit plant points c.requires.wired.is_plant _ marks c.args.dest origin _ c.self.inside.fed c.put_lit.new.turned c.requires.dest (sym carried)
-    (LinksPutFirst-all old origin c.args.dest head) (length-set old.by_head origin (c.args.dest ∷ list_of old origin)) refl
+    (LinksInsertFirst-all old origin c.args.dest head) (length-set old.by_head origin (c.args.dest ∷ list_of old origin)) refl
     (fed_lit plant points c.requires.wired.is_plant _ marks origin was))
 
 pub returns-in_err-device-clause-marks : goal.returns-in_err-device-clause-marks
@@ -66,7 +66,7 @@ returns-in_err-device-clause-marks g c =
     let none : None ≡ fed_device plant origin = c.in_err-device.ensures.device plant c.requires.wired ∙ ap (fed_device plant) (sym c.get.ensures) in
     rw (c.insert.ensures, c.put_lit.ensures.lit)
     (marked_lit plant points c.requires.wired.is_plant _ marks c.args.dest origin _ c.self.inside.fed c.put_lit.new.turned c.requires.dest (sym carried)
-    (LinksPutFirst-all old origin c.args.dest head) (length-set old.by_head origin (c.args.dest ∷ list_of old origin)) refl
+    (LinksInsertFirst-all old origin c.args.dest head) (length-set old.by_head origin (c.args.dest ∷ list_of old origin)) refl
     (fed_none plant points c.requires.wired.is_plant _ marks origin (sym none)))
 
 pub insert-requires-2 : goal.insert-requires-2
@@ -93,7 +93,7 @@ returns-clause-marks g c =
     let device : fed_device plant origin ≡ Some c.get-2.result = sym found ∙ ap Some (sym c.get-2.ensures) in
     rw (c.insert.ensures, c.put_lit.ensures.lit, c.insert-2.ensures)
     (marked_lit plant points c.requires.wired.is_plant _ marks c.args.dest origin _ _ c.put_lit.new.turned c.requires.dest (sym carried)
-    (LinksPutFirst-all old origin c.args.dest head) (length-set old.by_head origin (c.args.dest ∷ list_of old origin)) refl
+    (LinksInsertFirst-all old origin c.args.dest head) (length-set old.by_head origin (c.args.dest ∷ list_of old origin)) refl
     (fed_one plant points c.requires.wired.is_plant _ marks origin c.get-2.result device))
 
 pub returns-clause-device : goal.returns-clause-device

@@ -2,7 +2,7 @@ use Rattle.std.proofs.Common.{◌≡◌, ℕ, ◌<◌, Some, None, refl, sym, ap
 use Rattle.std.proofs.lemmas.List.{length-map}
 use Rattle.std.specs.Option.{option_and_then}
 use Rattle.tap_lists.specs.Lists.{without, IsUnder}
-use Rattle.tap_lists.proofs.LawLemmas.{UnlinksTakeOut-all}
+use Rattle.tap_lists.proofs.LawLemmas.{UnlinksRemove-all}
 use Rattle.plant_config.specs.Plant.{PlantData}
 use Rattle.plant_config.specs.IsPlant.{IsPlant}
 use Rattle.mixer_effects.specs.Buses.{fed_device}
@@ -42,7 +42,7 @@ returns-in_err-device-clause-marks g c = λ points are.
     let others = rw c.take_lit-is_lit.ensures.lit at c.take_lit-is_lit.ensures.others in
     rw (c.remove.ensures, c.take_lit-is_lit.ensures.lit)
     (taken_lit plant points c.requires.wired.is_plant _ marks c.args.dest _ c.self.inside.fed c.take_lit-is_lit.new.turned
-    (UnlinksTakeOut-all c.self.inside.lit c.args.dest) (length-map c.self.inside.lit.by_head (without c.args.dest)) refl
+    (UnlinksRemove-all c.self.inside.lit c.args.dest) (length-map c.self.inside.lit.by_head (without c.args.dest)) refl
     (left_none plant points c.requires.wired.is_plant _ marks _ origin others (sym none)))
 
 pub returns-in_err-device-clause-device : goal.returns-in_err-device-clause-device
@@ -64,7 +64,7 @@ returns-then-is_lit-clause-marks g c = λ points are.
     let still = rw c.take_lit-is_lit.ensures.lit at (sym c.take_lit-is_lit.ensures.is ∙ c.if-is_lit.true) in
     rw (c.remove.ensures, c.take_lit-is_lit.ensures.lit)
     (taken_lit plant points c.requires.wired.is_plant _ marks c.args.dest _ c.self.inside.fed c.take_lit-is_lit.new.turned
-    (UnlinksTakeOut-all c.self.inside.lit c.args.dest) (length-map c.self.inside.lit.by_head (without c.args.dest)) refl
+    (UnlinksRemove-all c.self.inside.lit c.args.dest) (length-map c.self.inside.lit.by_head (without c.args.dest)) refl
     (left_lit plant points c.requires.wired.is_plant _ marks _ origin others (lit_under c.self.inside.lit origin c.args.dest under) still))
 
 pub returns-then-is_lit-clause-device : goal.returns-then-is_lit-clause-device
@@ -92,7 +92,7 @@ returns-clause-marks g c = λ points are.
     let device : fed_device plant origin ≡ Some c.get.result = sym found ∙ ap Some (sym c.get.ensures) in
     rw (c.remove.ensures, c.take_lit-is_lit.ensures.lit, c.remove-2.ensures)
     (taken_lit plant points c.requires.wired.is_plant _ marks c.args.dest _ _ c.take_lit-is_lit.new.turned
-    (UnlinksTakeOut-all c.self.inside.lit c.args.dest) (length-map c.self.inside.lit.by_head (without c.args.dest)) refl
+    (UnlinksRemove-all c.self.inside.lit c.args.dest) (length-map c.self.inside.lit.by_head (without c.args.dest)) refl
     (left_dark plant points c.requires.wired.is_plant _ marks _ origin others c.get.result device dark))
 
 pub returns-clause-device : goal.returns-clause-device

@@ -5,7 +5,7 @@ pub unlink-requires : goal.unlink-requires
 unlink-requires c = (c.in-Some._head, (c.head_of.ensures c.in-Some._head).0 c.in-Some.is)
 
 pub returns-in-Some-clause-loose : goal.returns-in-Some-clause-loose
-returns-in-Some-clause-loose c = rw c.unlink.ensures (c.unlinks_take_out.ensures c.args.taps.now c.args.member).loose
+returns-in-Some-clause-loose c = rw c.unlink.ensures (c.unlinks_remove.ensures c.args.taps.now c.args.member).loose
 
 pub returns-in-None-clause-loose : goal.returns-in-None-clause-loose
 returns-in-None-clause-loose c head under =

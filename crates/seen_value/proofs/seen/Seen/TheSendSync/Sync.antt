@@ -1,0 +1,8 @@
+-- What is seen owns nothing, so a reference to it says the same to every thread too.
+use denote.RattleType.{RattleType}
+use denote.Param.Send.{IsSync, part_keyless}
+use Rattle.seen_value.proofs.seen.Seen.TheSendSync.Send.{send}
+use Rattle.seen_value.specs.contracts.seen.Seen.{the_row}
+
+pub sync : (T : RattleType) → IsSync (the_row T)
+sync T = record { shared = λ d b o κ q. part_keyless (the_row T) (send T) q d b o }

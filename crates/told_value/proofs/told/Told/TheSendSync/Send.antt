@@ -1,7 +1,0 @@
--- What is told owns nothing, so it says the same to every thread.
-use denote.RattleType.{RattleType}
-use denote.Param.Send.{IsSend}
-use Rattle.told_value.specs.contracts.told.Told.{the_row}
-
-pub send : (T : RattleType) → IsSend (the_row T)
-send T = record { owned = λ d vs. ((λ vss. (tt, ((λ uss. (tt, tt)), tt))), tt); leaving = λ k f vs. tt }
