@@ -2,11 +2,11 @@
 use Rattle.std.proofs.Common.{◌≡◌, ℕ, ◌+◌, ◌-◌, ◌≤◌, ◌<◌, nat_eq, true, false, List, [], ◌∷◌, ◌++◌, length, take, drop, get_or, Option, Some, None, refl, sym, ap, ◌∙◌, subst, arith}
 use Rattle.std.specs.Option.{option_map, option_to_list, is_some}
 use Rattle.std.proofs.lemmas.Bool.{cond-true, false≢true}
-use Rattle.std.proofs.lemmas.List.{append-nil, append_assoc, length-append, length-drop, length-take-le, nil_from_length, take_at, take_more, take-take, take-append-drop, drop-take}
+use Rattle.std.proofs.lemmas.List.{append-nil, append_assoc, length-append, length-drop, length-take-le, take_at, take_more, take-take, take-append-drop, drop-take}
 use Rattle.dle_framing.specs.Numbers.{dle, stx, etx, most_kept}
 use Rattle.dle_framing.specs.declared.framer.Framer.{Framer}
-use Rattle.dle_framing.specs.declared.framer.State.{State}
-use Rattle.dle_framing.specs.declared.framer.State.TheVariants.{Outside, OutsideDle, Inside}
+use Rattle.doubled_bytes.specs.declared.state.State.{State}
+use Rattle.doubled_bytes.specs.declared.state.State.TheVariants.{Outside, OutsideDle, Inside}
 use Rattle.std.proofs.lemmas.List.Concat.{flat_map-append}
 use Rattle.dle_framing.specs.declared.item.Item.{Item}
 use Rattle.dle_framing.specs.declared.item.Item.TheVariants.{Good}
@@ -17,9 +17,11 @@ use Rattle.dle_framing.specs.StepsInside.{found_in, Steps}
 use Rattle.dle_framing.specs.Framer.{StandsFor}
 use Rattle.dle_framing.specs.FramerInside.{PassesOver}
 use Rattle.dle_framing.specs.Feeding.{Feeds}
-use Rattle.dle_framing.proofs.Readings.{reading-by_start, reading-noise, reading-frame, reading-append, followed}
+use Rattle.dle_framing.proofs.Readings.{reading-by_start, reading-noise, reading-frame, reading-append}
+use Rattle.doubled_bytes.proofs.Readings.{followed}
+use Rattle.doubled_bytes.proofs.Feeds.{none_before, feeds_item}
 use Rattle.dle_framing.proofs.LawLemmas.{reads_on_lem, reading-enclosed}
-use Rattle.dle_framing.proofs.StepLemmas.{take-take_append, reading-open, doubled-push, outside-dle, control-start}
+use Rattle.dle_framing.proofs.StepLemmas.{take-take_append, reading-open, outside-dle, control-start}
 
 pub take-add : (n m : ℕ) (bytes : List ℕ) → take (n + m) bytes ≡ take n bytes ++ take m (drop n bytes)
 take-add n m bytes =
@@ -109,40 +111,6 @@ passes_start piece body n a c d is outside inside none behind =
     let P : List ℕ → Type 0 = λ front. PassesOver front a d in
     subst P whole (passes_append (dle ∷ stx ∷ []) (take n body) a c d start behind)
 
--- Where no item ends in a front of a piece, none ends in a shorter front.
-none_before : (text piece : List ℕ) (n m : ℕ) → n ≤ m → items (text ++ take m piece) ≡ items text → items (text ++ take n piece) ≡ items text
-none_before text piece n m within none =
-    let split : take n piece ++ drop n (take m piece) ≡ take m piece = ap (λ (front : List ℕ). front ++ drop n (take m piece)) (sym (take-take n m piece within)) ∙ take-append-drop n (take m piece) in
-    let first = reads_on_lem text (take n piece) in
-    let second = reads_on_lem (text ++ take n piece) (drop n (take m piece)) in
-    let joins : (text ++ take n piece) ++ drop n (take m piece) ≡ text ++ take m piece = append_assoc text (take n piece) (drop n (take m piece)) ∙ ap (λ (front : List ℕ). text ++ front) split in
-    let more = items (rest text ++ take n piece) in
-    let last = items (rest (text ++ take n piece) ++ drop n (take m piece)) in
-    let whole : items text ≡ items (text ++ take n piece) ++ last = sym none ∙ ap items (sym joins) ∙ second.items_go_on in
-    let empty : more ≡ [] = nil_from_length more (omega (arith, ap (length {A = Item (List ℕ)}) whole, ap (length {A = Item (List ℕ)}) first.items_go_on, length-append (items (text ++ take n piece)) last, length-append (items text) more)) in
-    first.items_go_on ∙ ap (λ (more : List (Item (List ℕ))). items text ++ more) empty ∙ append-nil (items text)
-
--- a piece in which no item ends
-pub feeds_none : (text piece : List ℕ) (n : ℕ) → n ≡ length piece → items (text ++ take n piece) ≡ items text → Feeds text piece n None
-feeds_none text piece n all none = record {
-  within = omega arith;
-  adds = none ∙ sym (append-nil (items text));
-  is_first = λ k below. none_before text piece k n (omega arith) none;
-  uses_all = λ _. all;
-}
-
--- a piece in which an item ends behind a front in which none ends
-pub feeds_item : (text piece : List ℕ) (n byte : ℕ) (item : Item (List ℕ)) → n < length piece → byte ≡ get_or piece n 0 → items (text ++ take n piece) ≡ items text
-    → items ((text ++ take n piece) ++ byte ∷ []) ≡ items (text ++ take n piece) ++ item ∷ [] → Feeds text piece (n + 1) (Some item)
-feeds_item text piece n byte item within is none ends =
-    let front : take (n + 1) piece ≡ take n piece ++ byte ∷ [] = take_more piece n 0 within ∙ ap (λ (byte : ℕ). take n piece ++ byte ∷ []) (sym is) in
-    record {
-      within = omega arith;
-      adds = ap (λ (front : List ℕ). items (text ++ front)) front ∙ ap items (sym (append_assoc text (take n piece) (byte ∷ []))) ∙ ends ∙ ap (λ (before : List (Item (List ℕ))). before ++ item ∷ []) none;
-      is_first = λ k below. none_before text piece k n (omega arith) none;
-      uses_all = λ is_none. cc;
-    }
-
 -- a text of noise, and one byte of noise more
 pub noise_more : (text : List ℕ) (byte : ℕ) → reading text ≡ only_rest [] → nat_eq byte dle ≡ false → reading (text ++ byte ∷ []) ≡ only_rest []
 noise_more text byte noise other =
@@ -150,10 +118,6 @@ noise_more text byte noise other =
     ∙ ap (λ (before : TextReading). followed before (reading (before.rest ++ byte ∷ []))) noise
     ∙ reading-noise byte [] other
     ∙ reading-by_start []
-
--- the same of bytes that are their own spelling
-pub single_more : (text : List ℕ) (byte : ℕ) → doubled text ≡ text → nat_eq byte dle ≡ false → doubled (text ++ byte ∷ []) ≡ text ++ byte ∷ []
-single_more text byte single other = sym (doubled-push text byte other) ∙ ap (λ (text : List ℕ). text ++ byte ∷ []) single
 
 pub noise_none : reading [] ≡ only_rest []
 noise_none = reading-by_start []
@@ -169,7 +133,7 @@ feeds_step piece used byte (Some item) a b c within is passes steps some text st
     let front : (text ++ take used piece) ++ byte ∷ [] ≡ text ++ take (used + 1) piece =
     append_assoc text (take used piece) (byte ∷ []) ∙ ap (λ (front : List ℕ). text ++ front) (ap (λ (byte : ℕ). take used piece ++ byte ∷ []) is ∙ sym (take_more piece used 0 within)) in
     let P : List ℕ → Type 0 = StandsFor c in
-    (feeds_item text piece used byte (found_in c.front item) within is before.0 step.0, subst P front step.1)
+    (feeds_item reading reads_on_lem text piece used byte (found_in c.front item) within is before.0 step.0, subst P front step.1)
 
 pub none_from_test : (item : Option (Item (Unit {0}))) → is_some item ≡ false → item ≡ None
 none_from_test None none = refl
@@ -208,7 +172,7 @@ feeds_whole piece body used before after outside still within is good text stand
       record {
         within = within;
         adds = on.items_go_on ∙ ap (λ (behind : TextReading). items text ++ behind.items) behind;
-        is_first = λ k below. none_before text piece k (length sent) (omega arith) passes;
+        is_first = λ k below. none_before reading reads_on_lem text piece k (length sent) (omega arith) passes;
         uses_all = λ is_none. cc;
       },
       (let P : State → Type 0 = λ state. Keeps state after.front (rest (text ++ take used piece)) in subst P (sym still) keeps),

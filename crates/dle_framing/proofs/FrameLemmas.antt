@@ -2,13 +2,18 @@
 use Rattle.std.proofs.Common.{◌≡◌, ℕ, ◌+◌, ◌-◌, ◌%◌, ◌≤◌, ◌<◌, ◌==◌, nat_eq, true, false, cond, ⊎_elim, List, [], ◌∷◌, ◌++◌, length, take, drop, sum, count_by, replicate, get_or, refl, sym, ap, ◌∙◌, zero-add, arith}
 use Rattle.std.proofs.lemmas.Bool.{cond-false, cases_lt, and_from, le-leb, eq-eqb}
 use Rattle.std.proofs.lemmas.Grind.{common_steps}
-use Rattle.std.proofs.lemmas.List.{length_push, length-append, take-append-drop, take_at, take_more, take-append-le, get_or_at, get_or_append_left, same_from_push}
-use Rattle.std.proofs.lemmas.List.Concat.{flat_map-append}
+use Rattle.std.proofs.lemmas.List.{length_push, length-append, take_at, take-append-le, get_or_at, get_or_append_left, same_from_push}
 use Rattle.std.proofs.lemmas.List.Sums.{sum_by_push, sum_by-cons, sum_by-append, get_or-le-sum_by, count_by-le-length}
 use Rattle.dle_framing.specs.Frame.{IsData, doubled, check_byte, counted, body, enclosed, frame}
-use Rattle.dle_framing.specs.Items.{Run, longest_run, is_good}
+use Rattle.doubled_bytes.specs.Doubled.{Run}
+use Rattle.dle_framing.specs.Items.{longest_run, is_good}
 use Rattle.dle_framing.specs.Numbers.{dle, stx, etx, most_data, least_body, most_body, most_frame}
-use Rattle.dle_framing.proofs.Runs.{at_byte, doubled-byte, body-enclosed}
+use Rattle.doubled_bytes.proofs.Runs
+use Rattle.doubled_bytes.proofs.Runs.{at_byte, doubled-byte, longest_run-ended}
+
+-- what a body encloses has that body
+body-enclosed : (body : List ℕ) → longest_run (doubled body ++ dle ∷ etx ∷ []) ≡ record { spelled = body; behind = dle ∷ etx ∷ [] }
+body-enclosed body = longest_run-ended dle body (dle ∷ etx ∷ []) refl
 
 -- one body has a text
 pub one_body : (a b : List ℕ) → enclosed a ≡ enclosed b → a ≡ b
@@ -77,7 +82,7 @@ length-doubled [] = refl
 length-doubled (a ∷ bytes) =
     at_byte dle (λ a. length (doubled (a ∷ bytes)) ≡ length {A = ℕ} (a ∷ bytes) + dles (a ∷ bytes)) a
     (omega (arith, length-doubled bytes, dles-dle bytes))
-    (λ other. omega (arith, ap (length {A = ℕ}) (doubled-byte a bytes other), length-doubled bytes, dles-other a bytes other))
+    (λ other. omega (arith, ap (length {A = ℕ}) (doubled-byte dle a bytes other), length-doubled bytes, dles-other a bytes other))
 
 -- bytes that have a DLE aren't their own spelling
 pub not-single : (bytes : List ℕ) (i : ℕ) → i < length bytes → get_or bytes i 0 ≡ dle → doubled bytes ≡ bytes → ⊥
@@ -124,13 +129,4 @@ length-frame-le bytes is_data = ⊎_elim
 
 -- the part of a text that is doubled so far leaves room for the next byte
 pub doubled-room : (bytes : List ℕ) (i : ℕ) → i < length bytes → length (doubled (take i bytes)) + length (doubled (get_or bytes i 0 ∷ [])) ≤ length (doubled bytes)
-doubled-room bytes i within =
-    let split : doubled (take i bytes ++ get_or bytes i 0 ∷ []) ≡ doubled (take i bytes) ++ doubled (get_or bytes i 0 ∷ []) = flat_map-append _ (take i bytes) (get_or bytes i 0 ∷ []) in
-    let whole : (take i bytes ++ get_or bytes i 0 ∷ []) ++ drop (i + 1) bytes ≡ bytes = ap (λ (front : List ℕ). front ++ drop (i + 1) bytes) (sym (take_more bytes i 0 within)) ∙ take-append-drop (i + 1) bytes in
-    omega (
-      arith,
-      ap (length {A = ℕ}) (sym (flat_map-append _ (take i bytes ++ get_or bytes i 0 ∷ []) (drop (i + 1) bytes)) ∙ ap doubled whole),
-      length-append (doubled (take i bytes ++ get_or bytes i 0 ∷ [])) (doubled (drop (i + 1) bytes)),
-      ap (length {A = ℕ}) split,
-      length-append (doubled (take i bytes)) (doubled (get_or bytes i 0 ∷ [])),
-    )
+doubled-room = Runs.doubled-room dle

@@ -1,31 +1,25 @@
 -- The laws of frames and items, for proofs of other crates too.
-use Rattle.std.proofs.Common.{◌≡◌, ℕ, zero, suc, ◌≤◌, List, [], ◌∷◌, ◌++◌, length, map, All, refl, sym, ap, ◌∙◌, arith}
+use Rattle.std.proofs.Common.{◌≡◌, ℕ, suc, List, [], ◌∷◌, ◌++◌, map, All, refl, ap, ◌∙◌, arith}
 use mathlib.Core.List.{IsPrefix}
 use Rattle.std.proofs.lemmas.Bool.{cond-true}
+use Rattle.doubled_bytes.proofs.Readings.{reading_only as one_reading, reads_on_by, items_stay}
 use Rattle.dle_framing.specs.declared.item.Item.{Item}
 use Rattle.dle_framing.specs.declared.item.Item.TheVariants.{Good, Ack, Nak}
 use Rattle.dle_framing.specs.Numbers.{dle, etx, ack, nak}
 use Rattle.dle_framing.specs.Frame.{IsData, body, enclosed, frame}
-use Rattle.dle_framing.specs.Items.{TextReading, with_item, item_of, reading, items, rest}
+use Rattle.dle_framing.specs.Items.{TextReading, by_start, with_item, item_of, reading, items, rest}
 use Rattle.dle_framing.specs.Laws.{ReadsByStart, ReadsOn, IsReadAs, frames}
 use Rattle.dle_framing.proofs.FrameLemmas.{good-body, data-body}
 use Rattle.dle_framing.proofs.Readings.{by_start-same, reading-by_start, reading-frame, reading-append}
 
-only_within : (reads : List ℕ → TextReading) → ReadsByStart reads → (n : ℕ) (text : List ℕ) → length text ≤ n → reads text ≡ reading text
-only_within reads by zero text within = by text ∙ by_start-same reads reading text (λ t shorter. absurd (omega arith)) ∙ sym (reading-by_start text)
-only_within reads by (suc n) text within = by text ∙ by_start-same reads reading text (λ t shorter. only_within reads by n t (omega arith)) ∙ sym (reading-by_start text)
-
 pub reading_only : (reads : List ℕ → TextReading) → ReadsByStart reads → (text : List ℕ) → reads text ≡ reading text
-reading_only reads by text = only_within reads by (length text) text (omega arith)
+reading_only = one_reading by_start by_start-same reading reading-by_start
 
 pub reads_on_lem : (text more : List ℕ) → ReadsOn text more
-reads_on_lem text more = record {
-  items_go_on = ap (λ (reading : TextReading). reading.items) (reading-append text more);
-  rest_goes_on = ap (λ (reading : TextReading). reading.rest) (reading-append text more);
-}
+reads_on_lem text more = reads_on_by reading text more (reading-append text more)
 
 pub items_front : (text longer : List ℕ) → IsPrefix text longer → IsPrefix (items text) (items longer)
-items_front text longer front = (items (rest text ++ front.0), sym (reads_on_lem text front.0).items_go_on ∙ ap items front.1)
+items_front = items_stay reading reads_on_lem
 
 -- the reading of an enclosed body
 pub reading-enclosed : (text : List ℕ) → reading (enclosed text) ≡ with_item (item_of text) (reading [])

@@ -1,4 +1,4 @@
-pub mod Runs
+pub use Rattle.doubled_bytes.proofs.Runs
 pub mod FrameLemmas
 pub mod Readings
 pub mod LawLemmas

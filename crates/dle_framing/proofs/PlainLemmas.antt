@@ -3,7 +3,8 @@ use Rattle.std.proofs.Common.{◌≡◌, ℕ, ◌<◌, nat_eq, false, List, [], 
 use Rattle.std.proofs.lemmas.Bool.{cond-false}
 use Rattle.dle_framing.specs.Numbers.{dle, stx, etx}
 use Rattle.dle_framing.specs.Items.{longest_run, only_rest, with_item, item_of, in_frame, reading}
-use Rattle.dle_framing.proofs.Readings.{reading-by_start, length-behind}
+use Rattle.doubled_bytes.proofs.Runs.{length-behind}
+use Rattle.dle_framing.proofs.Readings.{reading-by_start}
 
 -- a frame by what is behind its run
 framed : (text behind : List ℕ) → (longest_run text).behind ≡ behind → reading (dle ∷ stx ∷ text) ≡ in_frame reading text (record { spelled = (longest_run text).spelled; behind = behind })
@@ -30,7 +31,7 @@ stopped_at behind stopped after both a b k same first second is = sym same ∙ f
 
 -- a text that is behind a run's end is shorter than the frame
 pub shorter_frame : (text both : List ℕ) (a b : ℕ) → (longest_run text).behind ≡ a ∷ b ∷ both → length both < length {A = ℕ} (dle ∷ stx ∷ text)
-shorter_frame text both a b stops = omega (arith, length-behind text, ap (length {A = ℕ}) stops)
+shorter_frame text both a b stops = omega (arith, length-behind dle text, ap (length {A = ℕ}) stops)
 
 -- the text behind the first bytes
 pub shorter : (text is behind : List ℕ) → text ≡ is → length behind < length is → length behind < length text

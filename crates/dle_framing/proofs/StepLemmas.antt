@@ -3,17 +3,16 @@ use Rattle.std.proofs.Common.{◌≡◌, ℕ, ◌≤◌, ◌<◌, ⊎_elim, fals
 use Rattle.std.specs.Option.{option_map, option_to_list}
 use Rattle.std.proofs.lemmas.Bool.{cond-false, cases_lt, and_left, and_right, lt-leb}
 use Rattle.std.proofs.lemmas.List.{append-nil, append_assoc, length-take-le, take_all, take-append-le, take-take}
-use Rattle.std.proofs.lemmas.List.Concat.{flat_map-append}
 use Rattle.dle_framing.specs.Numbers.{dle, stx, etx, ack_byte, nak_byte, most_body, most_kept}
-use Rattle.dle_framing.specs.declared.framer.State.{State}
-use Rattle.dle_framing.specs.declared.framer.State.TheVariants.{Outside, OutsideDle, Inside, InsideDle}
+use Rattle.doubled_bytes.specs.declared.state.State.{State}
+use Rattle.doubled_bytes.specs.declared.state.State.TheVariants.{Outside, OutsideDle, Inside, InsideDle}
 use Rattle.dle_framing.specs.declared.item.Item.{Item}
 use Rattle.dle_framing.specs.declared.item.Item.TheVariants.{Ack, Nak}
 use Rattle.dle_framing.specs.Frame.{doubled}
 use Rattle.dle_framing.specs.Items.{TextReading, only_rest, with_item, item_of, is_good, reading, items, rest}
 use Rattle.dle_framing.specs.Kept.{Keeps}
 use Rattle.dle_framing.specs.StepsInside.{found_in, Steps}
-use Rattle.dle_framing.proofs.Runs.{doubled-byte}
+use Rattle.doubled_bytes.proofs.Runs.{doubled-push_dle}
 use Rattle.dle_framing.proofs.Readings.{reading-by_start, reading-noise, reading-noise_dle, reading-frame, reading-abandoned}
 
 -- a body of more bytes than a good one has
@@ -26,12 +25,6 @@ item_of-take body = ⊎_elim
     (λ (long : most_body < length body). cond-false _ _ _ (not_good (take most_kept body) (omega (arith, length-take-le most_kept body (omega arith)))) ∙ sym (cond-false _ _ _ (not_good body long)))
     (λ (short : length body ≤ most_body). ap item_of (take_all most_kept body (omega arith)))
     (cases_lt most_body (length body))
-
-pub doubled-push : (body : List ℕ) (byte : ℕ) → nat_eq byte dle ≡ false → doubled body ++ byte ∷ [] ≡ doubled (body ++ byte ∷ [])
-doubled-push body byte other = ap (λ (piece : List ℕ). doubled body ++ piece) (sym (doubled-byte byte [] other)) ∙ sym (flat_map-append _ body (byte ∷ []))
-
-doubled-push_dle : (body : List ℕ) → doubled body ++ dle ∷ dle ∷ [] ≡ doubled (body ++ dle ∷ [])
-doubled-push_dle body = sym (flat_map-append _ body (dle ∷ []))
 
 -- a frame that isn't over is all rest
 pub reading-open : (body : List ℕ) → reading (dle ∷ stx ∷ doubled body) ≡ only_rest (dle ∷ stx ∷ doubled body)
@@ -111,7 +104,7 @@ pub inner-pair : (front next_front : List ℕ) → KeepsByte front dle next_fron
 unfolding Steps
 inner-pair front next_front keeps_byte kept keeps =
     let body = keeps.0 in
-    let text = inner body dle ∙ ap (λ (text : List ℕ). dle ∷ stx ∷ text) (doubled-push_dle body) in
+    let text = inner body dle ∙ ap (λ (text : List ℕ). dle ∷ stx ∷ text) (doubled-push_dle dle body) in
     step_at kept (dle ∷ stx ∷ (doubled body ++ dle ∷ [])) dle None Inside next_front keeps.2
     (stepped ((dle ∷ stx ∷ (doubled body ++ dle ∷ [])) ++ dle ∷ []) None Inside next_front (dle ∷ stx ∷ doubled (body ++ dle ∷ []))
     (ap reading text ∙ reading-open (body ++ dle ∷ []))

@@ -1,6 +1,6 @@
 -- The one spelling of DATA as a frame of SW-P-08.
-use Rattle.std.specs.Prelude.{ℕ, ◌-◌, ◌%◌, ◌≤◌, ◌==◌, if◌then◌else◌, List, [], ◌∷◌, ◌++◌, length, sum}
-use Rattle.std.specs.List.{flat_map}
+use Rattle.std.specs.Prelude.{ℕ, ◌-◌, ◌%◌, ◌≤◌, List, [], ◌∷◌, ◌++◌, length, sum}
+use Rattle.doubled_bytes.specs.Doubled
 use Rattle.dle_framing.specs.Numbers.{dle, stx, etx, most_data}
 
 -- A frame carries 1 to 255 bytes of DATA. [profile]
@@ -9,7 +9,7 @@ IsData bytes = (1 ≤ length bytes) × (length bytes ≤ most_data)
 
 -- each DLE twice, so that none of them can be read as a control [SW-P-08]
 abbrev pub doubled : List ℕ → List ℕ
-doubled bytes = flat_map (λ byte. if byte == dle then dle ∷ dle ∷ [] else byte ∷ []) bytes
+doubled bytes = Doubled.doubled dle bytes
 
 -- the byte that makes the sum of these bytes and itself zero modulo 256 [SW-P-08]
 abbrev pub check_byte : List ℕ → ℕ

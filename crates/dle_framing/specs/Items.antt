@@ -1,5 +1,9 @@
 -- The items of a stream of bytes: what it says, read as a whole text.
-use Rattle.std.specs.Prelude.{ℕ, zero, suc, ◌-◌, ◌%◌, ◌==◌, ◌&&◌, nat_le, Bool, if◌then◌else◌, List, [], ◌∷◌, length, take, sum, slice_index}
+use Rattle.std.specs.Prelude.{ℕ, ◌-◌, ◌%◌, ◌==◌, ◌&&◌, nat_le, Bool, if◌then◌else◌, List, [], ◌∷◌, length, take, sum, slice_index}
+use Rattle.doubled_bytes.specs.Doubled
+use Rattle.doubled_bytes.specs.Doubled.{Run}
+use Rattle.doubled_bytes.specs.Reading.{Reading, reading_by}
+pub use Rattle.doubled_bytes.specs.Reading.{only_rest, with_item}
 use Rattle.dle_framing.specs.Numbers.{dle, stx, etx, ack_byte, nak_byte, least_body, most_body}
 use Rattle.dle_framing.specs.declared.item.Item.{Item}
 use Rattle.dle_framing.specs.declared.item.Item.TheVariants.{Good, Bad, Ack, Nak}
@@ -15,35 +19,13 @@ is_good body =
 abbrev pub item_of : List ℕ → Item (List ℕ)
 item_of body = if is_good body then Good (take (length body - 2) body) else Bad
 
--- The longest run of pieces at the start of a text, a piece being a byte other than DLE, or a pair of DLE. `spelled` has
--- each pair made one byte, and `behind` is the text behind the run. [SW-P-08]
-pub record Run : Type 0 where
-  pub spelled : List ℕ
-  pub behind : List ℕ
-
-abbrev pub with_piece : ℕ → Run → Run
-with_piece byte run = record run { spelled = byte ∷ run.spelled }
-
+-- the longest run by this DLE [SW-P-08]
 abbrev pub longest_run : List ℕ → Run
-longest_run [] = record { spelled = []; behind = [] }
-longest_run (a ∷ []) =
-    if a == dle then record { spelled = []; behind = a ∷ [] }
-    else record { spelled = a ∷ []; behind = [] }
-longest_run (a ∷ b ∷ text) =
-    if a == dle then (if b == dle then with_piece dle (longest_run text)
-    else record { spelled = []; behind = a ∷ b ∷ text })
-    else with_piece a (longest_run (b ∷ text))
+longest_run text = Doubled.longest_run dle text
 
--- what a text says: its items, and the rest that is no whole item yet [profile]
-pub record TextReading : Type 0 where
-  pub items : List (Item (List ℕ))
-  pub rest : List ℕ
-
-abbrev pub only_rest : List ℕ → TextReading
-only_rest text = record { items = []; rest = text }
-
-abbrev pub with_item : Item (List ℕ) → TextReading → TextReading
-with_item item reading = record reading { items = item ∷ reading.items }
+-- what a text says [profile]
+abbrev pub TextReading : Type 0
+TextReading = Reading (Item (List ℕ))
 
 -- Behind DLE STX and a run of pieces: DLE ETX ends the frame and DLE STX starts the next one, where DLE and any other
 -- byte abandon it. Where nothing or a lone DLE follows the run, all from DLE STX on is the rest. [profile]
@@ -72,15 +54,9 @@ by_start goes_on (a ∷ b ∷ text) =
     else goes_on (b ∷ text)
     ) else goes_on (b ∷ text)
 
--- Reading goes on at a shorter text each time, so as many steps as the text has bytes are enough. [profile]
-abbrev pub reading_within : ℕ → List ℕ → TextReading
-reading_within zero text = only_rest text
-reading_within (suc steps) text = by_start (reading_within steps) text
-
--- The reading of a text. It is `by_start reading`, a law that `reads_by_start` states; the steps only show that it ends.
--- [profile]
+-- The reading of a text. It is `by_start reading`, a law that `reads_by_start` states. [profile]
 unfoldable pub reading : List ℕ → TextReading
-reading text = reading_within (length text) text
+reading text = reading_by by_start text
 
 -- the items of a text [profile]
 abbrev pub items : List ℕ → List (Item (List ℕ))

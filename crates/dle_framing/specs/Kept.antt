@@ -1,8 +1,8 @@
 -- What a framer keeps of the rest of a text.
 use Rattle.std.specs.Prelude.{◌≡◌, ℕ, List, [], ◌∷◌, ◌++◌, take}
 use Rattle.dle_framing.specs.Numbers.{dle, stx, most_kept}
-use Rattle.dle_framing.specs.declared.framer.State.{State}
-use Rattle.dle_framing.specs.declared.framer.State.TheVariants.{Outside, OutsideDle, Inside, InsideDle}
+use Rattle.doubled_bytes.specs.declared.state.State.{State}
+use Rattle.doubled_bytes.specs.declared.state.State.TheVariants.{Outside, OutsideDle, Inside, InsideDle}
 use Rattle.dle_framing.specs.Frame.{doubled}
 
 -- A state and the front of a body keep a rest: nothing, a DLE alone, or a frame that has started, maybe with a DLE at

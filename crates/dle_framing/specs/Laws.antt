@@ -1,7 +1,7 @@
 -- The laws of frames and items. The functions of `laws` promise them.
-use mathlib.Core.List.{IsPrefix}
-use Rattle.std.specs.Prelude.{◌≡◌, ℕ, ◌≤◌, List, [], ◌∷◌, ◌++◌, length, map, All}
+use Rattle.std.specs.Prelude.{◌≡◌, ℕ, ◌≤◌, List, [], ◌∷◌, length, map, All}
 use Rattle.std.specs.List.{flat_map}
+use Rattle.doubled_bytes.specs.Laws
 use Rattle.dle_framing.specs.declared.item.Item.{Item}
 use Rattle.dle_framing.specs.declared.item.Item.TheVariants.{Good}
 use Rattle.dle_framing.specs.Numbers.{most_frame}
@@ -10,22 +10,19 @@ use Rattle.dle_framing.specs.Items.{TextReading, by_start, items, reading, rest}
 
 -- a way to read texts that reads each by its start, and what is behind that start in the same way [profile]
 abbrev pub ReadsByStart : (List ℕ → TextReading) → Type 0
-ReadsByStart reads = (text : List ℕ) → reads text ≡ by_start reads text
+ReadsByStart reads = Laws.ReadsByStart by_start reads
 
 -- whatever reads each text by its start reads it as `reading` does [profile]
 abbrev pub OneReadsByStart : Type 0
-OneReadsByStart =
-    (reads : List ℕ → TextReading) → ReadsByStart reads
-    → (text : List ℕ) → reads text ≡ reading text
+OneReadsByStart = Laws.OneReadsByStart by_start reading
 
 -- what a text says once more has come [profile]
-pub record ReadsOn (text more : List ℕ) : Type 0 where
-  pub items_go_on : items (text ++ more) ≡ items text ++ items (rest text ++ more)
-  pub rest_goes_on : rest (text ++ more) ≡ rest (rest text ++ more)
+abbrev pub ReadsOn : List ℕ → List ℕ → Type 0
+ReadsOn text more = Laws.ReadsOn reading text more
 
 -- the items of a text are a front of those of every text that it is a front of [profile]
 abbrev pub ItemsStay : Type 0
-ItemsStay = (text longer : List ℕ) → IsPrefix text longer → IsPrefix (items text) (items longer)
+ItemsStay = Laws.ItemsStay reading
 
 -- a text is read as these items, and no rest [profile]
 pub record IsReadAs (text : List ℕ) (given : List (Item (List ℕ))) : Type 0 where

@@ -1,8 +1,8 @@
 -- What one byte more does to what a framer keeps.
 use Rattle.std.specs.Prelude.{◌≡◌, ℕ, ◌-◌, List, [], ◌∷◌, ◌++◌, length, take, Option}
 use Rattle.std.specs.Option.{option_map, option_to_list}
-use Rattle.dle_framing.specs.declared.framer.State.{State}
-use Rattle.dle_framing.specs.declared.framer.State.TheVariants.{Outside, OutsideDle, Inside, InsideDle}
+use Rattle.doubled_bytes.specs.declared.state.State.{State}
+use Rattle.doubled_bytes.specs.declared.state.State.TheVariants.{Outside, OutsideDle, Inside, InsideDle}
 use Rattle.dle_framing.specs.declared.item.Item.{Item}
 use Rattle.dle_framing.specs.declared.item.Item.TheVariants.{Good, Bad, Ack, Nak}
 use Rattle.dle_framing.specs.Items.{items, rest}

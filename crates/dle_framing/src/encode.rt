@@ -1,11 +1,12 @@
 //! A frame of DATA: how long it is, and its bytes.
-ghost use Rattle.std.specs.Prelude.{◌≡◌, ◌+◌, ◌*◌, ◌≤◌, ◌==◌, [], ◌∷◌, ◌++◌, length};
+ghost use Rattle.std.specs.Prelude.{◌≡◌, ◌+◌, ◌*◌, ◌≤◌, ◌==◌, ◌++◌, length};
 ghost use Rattle.std.specs.Prelude.{IfSome, IfNone, count_by, vec_len, vec_capacity};
 ghost use Rattle.dle_framing.specs.Numbers.{dle, most_data};
 ghost use Rattle.dle_framing.specs.Frame.{IsData, doubled, body, frame};
 
 use crate::body::{ending, is_single};
 use crate::control::{DLE, ETX, STX};
+use doubled_bytes::push_doubled;
 use std::mem::{forget, replace};
 
 /// How many bytes the frame of these DATA has, which is the room that `encode_frame` asks for.
@@ -77,35 +78,10 @@ fn encode_by_bytes(bytes: &[u8], out: &mut Vec<u8>)
 {
     out.push_reserved(DLE);
     out.push_reserved(STX);
-    push_doubled(bytes, out);
-    push_doubled(&ending(bytes), out);
+    push_doubled(DLE, bytes, out);
+    push_doubled(DLE, &ending(bytes), out);
     out.push_reserved(DLE);
     out.push_reserved(ETX);
-}
-
-// Appends bytes of a body, each DLE twice.
-#[inline(always)]
-fn push_doubled(bytes: &[u8], out: &mut Vec<u8>)
-    requires { vec_len out.old + length (doubled bytes.now) ≤ vec_capacity out.old }
-    ensures doubled { out.new.items ≡ out.old.items ++ doubled bytes.now }
-    ensures room { vec_capacity out.new ≡ vec_capacity out.old }
-{
-    for byte in bytes {
-        push_byte(*byte, out);
-    }
-}
-
-// Appends a byte of a body.
-#[inline(always)]
-fn push_byte(byte: u8, out: &mut Vec<u8>)
-    requires { vec_len out.old + length (doubled (byte ∷ [])) ≤ vec_capacity out.old }
-    ensures doubled { out.new.items ≡ out.old.items ++ doubled (byte ∷ []) }
-    ensures room { vec_capacity out.new ≡ vec_capacity out.old }
-{
-    out.push_reserved(byte);
-    if byte == DLE {
-        out.push_reserved(DLE);
-    }
 }
 
 // How many bytes these are once each DLE is sent twice.

@@ -13,19 +13,7 @@ use crate::front::Front;
 use crate::item::Item;
 use crate::place::dle_place;
 use crate::start::behind_start;
-
-// Where in a stream the last byte was.
-#[derive(Clone, Copy)]
-enum State {
-    // Outside a frame, with nothing pending.
-    Outside,
-    // Outside a frame, behind a DLE.
-    OutsideDle,
-    // In a frame, behind whole pieces of its body.
-    Inside,
-    // In a frame, behind a DLE that no piece has taken.
-    InsideDle,
-}
+use doubled_bytes::State;
 
 /// Gives the items of a stream of bytes, in whatever pieces it comes. It stands for the text that it was fed, of which it
 /// keeps at most 258 bytes, however long a frame is. It has these bytes, their number and their sum and nothing else, so no

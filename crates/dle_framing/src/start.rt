@@ -1,6 +1,7 @@
 //! How a text starts: with DLE STX, or with a piece of a frame's body, which is a byte other than DLE or a pair of DLE.
 ghost use Rattle.std.specs.Prelude.{◌≡◌, ℕ, ◌<◌, List, [], ◌∷◌, length, MatchOption, IfSome};
-ghost use Rattle.dle_framing.specs.Items.{longest_run, with_piece};
+ghost use Rattle.doubled_bytes.specs.Doubled.{with_piece};
+ghost use Rattle.dle_framing.specs.Items.{longest_run};
 
 use crate::control::{DLE, STX};
 

@@ -4,8 +4,9 @@ use Rattle.std.specs.Option.{option_map, option_to_list}
 use Rattle.std.proofs.lemmas.Bool.Decides.{eqb_tells}
 use Rattle.std.proofs.lemmas.List.{append-nil, append_assoc}
 use Rattle.dle_framing.specs.Numbers.{dle, stx, etx, ack_byte, nak_byte, most_kept}
-use Rattle.dle_framing.specs.declared.framer.State.{State}
-use Rattle.dle_framing.specs.declared.framer.State.TheVariants.{Outside, OutsideDle, Inside, InsideDle}
+use Rattle.doubled_bytes.proofs.Runs.{doubled-push}
+use Rattle.doubled_bytes.specs.declared.state.State.{State}
+use Rattle.doubled_bytes.specs.declared.state.State.TheVariants.{Outside, OutsideDle, Inside, InsideDle}
 use Rattle.dle_framing.specs.declared.item.Item.{Item}
 use Rattle.dle_framing.specs.declared.item.Item.TheVariants.{Good, Bad, Ack, Nak}
 use Rattle.dle_framing.specs.Frame.{doubled}
@@ -16,7 +17,7 @@ use Rattle.dle_framing.proofs.Readings.{reading-noise}
 use Rattle.dle_framing.proofs.LawLemmas.{reads_on_lem}
 use Rattle.dle_framing.proofs.FeedLemmas.{noise_none}
 use Rattle.dle_framing.proofs.StepLemmas.{outside-dle, control-dle, control-start, control-ack, control-nak, control-noise, inside-dle, inner-pair, inner-start, inner-end}
-use Rattle.dle_framing.proofs.StepLemmas.{inner-abandoned, reading-open, doubled-push, keeps_byte, rest-nil}
+use Rattle.dle_framing.proofs.StepLemmas.{inner-abandoned, reading-open, keeps_byte, rest-nil}
 
 -- One byte behind a text of which this is kept makes a step.
 record StepsSo (state : State) (front : List ℕ) (byte : ℕ) : Type 0 where
@@ -48,7 +49,7 @@ unfolding Steps
 inside-byte front byte other kept keeps =
     let body = keeps.0 in
     let text : kept ++ byte ∷ [] ≡ dle ∷ stx ∷ doubled (body ++ byte ∷ []) =
-    ap (λ (kept : List ℕ). kept ++ byte ∷ []) keeps.2 ∙ ap (λ (text : List ℕ). dle ∷ stx ∷ text) (doubled-push body byte other) in
+    ap (λ (kept : List ℕ). kept ++ byte ∷ []) keeps.2 ∙ ap (λ (text : List ℕ). dle ∷ stx ∷ text) (doubled-push dle body byte other) in
     let step = stepped (kept ++ byte ∷ []) (dle ∷ stx ∷ doubled (body ++ byte ∷ [])) (ap reading text ∙ reading-open (body ++ byte ∷ [])) in
     (step.0, (body ++ byte ∷ [], keeps_byte front byte (take most_kept (front ++ byte ∷ [])) refl body keeps.1, step.1))
 

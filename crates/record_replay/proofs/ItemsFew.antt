@@ -5,8 +5,8 @@ use Rattle.dle_framing.specs.Numbers.{dle, stx, etx, ack_byte, nak_byte}
 use Rattle.dle_framing.specs.Frame.{doubled}
 use Rattle.dle_framing.specs.declared.item.Item.TheVariants.{Ack, Nak}
 use Rattle.dle_framing.specs.Items.{TextReading, by_start, in_frame, item_of, items, longest_run, only_rest, reading, with_item}
-use Rattle.dle_framing.proofs.Runs.{Stops, doubled-longest_run, longest_run-stops}
-use Rattle.dle_framing.proofs.Readings.{reading-by_start, length-behind}
+use Rattle.dle_framing.proofs.Runs.{Stops, doubled-longest_run, longest_run-stops, length-behind}
+use Rattle.dle_framing.proofs.Readings.{reading-by_start}
 use Rattle.record_replay.specs.ReplayerInside.{is_end, ends_behind, ends_in}
 
 more_least : (yes : Bool) (n : ℕ) → n ≤ (if yes then suc n else n)
@@ -56,13 +56,13 @@ ends_more byte end text is ends =
 ends_in-run : (b : ℕ) (text : List ℕ) → ends_in (longest_run text).behind ≤ ends_behind true (b ∷ text)
 ends_in-run b text =
     let run = longest_run text in
-    subst (λ (text : List ℕ). ends_in run.behind ≤ ends_behind true (b ∷ text)) (doubled-longest_run text) (ends_behind-behind true (b ∷ doubled run.spelled) run.behind)
+    subst (λ (text : List ℕ). ends_in run.behind ≤ ends_behind true (b ∷ text)) (doubled-longest_run dle text) (ends_behind-behind true (b ∷ doubled run.spelled) run.behind)
 
 either_few : (n : ℕ) (yes : Bool) (one other : TextReading) → (yes ≡ true → length one.items ≤ n) → length other.items ≤ n → length (if yes then one else other).items ≤ n
 either_few n true one other few_one few_other = few_one refl
 either_few n false one other few_one few_other = few_other
 
-frame_few : (goes_on : List ℕ → TextReading) (text spelled behind : List ℕ) (n : ℕ) → Stops behind → ends_in behind ≤ n → ((t : List ℕ) → length t ≤ length behind → length (goes_on t).items ≤ ends_in t)
+frame_few : (goes_on : List ℕ → TextReading) (text spelled behind : List ℕ) (n : ℕ) → Stops dle behind → ends_in behind ≤ n → ((t : List ℕ) → length t ≤ length behind → length (goes_on t).items ≤ ends_in t)
     → length (in_frame goes_on text (record { spelled = spelled; behind = behind })).items ≤ n
 frame_few goes_on text spelled [] n stops within few = omega arith
 frame_few goes_on text spelled (a ∷ []) n stops within few = omega arith
@@ -93,7 +93,7 @@ start_few goes_on (a ∷ b ∷ text) few =
     (either_few n (b == nak_byte) (with_item Nak (goes_on text)) framed
     (λ is. omega (arith, control, all, ends_more b nak_byte text is refl))
     (either_few n (b == stx) (in_frame goes_on text (longest_run text)) (goes_on (b ∷ text))
-    (λ is. frame_few goes_on text (longest_run text).spelled (longest_run text).behind n (longest_run-stops text) (omega (arith, all, ends_in-run b text)) (λ t within. few t (omega (arith, within, length-behind text))))
+    (λ is. frame_few goes_on text (longest_run text).spelled (longest_run text).behind n (longest_run-stops dle text) (omega (arith, all, ends_in-run b text)) (λ t within. few t (omega (arith, within, length-behind dle text))))
     next)))
     next
 

@@ -41,7 +41,7 @@ body_ends (a ∷ bytes) =
     (omega (arith, few.1), omega (arith, few.1))
     (λ other.
     let behind : ends_behind (a == dle) rest ≡ ends_in rest = ap (λ (dle_before : Bool). ends_behind dle_before rest) other in
-    subst (λ (sent : List ℕ). HasFewEnds (a ∷ bytes) sent) (sym (doubled-byte a bytes other))
+    subst (λ (sent : List ℕ). HasFewEnds (a ∷ bytes) sent) (sym (doubled-byte dle a bytes other))
     (omega (arith, few.0, behind), omega (arith, few.0, behind, more_most (is_end a) (ends_behind (a == dle) rest))))
 
 -- A frame of so few DATA needs no more than the shortest line of a take.

@@ -2,19 +2,21 @@
 use Rattle.std.proofs.Common.{◌≡◌, ℕ, ◌+◌, ◌-◌, ◌≤◌, ◌<◌, true, false, List, [], ◌∷◌, ◌++◌, length, take, drop, get_or, Some, None, refl, sym, ap, ◌∙◌, subst, arith}
 use Rattle.std.specs.Option.{option_map, option_to_list, is_some}
 use Rattle.std.proofs.lemmas.Bool.{false≢true}
-use Rattle.std.proofs.lemmas.List.{append-nil, append_assoc, length-append, nil_from_length, length-drop, take_more, take_rest, take-take, take-append-drop, drop-take}
+use Rattle.std.proofs.lemmas.List.{append-nil, append_assoc, length-drop, take_more, take_rest, take-take, take-append-drop, drop-take}
 use Rattle.std.proofs.lemmas.List.Concat.{flat_map-append}
 use Rattle.tsl_stream.specs.Numbers.{tsl_dle, tsl_stx}
 use Rattle.tsl_stream.specs.Stream.{stuffed}
 use Rattle.tsl_stream.specs.declared.reader.StreamReader.{StreamReader}
-use Rattle.tsl_stream.specs.declared.state.State.{State}
-use Rattle.tsl_stream.specs.declared.state.State.TheVariants.{Outside, Inside}
-use Rattle.tsl_stream.specs.Items.{PacketItem, StreamReading, only_stream_rest, packet_size, stream_reading, stream_items, stream_rest}
+use Rattle.doubled_bytes.specs.declared.state.State.{State}
+use Rattle.doubled_bytes.specs.declared.state.State.TheVariants.{Outside, Inside}
+use Rattle.doubled_bytes.specs.Reading.{only_rest}
+use Rattle.tsl_stream.specs.Items.{PacketItem, StreamReading, packet_size, stream_reading, stream_items, stream_rest}
 use Rattle.tsl_stream.specs.Kept.{KeepsPacket}
 use Rattle.tsl_stream.specs.StepsInside.{found_in, Steps}
 use Rattle.tsl_stream.specs.Reader.{StandsForStream}
 use Rattle.tsl_stream.specs.ReaderInside.{PassesOver}
 use Rattle.tsl_stream.specs.Feeding.{FeedsStream}
+use Rattle.doubled_bytes.proofs.Feeds.{feeds_item}
 use Rattle.tsl_stream.proofs.Packets.{open-append}
 use Rattle.tsl_stream.proofs.LawLemmas.{reads_on_lem}
 use Rattle.tsl_stream.proofs.StepLemmas.{Found, stream_reading-kept}
@@ -52,13 +54,13 @@ passes_byte piece used byte a b c within is before behind =
     subst P (ap (λ (byte : ℕ). take used piece ++ byte ∷ []) is ∙ sym (take_more piece used 0 within)) (passes_append (take used piece) (byte ∷ []) a b c before behind)
 
 -- bytes that are all noise pass outside a packet
-pub passes_noise : (bytes : List ℕ) (reader : StreamReader) → reader.state ≡ Outside → stream_reading bytes ≡ only_stream_rest [] → PassesOver bytes reader reader
+pub passes_noise : (bytes : List ℕ) (reader : StreamReader) → reader.state ≡ Outside → stream_reading bytes ≡ only_rest [] → PassesOver bytes reader reader
 unfolding StandsForStream
 passes_noise bytes reader outside noise text stands =
     let Kept : List ℕ → Type 0 = λ kept. KeepsPacket reader.state reader.front kept in
     let none : stream_rest text ≡ [] = (let P : State → Type 0 = λ state. KeepsPacket state reader.front (stream_rest text) in subst P outside stands) in
     let on = reads_on_lem text bytes in
-    let behind : stream_reading (stream_rest text ++ bytes) ≡ only_stream_rest [] = ap (λ (kept : List ℕ). stream_reading (kept ++ bytes)) none ∙ noise in (
+    let behind : stream_reading (stream_rest text ++ bytes) ≡ only_rest [] = ap (λ (kept : List ℕ). stream_reading (kept ++ bytes)) none ∙ noise in (
       on.items_go_on ∙ ap (λ (behind : StreamReading). stream_items text ++ behind.items) behind ∙ append-nil (stream_items text),
       subst Kept (none ∙ sym (on.rest_goes_on ∙ ap (λ (behind : StreamReading). behind.rest) behind)) stands,
     )
@@ -75,7 +77,7 @@ passes_body bytes before after inside still single few grown text stands =
     ap (λ (rest : List ℕ). rest ++ bytes) kept.1
     ∙ ap (λ (bytes : List ℕ). tsl_dle ∷ tsl_stx ∷ (stuffed before.front ++ bytes)) (sym single)
     ∙ ap (λ (text : List ℕ). tsl_dle ∷ tsl_stx ∷ text) (sym (flat_map-append _ before.front bytes)) in
-    let behind : stream_reading (stream_rest text ++ bytes) ≡ only_stream_rest (tsl_dle ∷ tsl_stx ∷ stuffed front) = ap stream_reading spelled ∙ stream_reading-kept front is_open in
+    let behind : stream_reading (stream_rest text ++ bytes) ≡ only_rest (tsl_dle ∷ tsl_stx ∷ stuffed front) = ap stream_reading spelled ∙ stream_reading-kept front is_open in
     let keeps : KeepsPacket Inside front (stream_rest (text ++ bytes)) = (is_open, on.rest_goes_on ∙ ap (λ (behind : StreamReading). behind.rest) behind) in (
       on.items_go_on ∙ ap (λ (behind : StreamReading). stream_items text ++ behind.items) behind ∙ append-nil (stream_items text),
       (let P : State → Type 0 = λ state. KeepsPacket state after.front (stream_rest (text ++ bytes)) in
@@ -102,40 +104,6 @@ passes_step byte before after steps text stands =
     let step = steps_at byte None before after steps text stands in
     (step.0 ∙ append-nil (stream_items text), step.1)
 
--- Where no item ends in a front of a piece, none ends in a shorter front.
-none_before : (text piece : List ℕ) (n m : ℕ) → n ≤ m → stream_items (text ++ take m piece) ≡ stream_items text → stream_items (text ++ take n piece) ≡ stream_items text
-none_before text piece n m within none =
-    let split : take n piece ++ drop n (take m piece) ≡ take m piece = ap (λ (front : List ℕ). front ++ drop n (take m piece)) (sym (take-take n m piece within)) ∙ take-append-drop n (take m piece) in
-    let first = reads_on_lem text (take n piece) in
-    let second = reads_on_lem (text ++ take n piece) (drop n (take m piece)) in
-    let joins : (text ++ take n piece) ++ drop n (take m piece) ≡ text ++ take m piece = append_assoc text (take n piece) (drop n (take m piece)) ∙ ap (λ (front : List ℕ). text ++ front) split in
-    let more = stream_items (stream_rest text ++ take n piece) in
-    let last = stream_items (stream_rest (text ++ take n piece) ++ drop n (take m piece)) in
-    let whole : stream_items text ≡ stream_items (text ++ take n piece) ++ last = sym none ∙ ap stream_items (sym joins) ∙ second.items_go_on in
-    let empty : more ≡ [] = nil_from_length more (omega (arith, ap (length {A = PacketItem}) whole, ap (length {A = PacketItem}) first.items_go_on, length-append (stream_items (text ++ take n piece)) last, length-append (stream_items text) more)) in
-    first.items_go_on ∙ ap (λ (more : List PacketItem). stream_items text ++ more) empty ∙ append-nil (stream_items text)
-
--- a piece in which no item ends
-pub feeds_none : (text piece : List ℕ) (n : ℕ) → n ≡ length piece → stream_items (text ++ take n piece) ≡ stream_items text → FeedsStream text piece n None
-feeds_none text piece n all none = record {
-  within = omega arith;
-  adds = none ∙ sym (append-nil (stream_items text));
-  is_first = λ k below. none_before text piece k n (omega arith) none;
-  uses_all = λ _. all;
-}
-
--- a piece in which an item ends behind a front in which none ends
-pub feeds_item : (text piece : List ℕ) (n byte : ℕ) (item : PacketItem) → n < length piece → byte ≡ get_or piece n 0 → stream_items (text ++ take n piece) ≡ stream_items text
-    → stream_items ((text ++ take n piece) ++ byte ∷ []) ≡ stream_items (text ++ take n piece) ++ item ∷ [] → FeedsStream text piece (n + 1) (Some item)
-feeds_item text piece n byte item within is none ends =
-    let front : take (n + 1) piece ≡ take n piece ++ byte ∷ [] = take_more piece n 0 within ∙ ap (λ (byte : ℕ). take n piece ++ byte ∷ []) (sym is) in
-    record {
-      within = omega arith;
-      adds = ap (λ (front : List ℕ). stream_items (text ++ front)) front ∙ ap stream_items (sym (append_assoc text (take n piece) (byte ∷ []))) ∙ ends ∙ ap (λ (before : List PacketItem). before ++ item ∷ []) none;
-      is_first = λ k below. none_before text piece k n (omega arith) none;
-      uses_all = λ is_none. cc;
-    }
-
 -- A piece whose items end with a byte behind a front in which none ends, by a step there.
 pub feeds_step : (piece : List ℕ) (used byte : ℕ) (item : Found) (a b c : StreamReader) → used < length piece → byte ≡ get_or piece used 0 → PassesOver (take used piece) a b
     → Steps b.state b.front byte item c.state c.front → is_some item ≡ true → (text : List ℕ) → StandsForStream a text
@@ -147,7 +115,7 @@ feeds_step piece used byte (Some item) a b c within is passes steps some text st
     let front : (text ++ take used piece) ++ byte ∷ [] ≡ text ++ take (used + 1) piece =
     append_assoc text (take used piece) (byte ∷ []) ∙ ap (λ (front : List ℕ). text ++ front) (ap (λ (byte : ℕ). take used piece ++ byte ∷ []) is ∙ sym (take_more piece used 0 within)) in
     let P : List ℕ → Type 0 = StandsForStream c in
-    (feeds_item text piece used byte (found_in c.front item) within is before.0 step.0, subst P front step.1)
+    (feeds_item stream_reading reads_on_lem text piece used byte (found_in c.front item) within is before.0 step.0, subst P front step.1)
 
 pub none_from_test : (item : Found) → is_some item ≡ false → item ≡ None
 none_from_test None none = refl

@@ -7,7 +7,7 @@ use Rattle.tsl_stream.specs.Numbers.{tsl_dle}
 use Rattle.tsl_stream.specs.Stream.{stuffed}
 use Rattle.tsl_stream.specs.WritingInside.{half_after}
 use Rattle.tsl_stream.proofs.FeedLemmas.{take-add}
-use Rattle.tsl_stream.proofs.Runs.{at_byte, stuffed-byte}
+use Rattle.doubled_bytes.proofs.Runs.{at_byte, doubled-byte}
 
 -- bytes of which a front was appended, and then more of them
 pub front_more : (bytes part : List ℕ) (taken n : ℕ) (before mid now : Option (List ℕ)) → mid ≡ appended before (take taken bytes) → part ≡ drop taken bytes → now ≡ appended mid (take n part) → now ≡ appended before (take (taken + n) bytes)
@@ -35,4 +35,4 @@ half_after-doubled [] = refl
 half_after-doubled (a ∷ bytes) =
     at_byte tsl_dle (λ a. half_after false (stuffed (a ∷ bytes)) ≡ false) a
     (half_after-doubled bytes)
-    (λ other. ap (half_after false) (stuffed-byte a bytes other) ∙ ap (λ (is : Bool). half_after (is && true) (stuffed bytes)) other ∙ half_after-doubled bytes)
+    (λ other. ap (half_after false) (doubled-byte tsl_dle a bytes other) ∙ ap (λ (is : Bool). half_after (is && true) (stuffed bytes)) other ∙ half_after-doubled bytes)

@@ -3,11 +3,13 @@ use Rattle.std.proofs.Common.{◌≡◌, ℕ, ◌+◌, ◌≤◌, ◌<◌, ⊎_e
 use Rattle.std.proofs.lemmas.Bool.{cases_lt}
 use Rattle.std.proofs.lemmas.List.{length-append, length-take-le, take-append-drop}
 use Rattle.tsl_umd5.specs.Layout.{max_packet}
+use Rattle.tsl_stream.specs.Numbers.{tsl_dle}
 use Rattle.tsl_stream.specs.Stream.{stuffed}
 use Rattle.tsl_stream.specs.Items.{packet_run, behind_pieces, packet_size}
 use Rattle.tsl_stream.specs.Kept.{IsOpen}
 use Rattle.tsl_stream.specs.StepsInside.{IsReached}
-use Rattle.tsl_stream.proofs.Runs.{stuffed-packet_run, behind_pieces-split, Stops, packet_run-stops}
+use Rattle.doubled_bytes.proofs.Runs.{doubled-longest_run, Stops, longest_run-stops}
+use Rattle.tsl_stream.proofs.Runs.{behind_pieces-split}
 
 -- a packet that has all the bytes that it wants
 pub record IsWhole (front : List ℕ) : Type 0 where
@@ -76,7 +78,7 @@ open-reached front byte is_open = ⊎_elim
 pub packet_cases : (P : List ℕ → Type 0)
     → ((body tail : List ℕ) → IsTooLong body → P (stuffed body ++ tail))
     → ((body tail : List ℕ) → IsWhole body → P (stuffed body ++ tail))
-    → ((body behind : List ℕ) → IsOpen body → Stops behind → P (stuffed body ++ behind))
+    → ((body behind : List ℕ) → IsOpen body → Stops tsl_dle behind → P (stuffed body ++ behind))
     → (text : List ℕ) → P text
 packet_cases P too_long whole is_open text =
     let run = packet_run text in
@@ -90,7 +92,7 @@ packet_cases P too_long whole is_open text =
     })))
     (cases_lt (length run.spelled) 2))
     (λ (fits : n ≤ max_packet). ⊎_elim
-    (λ (more : length run.spelled < n). subst P (stuffed-packet_run text) (is_open run.spelled run.behind (record { more = more; fits = fits }) (packet_run-stops text)))
+    (λ (more : length run.spelled < n). subst P (doubled-longest_run tsl_dle text) (is_open run.spelled run.behind (record { more = more; fits = fits }) (longest_run-stops tsl_dle text)))
     (λ (all : n ≤ length run.spelled).
     let same : packet_size (take n run.spelled) ≡ n = packet_size-take n run.spelled (packet_size-least run.spelled) all in
     subst P (behind_pieces-split n text) (whole (take n run.spelled) (behind_pieces n run) (record {

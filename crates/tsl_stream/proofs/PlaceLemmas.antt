@@ -5,15 +5,16 @@ use Rattle.std.proofs.lemmas.Bool.{ne_eqb}
 use Rattle.memchr.specs.Find.{IsFirstByte, Nowhere, Passes, is_byte}
 use Rattle.tsl_stream.specs.Numbers.{tsl_dle}
 use Rattle.tsl_stream.specs.Stream.{stuffed}
-use Rattle.tsl_stream.specs.Items.{only_stream_rest, stream_reading}
-use Rattle.tsl_stream.proofs.Runs.{stuffed-byte}
+use Rattle.doubled_bytes.specs.Reading.{only_rest}
+use Rattle.tsl_stream.specs.Items.{stream_reading}
+use Rattle.doubled_bytes.proofs.Runs.{doubled-byte}
 use Rattle.tsl_stream.proofs.Readings.{stream_reading-by_packet_start, stream_reading-noise}
 
 -- none of the first n bytes is DLE
 abbrev pub NoDle : List ℕ → ℕ → Type 0
 NoDle text n = (k : ℕ) → k < n → nat_eq (get_or text k 0) tsl_dle ≡ false
 
-pub noise_take : (text : List ℕ) (n : ℕ) → NoDle text n → stream_reading (take n text) ≡ only_stream_rest []
+pub noise_take : (text : List ℕ) (n : ℕ) → NoDle text n → stream_reading (take n text) ≡ only_rest []
 noise_take text zero no_dle = stream_reading-by_packet_start []
 noise_take [] (suc n) no_dle = stream_reading-by_packet_start []
 noise_take (byte ∷ text) (suc n) no_dle = stream_reading-noise byte (take n text) (no_dle 0 (omega arith)) ∙ noise_take text n (λ k below. no_dle (suc k) (omega arith))
@@ -21,7 +22,7 @@ noise_take (byte ∷ text) (suc n) no_dle = stream_reading-noise byte (take n te
 pub single_take : (text : List ℕ) (n : ℕ) → NoDle text n → stuffed (take n text) ≡ take n text
 single_take text zero no_dle = refl
 single_take [] (suc n) no_dle = refl
-single_take (byte ∷ text) (suc n) no_dle = stuffed-byte byte (take n text) (no_dle 0 (omega arith)) ∙ ap (λ (text : List ℕ). byte ∷ text) (single_take text n (λ k below. no_dle (suc k) (omega arith)))
+single_take (byte ∷ text) (suc n) no_dle = doubled-byte tsl_dle byte (take n text) (no_dle 0 (omega arith)) ∙ ap (λ (text : List ℕ). byte ∷ text) (single_take text n (λ k below. no_dle (suc k) (omega arith)))
 
 no_dle_from : (text : List ℕ) (n : ℕ) → Nowhere (Passes (is_byte tsl_dle) text) 0 n → NoDle text n
 no_dle_from text n none k below = ne_eqb (get_or text k 0) tsl_dle (λ is. none k (omega arith) below (ap (λ (byte : ℕ). byte == tsl_dle) is))

@@ -9,13 +9,14 @@ use Rattle.ctl_io.specs.Sink.{IsUnwritten}
 use Rattle.tsl_umd5.specs.Packet.{IsPacketText}
 use Rattle.tsl_stream.specs.Numbers.{tsl_dle, tsl_stx}
 use Rattle.tsl_stream.specs.Stream.{stuffed, stream_text}
-use Rattle.tsl_stream.specs.Items.{PacketItem, Packet, StreamReading, only_stream_rest, with_stream_item, stream_reading, stream_items, stream_rest}
+use Rattle.doubled_bytes.specs.Reading.{only_rest, with_item}
+use Rattle.tsl_stream.specs.Items.{PacketItem, Packet, StreamReading, stream_reading, stream_items, stream_rest}
 use Rattle.tsl_stream.specs.Kept.{IsOpen}
 use Rattle.tsl_stream.specs.WritingInside.{half_after}
 use Rattle.tsl_stream.specs.Laws.{stream_texts}
 use Rattle.tsl_stream.specs.Port.{LeavesRest, HasPackets, IsJust}
 use Rattle.tsl_stream.specs.WritingInside.{sent_text}
-use Rattle.tsl_stream.proofs.Runs.{at_byte, stuffed-byte}
+use Rattle.doubled_bytes.proofs.Runs.{at_byte, doubled-byte}
 use Rattle.tsl_stream.proofs.Packets.{IsWhole, packet_size-short, packet_size-take}
 use Rattle.tsl_stream.proofs.Readings.{stream_reading-by_packet_start, stream_reading-noise, stream_reading-noise_dle, stream_reading-open, stream_reading-broken}
 use Rattle.tsl_stream.proofs.LawLemmas.{reads_on_lem, reads_back_lem, packet_whole}
@@ -24,7 +25,7 @@ use Rattle.tsl_stream.proofs.HalfLemmas.{half_after-append, half_after-doubled}
 
 -- ---- what a port left
 
-left_is : (half : Bool) (left : List ℕ) → LeavesRest half left → stream_reading left ≡ only_stream_rest left
+left_is : (half : Bool) (left : List ℕ) → LeavesRest half left → stream_reading left ≡ only_rest left
 left_is false left leaves = ⊎_elim
     (λ (none : left ≡ []). rw none (stream_reading-by_packet_start []))
     (λ (kept : (front : List ℕ) × IsOpen front × (left ≡ tsl_dle ∷ tsl_stx ∷ stuffed front)). rw kept.2 (stream_reading-kept kept.0 kept.1))
@@ -50,7 +51,7 @@ cleared left more leaves = ⊎_elim
     leaves
 
 -- a DLE behind what isn't half of a pair
-halved : (left : List ℕ) → LeavesRest false left → (stream_reading (left ++ tsl_dle ∷ []) ≡ only_stream_rest (left ++ tsl_dle ∷ [])) × LeavesRest true (left ++ tsl_dle ∷ [])
+halved : (left : List ℕ) → LeavesRest false left → (stream_reading (left ++ tsl_dle ∷ []) ≡ only_rest (left ++ tsl_dle ∷ [])) × LeavesRest true (left ++ tsl_dle ∷ [])
 halved left leaves = ⊎_elim
     (λ (none : left ≡ []). rw none (stream_reading-by_packet_start (tsl_dle ∷ []), inl refl))
     (λ (kept : (front : List ℕ) × IsOpen front × (left ≡ tsl_dle ∷ tsl_stx ∷ stuffed front)). rw kept.2 (stream_reading-open kept.0 (tsl_dle ∷ []) kept.1 refl, inr (kept.0, kept.1, refl)))
@@ -92,8 +93,8 @@ doubled_cut (a ∷ bytes) (suc k) few =
     at_byte tsl_dle (λ a. suc k < length (stuffed (a ∷ bytes)) → Cut (a ∷ bytes) (take (suc k) (stuffed (a ∷ bytes)))) a
     (dle_cut bytes k (doubled_cut bytes))
     (λ other few.
-    let same = stuffed-byte a bytes other in
-    rw same (more_cut a bytes (take k (stuffed bytes)) (a ∷ []) (stuffed-byte a [] other) (doubled_cut bytes k (omega (arith, few, ap (length {A = ℕ}) same)))))
+    let same = doubled-byte tsl_dle a bytes other in
+    rw same (more_cut a bytes (take k (stuffed bytes)) (a ∷ []) (doubled-byte tsl_dle a [] other) (doubled_cut bytes k (omega (arith, few, ap (length {A = ℕ}) same)))))
     few
 
 -- fewer bytes of a packet than it has are open
@@ -110,12 +111,12 @@ open-take packet n whole few =
 
 -- what a cut packet leaves behind its start
 cut_leaves : (packet : List ℕ) (k : ℕ) → IsWhole packet → k < length (stuffed packet)
-    → (stream_reading (tsl_dle ∷ tsl_stx ∷ take k (stuffed packet)) ≡ only_stream_rest (tsl_dle ∷ tsl_stx ∷ take k (stuffed packet))) × LeavesRest (half_after false (take k (stuffed packet))) (tsl_dle ∷ tsl_stx ∷ take k (stuffed packet))
+    → (stream_reading (tsl_dle ∷ tsl_stx ∷ take k (stuffed packet)) ≡ only_rest (tsl_dle ∷ tsl_stx ∷ take k (stuffed packet))) × LeavesRest (half_after false (take k (stuffed packet))) (tsl_dle ∷ tsl_stx ∷ take k (stuffed packet))
 cut_leaves packet k whole few =
     let cut = doubled_cut packet k few in
     let front = take cut.count packet in
     let is_open = open-take packet cut.count whole cut.fewer in
-    let P : List ℕ → Type 0 = λ sent. (stream_reading (tsl_dle ∷ tsl_stx ∷ sent) ≡ only_stream_rest (tsl_dle ∷ tsl_stx ∷ sent)) × LeavesRest (half_after false sent) (tsl_dle ∷ tsl_stx ∷ sent) in ⊎_elim
+    let P : List ℕ → Type 0 = λ sent. (stream_reading (tsl_dle ∷ tsl_stx ∷ sent) ≡ only_rest (tsl_dle ∷ tsl_stx ∷ sent)) × LeavesRest (half_after false sent) (tsl_dle ∷ tsl_stx ∷ sent) in ⊎_elim
     (λ (pairs : take k (stuffed packet) ≡ stuffed front).
     let Q : Bool → Type 0 = λ half. LeavesRest half (tsl_dle ∷ tsl_stx ∷ stuffed front) in
     subst P (sym pairs) (stream_reading-kept front is_open, subst Q (sym (half_after-doubled front)) (inr (front, is_open, refl))))
@@ -129,7 +130,7 @@ cut_leaves packet k whole few =
 
 -- Bytes behind what was left add no item, and leave this.
 abbrev Part : Bool → List ℕ → List ℕ → Type 0
-Part half left sent = (next : List ℕ) × (stream_reading (left ++ sent) ≡ only_stream_rest next) × LeavesRest (half_after half sent) next
+Part half left sent = (next : List ℕ) × (stream_reading (left ++ sent) ≡ only_rest next) × LeavesRest (half_after half sent) next
 
 part_plain : (left packet : List ℕ) (k : ℕ) → LeavesRest false left → IsWhole packet → k < length (stream_text packet) → Part false left (take k (stream_text packet))
 part_plain left packet zero leaves whole few = (left, ap stream_reading (append-nil left) ∙ left_is false left leaves, leaves)
@@ -145,10 +146,10 @@ part true left packet (suc k) leaves whole few =
     let on = part_plain [] packet k (inl refl) whole (omega (arith, few)) in
     (on.0, cleared left (take k (stream_text packet)) leaves ∙ on.1, on.2)
 
-reads_alone : (packet : List ℕ) → IsPacketText packet → stream_reading (stream_text packet) ≡ with_stream_item (Packet packet) (only_stream_rest [])
-reads_alone packet is = ap stream_reading (sym (append-nil (stream_text packet))) ∙ reads_back_lem packet is [] ∙ ap (with_stream_item (Packet packet)) (stream_reading-by_packet_start [])
+reads_alone : (packet : List ℕ) → IsPacketText packet → stream_reading (stream_text packet) ≡ with_item (Packet packet) (only_rest [])
+reads_alone packet is = ap stream_reading (sym (append-nil (stream_text packet))) ∙ reads_back_lem packet is [] ∙ ap (with_item (Packet packet)) (stream_reading-by_packet_start [])
 
-whole : (half : Bool) (left packet : List ℕ) → LeavesRest half left → IsPacketText packet → stream_reading (left ++ sent_text half packet) ≡ with_stream_item (Packet packet) (only_stream_rest [])
+whole : (half : Bool) (left packet : List ℕ) → LeavesRest half left → IsPacketText packet → stream_reading (left ++ sent_text half packet) ≡ with_item (Packet packet) (only_rest [])
 whole false left packet leaves is = started_anew left (stuffed packet) leaves ∙ reads_alone packet is
 whole true left packet leaves is = cleared left (stream_text packet) leaves ∙ reads_alone packet is
 

@@ -2,27 +2,21 @@
 use Rattle.std.proofs.Common.{◌≡◌, ℕ, false, nat_eq, List, [], ◌∷◌, ◌++◌, Option, Some, None, Result, refl, sym, ap, ◌∙◌, subst, arith}
 use Rattle.std.specs.Option.{option_map, option_to_list}
 use Rattle.std.proofs.lemmas.List.{append-nil, append_assoc}
-use Rattle.std.proofs.lemmas.List.Concat.{flat_map-append}
 use Rattle.tsl_umd5.specs.declared.fault.TslFault.{TslFault}
 use Rattle.tsl_stream.specs.Numbers.{tsl_dle, tsl_stx}
 use Rattle.tsl_stream.specs.Stream.{stuffed}
-use Rattle.tsl_stream.specs.declared.state.State.{State}
-use Rattle.tsl_stream.specs.declared.state.State.TheVariants.{Outside, OutsideDle, Inside, InsideDle}
-use Rattle.tsl_stream.specs.Items.{StreamReading, only_stream_rest, with_stream_item, stream_reading, stream_items, stream_rest}
+use Rattle.doubled_bytes.specs.declared.state.State.{State}
+use Rattle.doubled_bytes.specs.declared.state.State.TheVariants.{Outside, OutsideDle, Inside, InsideDle}
+use Rattle.doubled_bytes.specs.Reading.{only_rest, with_item}
+use Rattle.tsl_stream.specs.Items.{StreamReading, stream_reading, stream_items, stream_rest}
 use Rattle.tsl_stream.specs.Kept.{IsOpen, KeepsPacket}
 use Rattle.tsl_stream.specs.StepsInside.{found_in, EndsSo, Steps}
-use Rattle.tsl_stream.proofs.Runs.{stuffed-byte}
+use Rattle.doubled_bytes.proofs.Runs.{doubled-push, doubled-push_dle}
 use Rattle.tsl_stream.proofs.Readings.{stream_reading-by_packet_start, stream_reading-noise, stream_reading-noise_dle, stream_reading-open, stream_reading-broken}
 
-pub stuffed-push : (body : List ℕ) (byte : ℕ) → nat_eq byte tsl_dle ≡ false → stuffed body ++ byte ∷ [] ≡ stuffed (body ++ byte ∷ [])
-stuffed-push body byte other = ap (λ (piece : List ℕ). stuffed body ++ piece) (sym (stuffed-byte byte [] other)) ∙ sym (flat_map-append _ body (byte ∷ []))
-
-stuffed-push_dle : (body : List ℕ) → stuffed body ++ tsl_dle ∷ tsl_dle ∷ [] ≡ stuffed (body ++ tsl_dle ∷ [])
-stuffed-push_dle body = sym (flat_map-append _ body (tsl_dle ∷ []))
-
 -- a packet that isn't whole is all rest
-pub stream_reading-kept : (body : List ℕ) → IsOpen body → stream_reading (tsl_dle ∷ tsl_stx ∷ stuffed body) ≡ only_stream_rest (tsl_dle ∷ tsl_stx ∷ stuffed body)
-stream_reading-kept body is_open = let P : List ℕ → Type 0 = λ text. stream_reading (tsl_dle ∷ tsl_stx ∷ text) ≡ only_stream_rest (tsl_dle ∷ tsl_stx ∷ text) in subst P (append-nil (stuffed body)) (stream_reading-open body [] is_open refl)
+pub stream_reading-kept : (body : List ℕ) → IsOpen body → stream_reading (tsl_dle ∷ tsl_stx ∷ stuffed body) ≡ only_rest (tsl_dle ∷ tsl_stx ∷ stuffed body)
+stream_reading-kept body is_open = let P : List ℕ → Type 0 = λ text. stream_reading (tsl_dle ∷ tsl_stx ∷ text) ≡ only_rest (tsl_dle ∷ tsl_stx ∷ text) in subst P (append-nil (stuffed body)) (stream_reading-open body [] is_open refl)
 
 -- a packet has just started
 pub open-none : IsOpen []
@@ -92,8 +86,8 @@ ended front None state ends =
     subst P (sym ends.1) (stepped (tsl_dle ∷ tsl_stx ∷ stuffed front) None Inside front (tsl_dle ∷ tsl_stx ∷ stuffed front) (stream_reading-kept front ends.0) (ends.0, refl))
 ended front (Some item) state ends =
     let P : State → Type 0 = λ state. (stream_items (tsl_dle ∷ tsl_stx ∷ stuffed front) ≡ found_in front item ∷ []) × KeepsPacket state front (stream_rest (tsl_dle ∷ tsl_stx ∷ stuffed front)) in
-    let reads : stream_reading (tsl_dle ∷ tsl_stx ∷ stuffed front) ≡ with_stream_item (found_in front item) (only_stream_rest []) =
-    sym (ap (λ (text : List ℕ). stream_reading (tsl_dle ∷ tsl_stx ∷ text)) (append-nil (stuffed front))) ∙ ends.0 [] ∙ ap (with_stream_item (found_in front item)) (stream_reading-by_packet_start []) in
+    let reads : stream_reading (tsl_dle ∷ tsl_stx ∷ stuffed front) ≡ with_item (found_in front item) (only_rest []) =
+    sym (ap (λ (text : List ℕ). stream_reading (tsl_dle ∷ tsl_stx ∷ text)) (append-nil (stuffed front))) ∙ ends.0 [] ∙ ap (with_item (found_in front item)) (stream_reading-by_packet_start []) in
     subst P (sym ends.1) (stepped (tsl_dle ∷ tsl_stx ∷ stuffed front) (Some item) Outside front [] reads refl)
 
 -- the same, where the last byte was sent so
@@ -108,7 +102,7 @@ unfolding Steps
 inside-byte front byte item state next other grown ends kept keeps =
     step_at kept (tsl_dle ∷ tsl_stx ∷ stuffed front) byte item state next keeps.1
     (ended_by next ((tsl_dle ∷ tsl_stx ∷ stuffed front) ++ byte ∷ []) item state
-    (ap (λ (front : List ℕ). tsl_dle ∷ tsl_stx ∷ stuffed front) grown ∙ sym (ap (λ (text : List ℕ). tsl_dle ∷ tsl_stx ∷ text) (stuffed-push front byte other))) ends)
+    (ap (λ (front : List ℕ). tsl_dle ∷ tsl_stx ∷ stuffed front) grown ∙ sym (ap (λ (text : List ℕ). tsl_dle ∷ tsl_stx ∷ text) (doubled-push tsl_dle front byte other))) ends)
 
 -- what was kept in a packet behind a DLE, and the byte
 inner : (body : List ℕ) (byte : ℕ) → (tsl_dle ∷ tsl_stx ∷ (stuffed body ++ tsl_dle ∷ [])) ++ byte ∷ [] ≡ tsl_dle ∷ tsl_stx ∷ (stuffed body ++ tsl_dle ∷ byte ∷ [])
@@ -119,7 +113,7 @@ unfolding Steps
 inner-pair front item state next grown ends kept keeps =
     step_at kept (tsl_dle ∷ tsl_stx ∷ (stuffed front ++ tsl_dle ∷ [])) tsl_dle item state next keeps.1
     (ended_by next ((tsl_dle ∷ tsl_stx ∷ (stuffed front ++ tsl_dle ∷ [])) ++ tsl_dle ∷ []) item state
-    (ap (λ (front : List ℕ). tsl_dle ∷ tsl_stx ∷ stuffed front) grown ∙ sym (inner front tsl_dle ∙ ap (λ (text : List ℕ). tsl_dle ∷ tsl_stx ∷ text) (stuffed-push_dle front))) ends)
+    (ap (λ (front : List ℕ). tsl_dle ∷ tsl_stx ∷ stuffed front) grown ∙ sym (inner front tsl_dle ∙ ap (λ (text : List ℕ). tsl_dle ∷ tsl_stx ∷ text) (doubled-push_dle tsl_dle front))) ends)
 
 pub inner-start : (front : List ℕ) → Steps InsideDle front tsl_stx None Inside []
 unfolding Steps

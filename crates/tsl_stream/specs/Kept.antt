@@ -4,8 +4,8 @@ use Rattle.tsl_umd5.specs.Layout.{max_packet}
 use Rattle.tsl_stream.specs.Numbers.{tsl_dle, tsl_stx}
 use Rattle.tsl_stream.specs.Stream.{stuffed}
 use Rattle.tsl_stream.specs.Items.{packet_size}
-use Rattle.tsl_stream.specs.declared.state.State.{State}
-use Rattle.tsl_stream.specs.declared.state.State.TheVariants.{Outside, OutsideDle, Inside, InsideDle}
+use Rattle.doubled_bytes.specs.declared.state.State.{State}
+use Rattle.doubled_bytes.specs.declared.state.State.TheVariants.{Outside, OutsideDle, Inside, InsideDle}
 
 -- A packet that begins so has more bytes, and isn't too long as far as is known. [profile]
 pub record IsOpen (front : List ℕ) : Type 0 where

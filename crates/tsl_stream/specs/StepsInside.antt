@@ -3,11 +3,12 @@ use Rattle.std.specs.Prelude.{◌≡◌, ℕ, ◌<◌, ◌≤◌, List, [], ◌�
 use Rattle.std.specs.Option.{option_map, option_to_list}
 use Rattle.tsl_umd5.specs.declared.fault.TslFault.{TslFault}
 use Rattle.tsl_umd5.specs.Layout.{max_packet}
-use Rattle.tsl_stream.specs.declared.state.State.{State}
-use Rattle.tsl_stream.specs.declared.state.State.TheVariants.{Outside, Inside}
+use Rattle.doubled_bytes.specs.declared.state.State.{State}
+use Rattle.doubled_bytes.specs.declared.state.State.TheVariants.{Outside, Inside}
 use Rattle.tsl_stream.specs.Numbers.{tsl_dle, tsl_stx}
 use Rattle.tsl_stream.specs.Stream.{stuffed}
-use Rattle.tsl_stream.specs.Items.{PacketItem, Packet, Bad, packet_size, with_stream_item, stream_items, stream_reading, stream_rest}
+use Rattle.doubled_bytes.specs.Reading.{with_item}
+use Rattle.tsl_stream.specs.Items.{PacketItem, Packet, Bad, packet_size, stream_items, stream_reading, stream_rest}
 use Rattle.tsl_stream.specs.Kept.{IsOpen, KeepsPacket}
 
 -- what the front of a packet has come to: it is the packet, or bad
@@ -25,7 +26,7 @@ pub record IsReached (front : List ℕ) : Type 0 where
 abbrev pub EndsAs : List ℕ → PacketItem → Type 0
 EndsAs front item = (more : List ℕ)
     → stream_reading (tsl_dle ∷ tsl_stx ∷ (stuffed front ++ more))
-    ≡ with_stream_item item (stream_reading more)
+    ≡ with_item item (stream_reading more)
 
 -- One byte more takes a state and a front to others, and ends this item or none.
 unfoldable pub Steps : State → List ℕ → ℕ → Option (Result (Unit {0}) TslFault) → State

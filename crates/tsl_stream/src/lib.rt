@@ -11,7 +11,6 @@ mod laws;
 mod place;
 mod port;
 mod reader;
-mod state;
 mod write;
 
 pub use control::{DLE, MAX_STREAM, STX};

@@ -12,7 +12,7 @@ use crate::control::{DLE, STX};
 use crate::front::Front;
 use crate::item::StreamItem;
 use crate::place::dle_place;
-use crate::state::State;
+use doubled_bytes::State;
 use tsl_umd5::TslFault;
 
 /// Gives the items of a stream of bytes, in whatever pieces it comes. It stands for the text that it was fed, of which it

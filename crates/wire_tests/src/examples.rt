@@ -3,6 +3,7 @@
 mod of_ctl_io;
 mod of_ctl_net;
 mod of_dle_framing;
+mod of_doubled_bytes;
 mod of_history_lock;
 mod of_line_text;
 mod of_matrix_driver;

@@ -4,7 +4,7 @@ use Rattle.std.proofs.lemmas.List.{take_more, take_more_set}
 use Rattle.std.proofs.lemmas.List.Sums.{sum_by-append}
 use Rattle.dle_framing.specs.Numbers.{dle}
 use Rattle.dle_framing.specs.Frame.{doubled}
-use Rattle.dle_framing.proofs.FeedLemmas.{single_more}
+use Rattle.doubled_bytes.proofs.Runs.{single_more}
 use Rattle.dle_framing.proofs.front.copy_run.Goals as goal
 
 pub loop-place-preserved : goal.loop-place-preserved
@@ -16,7 +16,7 @@ loop-place-preserved c =
     let other = ne_eqb byte dle c.if-byte-eq-DLE.false in
     let whole : sum (take (place + 1) text) ≡ sum (take place text) + byte = ap sum more ∙ sum_by-append (λ byte. byte) (take place text) (byte ∷ []) ∙ omega arith in
     record {
-      single = ap doubled more ∙ single_more (take place text) byte c.loop-place.invariant.single other ∙ sym more;
+      single = ap doubled more ∙ single_more dle (take place text) byte c.loop-place.invariant.single other ∙ sym more;
       copied = take_more_set c.loop-place.into place byte (omega arith) ∙ ap (λ front. front ++ byte ∷ []) c.loop-place.invariant.copied ∙ sym more;
       total = omega (arith, whole, c.loop-place.invariant.total);
     }

@@ -4,7 +4,8 @@ use Rattle.std.proofs.lemmas.List.{take_more}
 use Rattle.dle_framing.specs.Numbers.{dle}
 use Rattle.dle_framing.specs.Frame.{doubled}
 use Rattle.dle_framing.specs.Items.{reading}
-use Rattle.dle_framing.proofs.FeedLemmas.{noise_none, noise_more, single_more}
+use Rattle.doubled_bytes.proofs.Runs.{single_more}
+use Rattle.dle_framing.proofs.FeedLemmas.{noise_none, noise_more}
 use Rattle.dle_framing.proofs.place.dle_place.Goals as goal
 
 pub loop-place-init : goal.loop-place-init
@@ -19,5 +20,5 @@ loop-place-preserved c =
     let other = ne_eqb byte dle c.if-byte-eq-DLE.false in
     record {
       noise = ap reading more ∙ noise_more (take place text) byte c.loop-place.invariant.noise other;
-      single = ap doubled more ∙ single_more (take place text) byte c.loop-place.invariant.single other ∙ sym more;
+      single = ap doubled more ∙ single_more dle (take place text) byte c.loop-place.invariant.single other ∙ sym more;
     }

@@ -1,8 +1,8 @@
 use Rattle.std.proofs.Common.{ℕ, List, ◌∷◌, length, refl, sym, ap, ◌∙◌, arith}
 use Rattle.std.proofs.lemmas.Bool.{ne_eqb}
-use Rattle.dle_framing.specs.Numbers.{stx, etx}
+use Rattle.dle_framing.specs.Numbers.{dle, stx, etx}
 use Rattle.dle_framing.specs.Items.{longest_run, with_item, item_of, reading}
-use Rattle.dle_framing.proofs.Readings.{length-behind}
+use Rattle.doubled_bytes.proofs.Runs.{length-behind}
 use Rattle.dle_framing.proofs.PlainLemmas.{frame-nothing, frame-one, frame-ended, frame-again, frame-left, stopped_at, shorter_frame}
 use Rattle.dle_framing.proofs.plain.start_of_frame.Goals as goal
 
@@ -28,7 +28,7 @@ returns-in-2 c =
     let text = c.args.text.now in
     let stops = stopped_at (longest_run text).behind _ _ _ _ _ stx c.in_ok-body.ensures.behind c.in-Some.ensures c.in-Some-first_byte.ensures c.in-2.is in (
       frame-again text c.in-Some.field-0-0 c.in-Some-first_byte.behind_both.now stops ∙ ap reading (sym (c.in_ok-body.ensures.behind ∙ stops)),
-      omega (arith, length-behind text, ap (length {A = ℕ}) c.in_ok-body.ensures.behind),
+      omega (arith, length-behind dle text, ap (length {A = ℕ}) c.in_ok-body.ensures.behind),
     )
 
 pub returns-in_default-control : goal.returns-in_default-control

@@ -1,12 +1,15 @@
 use Rattle.std.proofs.Common.{ℕ, ◌+◌, ◌<◌, length, get_or, None, refl, sym, ap, arith}
 use Rattle.std.proofs.lemmas.List.{take_rest, length-drop}
 use Rattle.dle_framing.specs.StepsInside.{Steps}
-use Rattle.dle_framing.proofs.FeedLemmas.{passes_to, passes_byte, passes_step, none_from_test, feeds_none, feeds_step}
+use Rattle.dle_framing.proofs.FeedLemmas.{passes_to, passes_byte, passes_step, none_from_test, feeds_step}
+use Rattle.doubled_bytes.proofs.Feeds.{feeds_none}
+use Rattle.dle_framing.specs.Items.{reading}
+use Rattle.dle_framing.proofs.LawLemmas.{reads_on_lem}
 use Rattle.dle_framing.proofs.framer.Framer.take_by_runs.Goals as goal
 
 pub returns-then-used-piece-clause-feeds : goal.returns-then-used-piece-clause-feeds
 returns-then-used-piece-clause-feeds c = λ text stands.
-    feeds_none text c.args.piece.now c.loop-used.used c.if-used-piece.true (c.loop-used.invariant.passes text stands).0
+    feeds_none reading reads_on_lem text c.args.piece.now c.loop-used.used c.if-used-piece.true (c.loop-used.invariant.passes text stands).0
 
 pub returns-then-used-piece-clause-stands : goal.returns-then-used-piece-clause-stands
 returns-then-used-piece-clause-stands c = λ text stands. (c.loop-used.invariant.passes text stands).1

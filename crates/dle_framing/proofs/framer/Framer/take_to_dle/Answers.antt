@@ -1,7 +1,7 @@
 use Rattle.std.proofs.Common.{◌<◌, None, length, take, arith}
 use Rattle.dle_framing.specs.Numbers.{dle}
 use Rattle.dle_framing.specs.declared.framer.Framer.{Framer}
-use Rattle.dle_framing.specs.declared.framer.State.TheVariants.{OutsideDle, InsideDle}
+use Rattle.doubled_bytes.specs.declared.state.State.TheVariants.{OutsideDle, InsideDle}
 use Rattle.dle_framing.specs.StepsInside.{Steps}
 use Rattle.dle_framing.specs.FramerInside.{PassesOver}
 use Rattle.dle_framing.proofs.FeedLemmas.{passes_noise, passes_body, passes_dle}

@@ -1,6 +1,9 @@
 use Rattle.std.proofs.Common.{◌+◌, ◌<◌, ◌≤◌, None, length, get_or, refl, sym, arith}
 use Rattle.tsl_stream.specs.StepsInside.{Steps}
-use Rattle.tsl_stream.proofs.FeedLemmas.{passes_none, passes_rest, within_rest, passes_byte, passes_step, none_from_test, feeds_none, feeds_step}
+use Rattle.tsl_stream.proofs.FeedLemmas.{passes_none, passes_rest, within_rest, passes_byte, passes_step, none_from_test, feeds_step}
+use Rattle.doubled_bytes.proofs.Feeds.{feeds_none}
+use Rattle.tsl_stream.specs.Items.{stream_reading}
+use Rattle.tsl_stream.proofs.LawLemmas.{reads_on_lem}
 use Rattle.tsl_stream.proofs.reader.StreamReader.take_item.Goals as goal
 
 pub loop-used-init : goal.loop-used-init
@@ -12,7 +15,7 @@ returns-then-used-piece-clause-stands c = λ text stands.
 
 pub returns-then-used-piece-clause-feeds : goal.returns-then-used-piece-clause-feeds
 returns-then-used-piece-clause-feeds c = λ text stands.
-    feeds_none text c.args.piece.now _ c.if-used-piece.true
+    feeds_none stream_reading reads_on_lem text c.args.piece.now _ c.if-used-piece.true
     (passes_rest c.args.piece.now _ _ _ _ _ c.loop-used.invariant.passes c.take_run-used.ensures.passes text stands).0
 
 pub returns-then-is_some-clause-stands : goal.returns-then-is_some-clause-stands

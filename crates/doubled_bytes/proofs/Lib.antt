@@ -1,0 +1,3 @@
+pub mod Runs
+pub mod Readings
+pub mod Feeds

@@ -1,0 +1,4 @@
+pub mod Doubled
+pub mod Reading
+pub mod Laws
+pub mod Feeding
