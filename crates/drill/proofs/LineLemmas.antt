@@ -13,9 +13,8 @@ use Rattle.plant_core.specs.declared.answer.Answer.{Answer}
 use Rattle.plant_core.specs.declared.request.Request.{Request}
 use Rattle.plant_core.specs.declared.request.Request.TheVariants.{Told, Poll, Leave, DisplayPoll}
 use Rattle.panel_session.specs.Entry.{PlantEntry}
-use Rattle.panel_session.specs.OneSend.{bytes_in}
 use Rattle.panel_session.specs.Served.{own_lines}
-use Rattle.panel_session.specs.Text.{frames_of}
+use Rattle.panel_session.specs.Text.{frames_of, bytes_in}
 use Rattle.trace_lines.specs.TraceLine.{entry_text, line_end, request_text, told_bytes, trace_limit}
 use Rattle.panel_session.specs.Reply.{reply_text, trace_line}
 use Rattle.drill.proofs.AskedLemmas.{IsWithin}

@@ -24,8 +24,7 @@ use Rattle.plant_core.specs.declared.request.Request.{Request}
 use Rattle.plant_core.specs.declared.request.Request.TheVariants.{Told, Poll, Leave, DisplayPoll}
 use Rattle.panel_session.specs.Asked.{AllAsk, Asks, GoodAsks}
 use Rattle.panel_session.specs.Entry.{PlantEntry}
-use Rattle.panel_session.specs.OneSend.{bytes_in}
-use Rattle.panel_session.specs.Text.{IsText, Output, frames_of, goes_on, no_page, nothing_sent, output_from, page_at, page_frames, polled_at, polled_by, told_at, is_told_at, with_control, with_frames, with_polls, with_source}
+use Rattle.panel_session.specs.Text.{IsText, Output, frames_of, goes_on, no_page, nothing_sent, output_from, page_at, page_frames, polled_at, polled_by, told_at, is_told_at, with_control, with_frames, with_polls, with_source, bytes_in}
 use Rattle.panel_session.proofs.EntryLemmas.{length-ask}
 use Rattle.panel_session.proofs.FrameRoom.{message_frame-most, page_frame-most}
 use Rattle.panel_session.proofs.TraceLemmas.{frames-bytes}

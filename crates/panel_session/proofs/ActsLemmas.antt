@@ -1,111 +1,69 @@
 -- What a session stands for, call by call.
 use Rattle.std.proofs.Common.{◌≡◌, ◌≢◌, ℕ, ◌+◌, ◌^◌, ◌<◌, ◌≤◌, true, false, Bool, List, [], ◌∷◌, ◌++◌, length, take, drop, Option, Some, None, refl, sym, ap, ◌∙◌, subst, arith, ◌⊎◌, inl, inr}
 use Rattle.std.specs.Option.{option_to_list}
-use Rattle.std.proofs.lemmas.Bool.{false≢true}
 use Rattle.std.proofs.lemmas.List.{append_assoc, append-nil, take-append-drop}
 use Rattle.dle_framing.specs.Framer as framer
 use Rattle.dle_framing.specs.declared.framer.Framer.{Framer}
 use Rattle.dle_framing.specs.declared.item.Item.{Item}
 use Rattle.dle_framing.specs.Items.{TextReading, items}
 use Rattle.dle_framing.proofs.Readings.{reading-by_start}
-use Rattle.panel_session.specs.Entry.{PlantEntry}
-use Rattle.panel_session.specs.OutgoingInside.{emptied}
 use Rattle.panel_session.specs.Turns.{bytes_read, IsTurn}
-use Rattle.dle_framing.proofs.FeedLemmas.{take-add}
 use Rattle.plant_config.specs.Plant.{PlantData}
 use Rattle.plant_core.specs.declared.answer.Answer.{Answer}
 use Rattle.plant_core.specs.declared.request.Request.TheVariants.{Poll}
 use Rattle.panel_session.specs.declared.session.asked.Asked.{Asked}
 use Rattle.panel_session.specs.declared.session.asked.Asked.TheVariants.{Nothing, Repeat, Refused, Noted, Named, Sent}
 use Rattle.panel_session.specs.declared.session.Session.{Session}
-use Rattle.panel_session.specs.declared.session.phase.Phase.{Phase}
 use Rattle.panel_session.specs.declared.session.phase.Phase.TheVariants.{Read, Poll as PollStage, End}
 use Rattle.panel_session.specs.Asked.{Asks}
 use Rattle.panel_session.specs.AskedInside.{FoundAsks, MayAsk}
 use Rattle.panel_session.specs.Counted.{goods_of, bads_of}
-use Rattle.panel_session.specs.SoFar.{Progress, read_so_far, entries_so_far, with_bytes, with_sent, with_entry, with_turn, nothing_yet, IsOver, IsSoFar, SendsFront}
+use Rattle.panel_session.specs.SoFar.{Progress, read_so_far, with_bytes, with_sent, with_turn, nothing_yet, IsOver, IsSoFar}
 use Rattle.panel_session.specs.TakenInside.{taken_phase, sent_by}
-use Rattle.panel_session.specs.Text.{frames_of, with_frames, nothing_sent}
-use Rattle.panel_session.specs.StandsInside.{Kept, Keeps, IsAtStage}
-use Rattle.panel_session.specs.NamesLeftInside.{AreLeft, NamesNone, stage_of}
+use Rattle.panel_session.specs.Text.{nothing_sent}
+use Rattle.panel_session.specs.StandsInside.{Kept, Keeps}
 use Rattle.panel_session.specs.Session.{Stands, kept_of}
 use Rattle.panel_session.specs.ReadingInside.{IsReading, HasTaken}
 use Rattle.plant_core.specs.Answer.{room_of}
 use Rattle.panel_session.specs.MovesInside.{next, took, took_answers, ended_turn}
 use Rattle.panel_session.proofs.KeptTurnLemmas.{keeps_so_far, keeps_polled_more, keeps_turn, keeps_nothing, keeps_text, turn_over, bytes_of-append}
-use Rattle.panel_session.proofs.KeptItemLemmas.{reading, read-more}
-use Rattle.panel_session.proofs.KeepsLemmas.{entries-polled, keeps_polled_last}
-use Rattle.panel_session.proofs.NamesLeftLemmas.{none_left, quiet_at}
-use Rattle.panel_session.proofs.StandsLemmas.{next-small, answers_one, fewer_items, phase-is, kept_same, kept_whole, at_phase, stands_item, stands_none, stands_with, taken_plain}
+use Rattle.panel_session.proofs.KeptItemLemmas.{reading}
+use Rattle.panel_session.proofs.KeepsLemmas.{keeps_polled_last, with_answered}
+use Rattle.panel_session.proofs.StandsLemmas.{next-small, fewer_items, phase-is, kept_same, at_phase, stands_item, stands_none, stands_with}
 
--- a poll of a session, with its answers
-abbrev polled_entry : ℕ → Session → List Answer → PlantEntry
-polled_entry seat session answers = record { seat = seat; request = Poll session.panel session.items session.counts.turns; answers = answers }
-
--- The plant answered the last poll of a turn.
-pub stands_polled_last : (plant : PlantData) (panel seat : ℕ) (session : Session) (past : Progress) (polls : ℕ) (answers : List Answer) (unsent : Bool) → Stands plant panel session past
-    → session.phase ≡ PollStage → session.unsent ≡ false → (unsent ≡ false → (with_frames (frames_of answers) (emptied session.sender.output)).bytes ≡ [])
-    → (unsent ≡ true → (with_frames (frames_of answers) (emptied session.sender.output)).bytes ≢ [])
-    → polls ≡ session.polls + 1 → (answers ≡ []) ⊎ (polls ≡ 32)
-    → Stands plant panel (took_answers answers unsent (record session { phase = End; polls = polls }))
-    (with_entry (record { seat = seat; request = Poll session.panel session.items session.counts.turns; answers = answers }) past)
-stands_polled_last plant panel seat session past polls answers unsent stands poll none empty some is last =
+-- The plant answered a poll, and the frames of the answers are sent: it was the last poll of a turn,
+pub stands_polled_last : (plant : PlantData) (panel seat : ℕ) (session : Session) (past : Progress) (polls : ℕ) (answers : List Answer) → Stands plant panel session past
+    → session.phase ≡ PollStage → polls ≡ session.polls + 1 → (answers ≡ []) ⊎ (polls ≡ 32)
+    → Stands plant panel (took_answers answers (record session { phase = End; polls = polls }))
+    (with_answered session.sender.output (record { seat = seat; request = Poll session.panel session.items session.counts.turns; answers = answers }) past)
+stands_polled_last plant panel seat session past polls answers stands poll is last =
     let KeepsOf : Kept → Type 0 = λ kept. Keeps plant kept past in
-    let k = subst KeepsOf (at_phase session PollStage poll tt none) stands.keeps in
-    let later = with_entry (record { seat = seat; request = Poll session.panel session.items session.counts.turns; answers = answers }) past in
-    let KeepsAt : ℕ → Type 0 = λ polls. Keeps plant (record {
-      panel = session.panel;
-      phase = End;
-      items = session.items;
-      turns = session.counts.turns;
-      polls = polls;
-      output = with_frames (frames_of answers) (emptied session.sender.output);
-      unsent = unsent;
-    }) later in
+    let k = subst KeepsOf (at_phase session PollStage poll) stands.keeps in
+    let later = with_answered session.sender.output (record { seat = seat; request = Poll session.panel session.items session.counts.turns; answers = answers }) past in
+    let KeepsAt : ℕ → Type 0 = λ polls. Keeps plant (kept_of (took_answers answers (record session { phase = End; polls = polls }))) later in
     let full : (answers ≡ []) ⊎ (session.polls + 1 ≡ 32) = elim last [ (inl none) ↦ inl none | (inr full) ↦ inr (sym is ∙ full) ] in
-    stands_with plant panel session (took_answers answers unsent (record session { phase = End; polls = polls })) past later stands refl refl refl refl refl refl refl refl tt
-    (subst KeepsAt (sym is) (keeps_polled_last plant session.panel session.items session.counts.turns session.polls seat session.sender.output past answers unsent k empty full))
-    (λ unsent. (some unsent, answers_one plant later (entries_so_far past) (polled_entry seat session answers) session.sender.output (entries-polled past.turns past.now.told past.now.polls (polled_entry seat session answers))))
+    stands_with plant panel session (took_answers answers (record session { phase = End; polls = polls })) past later stands refl refl refl refl refl refl refl refl
+    (subst KeepsAt (sym is) (keeps_polled_last plant session.panel session.items session.counts.turns session.polls seat session.sender.output past answers k full))
 
--- It answered another.
-pub stands_polled_more : (plant : PlantData) (panel seat : ℕ) (session : Session) (past : Progress) (polls : ℕ) (answers : List Answer) (unsent : Bool) → Stands plant panel session past
-    → session.phase ≡ PollStage → session.unsent ≡ false → (unsent ≡ false → (with_frames (frames_of answers) (emptied session.sender.output)).bytes ≡ [])
-    → (unsent ≡ true → (with_frames (frames_of answers) (emptied session.sender.output)).bytes ≢ [])
-    → polls ≡ session.polls + 1 → answers ≢ [] → polls ≢ 32
-    → Stands plant panel (took_answers answers unsent (record session { phase = PollStage; polls = polls }))
-    (with_entry (record { seat = seat; request = Poll session.panel session.items session.counts.turns; answers = answers }) past)
-stands_polled_more plant panel seat session past polls answers unsent stands poll none empty some is one below =
+-- or another comes.
+pub stands_polled_more : (plant : PlantData) (panel seat : ℕ) (session : Session) (past : Progress) (polls : ℕ) (answers : List Answer) → Stands plant panel session past
+    → session.phase ≡ PollStage → polls ≡ session.polls + 1 → answers ≢ [] → polls ≢ 32
+    → Stands plant panel (took_answers answers (record session { phase = PollStage; polls = polls }))
+    (with_answered session.sender.output (record { seat = seat; request = Poll session.panel session.items session.counts.turns; answers = answers }) past)
+stands_polled_more plant panel seat session past polls answers stands poll is one below =
     let KeepsOf : Kept → Type 0 = λ kept. Keeps plant kept past in
-    let k = subst KeepsOf (at_phase session PollStage poll tt none) stands.keeps in
-    let later = with_entry (record { seat = seat; request = Poll session.panel session.items session.counts.turns; answers = answers }) past in
-    let KeepsAt : ℕ → Type 0 = λ polls. Keeps plant (record {
-      panel = session.panel;
-      phase = PollStage;
-      items = session.items;
-      turns = session.counts.turns;
-      polls = polls;
-      output = with_frames (frames_of answers) (emptied session.sender.output);
-      unsent = unsent;
-    }) later in
-    stands_with plant panel session (took_answers answers unsent (record session { phase = PollStage; polls = polls })) past later stands refl refl refl refl refl refl refl refl tt
-    (subst KeepsAt (sym is) (keeps_polled_more plant session.panel session.items session.counts.turns session.polls seat session.sender.output past answers unsent k empty one (λ full. below (is ∙ full))))
-    (λ unsent. (some unsent, answers_one plant later (entries_so_far past) (polled_entry seat session answers) session.sender.output (entries-polled past.turns past.now.told past.now.polls (polled_entry seat session answers))))
-
--- a session that polls has polled fewer than 32 times in the turn
-pub polls_below : (plant : PlantData) (panel : ℕ) (session : Session) (past : Progress) → Stands plant panel session past → session.phase ≡ PollStage → session.polls < 32
-polls_below plant panel session past stands poll =
-    let k = stands.keeps in
-    let at : IsAtStage PollStage session.panel (length (items (bytes_read past.turns))) k.before k.asked past =
-    (let P : Phase → Type 0 = λ phase. IsAtStage (stage_of phase) session.panel (length (items (bytes_read past.turns))) k.before k.asked past in subst P poll k.phase) in
-    let are : session.polls ≡ length past.now.polls = k.polls_are in
-    omega (arith, at.1.more)
+    let k = subst KeepsOf (at_phase session PollStage poll) stands.keeps in
+    let later = with_answered session.sender.output (record { seat = seat; request = Poll session.panel session.items session.counts.turns; answers = answers }) past in
+    let KeepsAt : ℕ → Type 0 = λ polls. Keeps plant (kept_of (took_answers answers (record session { phase = PollStage; polls = polls }))) later in
+    stands_with plant panel session (took_answers answers (record session { phase = PollStage; polls = polls })) past later stands refl refl refl refl refl refl refl refl
+    (subst KeepsAt (sym is) (keeps_polled_more plant session.panel session.items session.counts.turns session.polls seat session.sender.output past answers k one (λ full. below (is ∙ full))))
 
 -- The turn is over.
-pub stands_turn : (plant : PlantData) (panel : ℕ) (session : Session) (past : Progress) → Stands plant panel session past → session.phase ≡ End → session.unsent ≡ false → length past.turns < 2 ^ 62
+pub stands_turn : (plant : PlantData) (panel : ℕ) (session : Session) (past : Progress) → Stands plant panel session past → session.phase ≡ End → length past.turns < 2 ^ 62
     → IsOver plant panel past × Stands plant panel (ended_turn session) (with_turn past)
-stands_turn plant panel session past stands over none small =
+stands_turn plant panel session past stands over small =
     let KeepsOf : Kept → Type 0 = λ kept. Keeps plant kept past in
-    let k = subst KeepsOf (at_phase session End over tt none) stands.keeps in
+    let k = subst KeepsOf (at_phase session End over) stands.keeps in
     let KeepsThen : Kept → Type 0 = λ kept. Keeps plant kept (with_turn past) in
     let turns_are : session.counts.turns ≡ length past.turns = k.turns_are in
     let one_more : next session.counts.turns ≡ session.counts.turns + 1 = next-small session.counts.turns (omega arith) in
@@ -113,21 +71,19 @@ stands_turn plant panel session past stands over none small =
     let read : read_so_far (with_turn past) ≡ read_so_far past = append-nil (bytes_read (past.turns ++ past.now ∷ [])) ∙ bytes_of-append past.turns past.now in (
       record {
         turn = subst TurnOf stands.panel_is (turn_over plant session.panel session.items session.counts.turns session.polls session.sender.output past k);
-        text = keeps_text plant (kept_of session) past (quiet_at session.phase End session.unsent over tt none) stands.keeps;
+        text = keeps_text plant (kept_of session) past stands.keeps;
       },
-      stands_with plant panel session (ended_turn session) past (with_turn past) stands read refl refl refl refl refl refl refl tt
+      stands_with plant panel session (ended_turn session) past (with_turn past) stands read refl refl refl refl refl refl refl
           (subst KeepsThen
-          (sym (kept_whole (ended_turn session) tt none
-          ∙ kept_same session.panel 0 session.sender.output Read Read session.items session.items (next session.counts.turns) (session.counts.turns + 1) session.unsent false refl refl one_more none))
-          (keeps_turn plant session.panel session.items session.counts.turns session.polls session.sender.output past k))
-          (λ unsent. absurd (false≢true (sym none ∙ unsent))),
+          (sym (kept_same session.panel 0 session.sender.output Read Read session.items session.items (next session.counts.turns) (session.counts.turns + 1) refl refl one_more))
+          (keeps_turn plant session.panel session.items session.counts.turns session.polls session.sender.output past k)),
     )
 
 -- A session to which nothing happened.
 pub stands_new : (plant : PlantData) (panel : ℕ) (session : Session) → session.plant.now ≡ plant → session.sender.names ≡ plant → session.panel ≡ panel → panel < length plant.panels → framer.StandsFor session.framer []
-    → kept_of session ≡ reading panel 0 0 0 nothing_sent → session.phase ≡ Read → session.unsent ≡ false → session.counts.goods ≡ 0 → session.counts.bads ≡ 0 → session.outbox.places ≡ room_of plant
+    → kept_of session ≡ reading panel 0 0 0 nothing_sent → session.counts.goods ≡ 0 → session.counts.bads ≡ 0 → session.outbox.places ≡ room_of plant
     → Stands plant panel session nothing_yet
-stands_new plant panel session plant_is names_are panel_is has_panel fed kept read unsent goods bads places =
+stands_new plant panel session plant_is names_are panel_is has_panel fed kept goods bads places =
     let KeepsOf : Kept → Type 0 = λ kept. Keeps plant kept nothing_yet in
     let none : items [] ≡ [] = ap (λ (reading : TextReading). reading.items) (reading-by_start []) in
     record {
@@ -139,9 +95,6 @@ stands_new plant panel session plant_is names_are panel_is has_panel fed kept re
       keeps = subst KeepsOf (sym kept) (keeps_nothing plant panel);
       goods = goods ∙ ap goods_of (sym none);
       bads = bads ∙ ap bads_of (sym none);
-      some = λ is. absurd (false≢true (sym unsent ∙ is));
-      one = λ is. absurd (false≢true (sym unsent ∙ is));
-      left = none_left (AreLeft plant nothing_yet) session.phase (subst NamesNone (sym read) tt);
       places = places;
     }
 
@@ -149,32 +102,6 @@ pub stands_so_far_lem : (plant : PlantData) (panel : ℕ) (session : Session) (p
 stands_so_far_lem plant panel session past stands =
     let P : ℕ → Type 0 = λ panel. IsSoFar plant panel past in
     subst P stands.panel_is (keeps_so_far plant (kept_of session) past stands.keeps)
-
--- A session that stands for a past has sent a front of its text.
-pub stands_front : (plant : PlantData) (panel : ℕ) (session : Session) (past : Progress) → Stands plant panel session past → SendsFront plant past
-stands_front plant panel session past stands =
-    let so_far = stands_so_far_lem plant panel session past stands in
-    record { text = so_far.text; is_text = so_far.is_text; sent = so_far.sent }
-
--- No bytes more change nothing.
-pub no_bytes : (past : Progress) → with_bytes [] past ≡ past
-no_bytes past = ap (λ (piece : List ℕ). record past { now = record past.now { piece = piece } }) (append-nil past.now.piece)
-
--- Bytes of a piece, and then bytes of its rest.
-pub bytes_on : (past : Progress) (piece rest : List ℕ) (used more : ℕ) → rest ≡ drop used piece → with_bytes (take more rest) (with_bytes (take used piece) past) ≡ with_bytes (take (used + more) piece) past
-bytes_on past piece rest used more is =
-    let joined : past.now.piece ++ take used piece ++ take more rest ≡ past.now.piece ++ take (used + more) piece =
-    append_assoc past.now.piece (take used piece) (take more rest)
-    ∙ ap (λ (rest : List ℕ). past.now.piece ++ (take used piece ++ take more rest)) is
-    ∙ ap (λ (bytes : List ℕ). past.now.piece ++ bytes) (sym (take-add used more piece)) in
-    ap (λ (piece : List ℕ). record past { now = record past.now { piece = piece } }) joined
-
--- What was read with what is left of the piece.
-pub read_rest : (past : Progress) (piece rest : List ℕ) (used : ℕ) → rest ≡ drop used piece → read_so_far (with_bytes (take used piece) past) ++ rest ≡ read_so_far past ++ piece
-read_rest past piece rest used is =
-    ap (λ (text : List ℕ). text ++ rest) (sym (read-more past (take used piece)))
-    ∙ append_assoc (read_so_far past) (take used piece) rest
-    ∙ ap (λ (bytes : List ℕ). read_so_far past ++ bytes) (ap (λ (rest : List ℕ). take used piece ++ rest) is ∙ take-append-drop used piece)
 
 -- fewer items end in a front of a piece
 front_small : (text piece : List ℕ) (used : ℕ) → length (items (text ++ piece)) < 2 ^ 62 → length (items (text ++ take used piece)) < 2 ^ 62
@@ -214,27 +141,23 @@ has_taken_item plant panel session after past piece used a framer_then send read
     found.feeds.adds ∙ ap (λ (item : Option (Item (List ℕ))). items (read_so_far past) ++ option_to_list item) one.1 in
     let At : Session → Type 0 = λ after. Stands plant panel after (with_sent (sent_by plant a session.sender.output) now) in
     let stands : Stands plant panel after (with_sent (sent_by plant a session.sender.output) now) =
-    subst At (sym is) (stands_item plant panel session past (take used piece) one.0 a framer_then reading.stands reading.phase reading.none_unsent adds one.2 fed (front_small (read_so_far past) piece used small)) in
+    subst At (sym is) (stands_item plant panel session past (take used piece) one.0 a framer_then reading.stands reading.phase adds one.2 fed (front_small (read_so_far past) piece used small)) in
     let SentAt : List ℕ → Type 0 = λ bytes. Stands plant panel after (with_sent bytes now) in
     let empty : after.outbox.items ≡ [] = ap (λ (session : Session). session.outbox.items) is ∙ reading.none_asked in
-    let quiet_then : after.unsent ≡ false = ap (λ (session : Session). session.unsent) is ∙ reading.none_unsent in
     let staged : after.phase ≡ taken_phase a = ap (λ (session : Session). session.phase) is ∙ phase-is a session.phase reading.phase in
     (elim send as (λ send. (send ≡ true → sent_by plant a session.sender.output ≢ []) → (send ≡ true → after.sender.output.bytes ≡ sent_by plant a session.sender.output)
     → (send ≡ false → sent_by plant a session.sender.output ≡ []) → (send ≡ false → after.phase ≡ session.phase) → HasTaken plant panel now send after) [
       | true ↦ λ some sent none quiet. (
         subst SentAt (sym (sent refl)) stands,
         empty,
-        quiet_then,
         (λ gone. some refl (sym (sent refl) ∙ gone)),
         (λ poll. no_poll_phase a (sym staged ∙ poll)),
-        subst NamesNone (sym staged) (taken_plain a),
       )
       | false ↦ λ some sent none quiet. record {
         stands = (let NowAt : Progress → Type 0 = λ past. Stands plant panel after past in
             subst NowAt (ap (λ (bytes : List ℕ). record now { sent = bytes }) (append-nil now.sent)) (subst SentAt (none refl) stands));
         none_asked = empty;
         phase = quiet refl ∙ reading.phase;
-        none_unsent = quiet_then;
       }
     ]) some sent none quiet
 
@@ -246,8 +169,7 @@ has_read_none plant panel session past piece used framer_then reading found fed 
     let adds : items (read_so_far past ++ take used piece) ≡ items (read_so_far past) =
     found.feeds.adds ∙ ap (λ (item : Option (Item (List ℕ))). items (read_so_far past) ++ option_to_list item) (no_item found.item found.asks) ∙ append-nil (items (read_so_far past)) in
     record {
-      stands = stands_none plant panel session past (take used piece) framer_then reading.stands reading.phase reading.none_unsent adds fed;
+      stands = stands_none plant panel session past (take used piece) framer_then reading.stands reading.phase adds fed;
       none_asked = reading.none_asked;
       phase = reading.phase;
-      none_unsent = reading.none_unsent;
     }

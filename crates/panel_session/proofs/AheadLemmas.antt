@@ -12,21 +12,20 @@ use Rattle.panel_session.specs.Answering.{IsOfSession}
 use Rattle.panel_session.specs.EngineInside.{bytes_ahead, sent_ahead}
 use Rattle.panel_session.specs.Entry.{PlantEntry}
 use Rattle.panel_session.specs.MovesInside.{answered_too}
-use Rattle.panel_session.specs.OneSend.{bytes_in}
 use Rattle.panel_session.specs.OutgoingInside.{emptied}
 use Rattle.panel_session.specs.RoomsInside.{fitting}
 use Rattle.panel_session.specs.Session.{made_by}
 use Rattle.panel_session.specs.SoFar.{Progress}
-use Rattle.panel_session.specs.Text.{Output, frames_of, with_frames}
+use Rattle.panel_session.specs.Text.{Output, frames_of, with_frames, bytes_in}
 use Rattle.panel_session.proofs.OutputLemmas.{behind_frames}
 use Rattle.panel_session.proofs.TraceLemmas.{frames-bytes}
 
 -- A request that comes in its place is one of a session.
-pub of_session : (request : Request) (now : Progress) (used : ℕ) (piece : List ℕ) → IsInPlace now request used piece → IsOfSession request
-of_session (Told panel item message) now used piece place = tt
-of_session (Poll panel item turn) now used piece place = tt
-of_session (Leave panel) now used piece place = absurd place
-of_session (DisplayPoll screen refresh) now used piece place = absurd place
+pub of_session : (request : Request) (now : Progress) (rest : List ℕ) → IsInPlace now request rest → IsOfSession request
+of_session (Told panel item message) now rest place = tt
+of_session (Poll panel item turn) now rest place = tt
+of_session (Leave panel) now rest place = absurd place
+of_session (DisplayPoll screen refresh) now rest place = absurd place
 
 -- What goes ahead of a request is what was made, and then nothing is left of that; or nothing goes ahead.
 pub made_ahead : (ahead : Bool) (session : Session) → made_by session ≡ bytes_ahead ahead (made_by session) ++ made_by (sent_ahead ahead session)
@@ -48,10 +47,6 @@ all_ahead false bytes is = absurd (false≢true is)
 pub phase_ahead : (ahead : Bool) (session : Session) → (sent_ahead ahead session).phase ≡ session.phase
 phase_ahead true session = refl
 phase_ahead false session = refl
-
-pub unsent_ahead : (ahead : Bool) (session : Session) → (sent_ahead ahead session).unsent ≡ session.unsent
-unsent_ahead true session = refl
-unsent_ahead false session = refl
 
 pub ahead_at : (ahead : Bool) (session : Session) (phase : Phase) → record (sent_ahead ahead session) { phase = phase } ≡ sent_ahead ahead (record session { phase = phase })
 ahead_at true session phase = refl

@@ -14,15 +14,14 @@ use Rattle.panel_session.specs.declared.session.asked.Asked.TheVariants.{Sent}
 use Rattle.panel_session.specs.declared.session.phase.Phase.{Phase}
 use Rattle.panel_session.specs.declared.session.phase.Phase.TheVariants.{Read, Name, Tell, Poll as PollStage, End}
 use Rattle.panel_session.specs.Entry.{PlantEntry}
-use Rattle.panel_session.specs.NamesLeftInside.{stage_of}
 use Rattle.panel_session.specs.Served.{AnsweredButLast, IsSentBefore, items_before}
 use Rattle.panel_session.specs.ServedInside.{KeepsAnswered}
 use Rattle.panel_session.specs.Session.{Awaits, AsksAt, kept_of}
-use Rattle.panel_session.specs.SoFar.{Progress, entries_so_far, nothing_yet, read_so_far, with_bytes, with_entry, with_sent}
+use Rattle.panel_session.specs.SoFar.{Progress, entries_so_far, nothing_yet, read_so_far, with_entry}
 use Rattle.panel_session.specs.StandsInside.{IsAtStage}
 use Rattle.panel_session.specs.Text.{IsText}
 use Rattle.panel_session.specs.Turns.{bytes_read}
-use Rattle.panel_session.proofs.KeptItemLemmas.{length-asked, read-more}
+use Rattle.panel_session.proofs.KeptItemLemmas.{length-asked}
 
 -- It stays so once more is sent,
 pub answered_front : (plant : PlantData) (read : List ℕ) (entries : List PlantEntry) (one other : List ℕ) → IsPrefix one other → AnsweredButLast plant read entries one → AnsweredButLast plant read entries other
@@ -57,24 +56,6 @@ answered_more plant read more entries bytes answered = λ before last is.
 pub answered_begins : (plant : PlantData) → KeepsAnswered plant nothing_yet
 answered_begins plant = λ before last is. absurd (omega (arith, ap (length {A = PlantEntry}) is, length-append before (last ∷ [])))
 
--- A past with the same bytes and entries keeps it.
-pub answered_same : (plant : PlantData) (one other : Progress) → read_so_far other ≡ read_so_far one → entries_so_far other ≡ entries_so_far one → other.sent ≡ one.sent → KeepsAnswered plant one → KeepsAnswered plant other
-answered_same plant one other read entries sent keeps =
-    let Read : List ℕ → Type 0 = λ read. AnsweredButLast plant read (entries_so_far one) one.sent in
-    let Of : List PlantEntry → Type 0 = λ entries. AnsweredButLast plant (read_so_far other) entries one.sent in
-    let In : List ℕ → Type 0 = λ sent. AnsweredButLast plant (read_so_far other) (entries_so_far other) sent in
-    subst In (sym sent) (subst Of (sym entries) (subst Read (sym read) keeps))
-
--- More bytes of the piece were used.
-pub answered_bytes : (plant : PlantData) (past : Progress) (bytes : List ℕ) → KeepsAnswered plant past → KeepsAnswered plant (with_bytes bytes past)
-answered_bytes plant past bytes keeps =
-    let Read : List ℕ → Type 0 = λ read. AnsweredButLast plant read (entries_so_far past) past.sent in
-    subst Read (read-more past bytes) (answered_more plant (read_so_far past) bytes (entries_so_far past) past.sent keeps)
-
--- More was sent.
-pub answered_sent : (plant : PlantData) (past : Progress) (bytes : List ℕ) → KeepsAnswered plant past → KeepsAnswered plant (with_sent bytes past)
-answered_sent plant past bytes keeps = answered_front plant (read_so_far past) (entries_so_far past) past.sent (past.sent ++ bytes) (bytes, refl) keeps
-
 -- A request was answered, once all of the text before it was sent.
 pub answered_entry : (plant : PlantData) (entry : PlantEntry) (past : Progress) → entries_so_far (with_entry entry past) ≡ entries_so_far past ++ entry ∷ [] → (with_entry entry past).now.piece ≡ past.now.piece
     → length (items (read_so_far past)) ≡ items_before entry.request → IsText plant (items (read_so_far past)) (entries_so_far past) past.sent → KeepsAnswered plant (with_entry entry past)
@@ -97,13 +78,13 @@ answered_entry plant entry past entries piece counted text = λ before last is.
 -- Where a session awaits an answer, it has read the items before what it asked.
 pub awaits_counted : (plant : PlantData) (panel : ℕ) (session : Session) (past : Progress) (request : Request) → Awaits plant panel session past request → length (items (read_so_far past)) ≡ items_before request
 unfolding Awaits
-awaits_counted plant panel session past request awaits = at session.phase refl awaits.2 where
+awaits_counted plant panel session past request awaits = at session.phase refl awaits.1 where
   at : (phase : Phase) → session.phase ≡ phase → AsksAt phase (kept_of session) request → length (items (read_so_far past)) ≡ items_before request
   at Read is asks = absurd asks
   at (Name page) is asks = absurd asks
   at (Tell message) is asks =
       let k = awaits.0.keeps in
-      let StageAt : Phase → Type 0 = λ phase. IsAtStage (stage_of phase) session.panel (length (items (bytes_read past.turns))) k.before k.asked past in
+      let StageAt : Phase → Type 0 = λ phase. IsAtStage phase session.panel (length (items (bytes_read past.turns))) k.before k.asked past in
       let stage = subst StageAt is k.phase in
       let asked_is : k.asked ≡ stage.0 ++ Sent message ∷ [] = stage.1 in
       let counted : session.items ≡ length (items (read_so_far past)) = k.items_are in

@@ -12,9 +12,8 @@ use Rattle.plant_core.specs.declared.request.Request.TheVariants.{Told, Poll, Le
 use Rattle.panel_session.specs.declared.engine.at_lock.AtLock.{AtLock}
 use Rattle.panel_session.specs.Answering.{AnswersAt, EntersAt, HasAnswered, IsOfSession, IsSpelledFor, TracesPartAt}
 use Rattle.panel_session.specs.Entry.{PlantEntry}
-use Rattle.panel_session.specs.OneSend.{bytes_in}
 use Rattle.panel_session.specs.Served.{PlantSeat, own_lines}
-use Rattle.panel_session.specs.Text.{frames_of}
+use Rattle.panel_session.specs.Text.{frames_of, bytes_in}
 use Rattle.trace_lines.specs.TraceLine.{told_line}
 use Rattle.panel_session.specs.Reply.{trace_line}
 use Rattle.panel_session.proofs.GoneOnLemmas.{SeesOwn, sees_own}

@@ -1,7 +1,7 @@
 -- A session that is served, step by step.
 use Rattle.std.proofs.Common.{◌≡◌, ℕ, ◌+◌, ◌==◌, false, Bool, if◌then◌else◌, List, [], ◌∷◌, ◌++◌, length, Option, inl, inr, refl, sym, ap, ◌∙◌, arith}
 use Rattle.std.proofs.lemmas.Bool.Decides.{eqb_tells}
-use Rattle.std.proofs.lemmas.List.{append_assoc, append_cancel_left, append-nil, length-append, nil_from_length}
+use Rattle.std.proofs.lemmas.List.{append_assoc, append_cancel_left, length-append, nil_from_length}
 use Rattle.std.proofs.lemmas.List.Elements.{filter-append}
 use Rattle.ctl_io.specs.Sink.{appended}
 use Rattle.history_lock.specs.Calls.{AddsOwn, IsNumbered, OnlyCalled, SeesAnswers, asked_by}
@@ -16,8 +16,8 @@ use Rattle.panel_session.specs.Acting.{IsInPlace}
 pub use Rattle.panel_session.specs.AnsweringLaws.{appended-both, appended-none, line-own, lines-behind, lines-both, lines-none, mark-both, mark-some, sees_both, sees_none}
 use Rattle.panel_session.specs.Entry.{PlantEntry}
 use Rattle.panel_session.specs.Served.{PlantSeat, mark_after, own_lines}
-use Rattle.panel_session.specs.ServedInside.{Outside, HasGoneOn, SeesMore, outside}
-use Rattle.panel_session.specs.SoFar.{Progress, entries_so_far, with_bytes, with_entry, with_sent}
+use Rattle.panel_session.specs.ServedInside.{Outside, HasGoneOn, SeesMore}
+use Rattle.panel_session.specs.SoFar.{Progress, entries_so_far, with_entry}
 use Rattle.panel_session.specs.Reply.{trace_line}
 use Rattle.panel_session.proofs.KeepsLemmas.{entries-polled, entries-told}
 
@@ -52,27 +52,13 @@ gone_both plant a b c p q r one other =
           ∙ ap (λ (lines : List ℕ). appended a.traced lines) (sym (lines-behind plant a.seat b.seat one.new other.new one.sees));
     }
 
--- Bytes were sent, and nothing else happened.
-pub gone_sent : (plant : PlantData) (seat : PlantSeat) (written written_then traced : Option (List ℕ)) (past : Progress) (bytes used : List ℕ) → written_then ≡ appended written bytes
-    → HasGoneOn plant (outside seat written traced) (outside seat written_then traced) past (with_sent bytes (with_bytes used past))
-gone_sent plant seat written written_then traced past bytes used is = record {
-  new = [];
-  sees = sees_none plant seat;
-  full = refl;
-  entries = sym (append-nil (entries_so_far past));
-  sent = bytes;
-  sent_is = refl;
-  written = is;
-  traced = sym (appended-none traced);
-}
-
 -- a request's entry is behind all others
-pub entries-more : (past : Progress) (request : Request) (used : ℕ) (piece : List ℕ) (seat : ℕ) (answers : List Answer) → IsInPlace past request used piece
+pub entries-more : (past : Progress) (request : Request) (rest : List ℕ) (seat : ℕ) (answers : List Answer) → IsInPlace past request rest
     → entries_so_far (with_entry (record { seat = seat; request = request; answers = answers }) past) ≡ entries_so_far past ++ record { seat = seat; request = request; answers = answers } ∷ []
-entries-more past (Told panel item message) used piece seat answers place = entries-told past.turns past.now.told past.now.polls (record { seat = seat; request = Told panel item message; answers = answers }) place
-entries-more past (Poll panel item turn) used piece seat answers place = entries-polled past.turns past.now.told past.now.polls (record { seat = seat; request = Poll panel item turn; answers = answers })
-entries-more past (Leave panel) used piece seat answers place = absurd place
-entries-more past (DisplayPoll screen refresh) used piece seat answers place = absurd place
+entries-more past (Told panel item message) rest seat answers place = entries-told past.turns past.now.told past.now.polls (record { seat = seat; request = Told panel item message; answers = answers }) place
+entries-more past (Poll panel item turn) rest seat answers place = entries-polled past.turns past.now.told past.now.polls (record { seat = seat; request = Poll panel item turn; answers = answers })
+entries-more past (Leave panel) rest seat answers place = absurd place
+entries-more past (DisplayPoll screen refresh) rest seat answers place = absurd place
 
 -- A seat has seen one entry of its own more, the last, and this is its line.
 pub record SeesOwn (plant : PlantData) (entry : PlantEntry) (number : ℕ) (seat seat_then : PlantSeat) : Type 0 where
@@ -120,18 +106,3 @@ sees_own plant request answers number seat seat_then numbered legal answered add
           ∙ line-own plant next entry
           ∙ ap (λ (position : ℕ). trace_line plant position request answers) (sym position);
     }
-
--- A request was answered and traced.
-pub gone_asked : (plant : PlantData) (past : Progress) (bytes : List ℕ) (request : Request) (answers : List Answer) (number used : ℕ) (piece : List ℕ) (seat seat_then : PlantSeat) (written traced traced_then : Option (List ℕ))
-    → IsInPlace (with_bytes bytes past) request used piece → SeesOwn plant (asked_by seat request answers) number seat seat_then → traced_then ≡ appended traced (trace_line plant number request answers)
-    → HasGoneOn plant (outside seat written traced) (outside seat_then written traced_then) past (with_entry (asked_by seat request answers) (with_bytes bytes past))
-gone_asked plant past bytes request answers number used piece seat seat_then written traced traced_then place sees line = record {
-  new = sees.new;
-  sees = sees.sees;
-  full = sees.full;
-  entries = entries-more (with_bytes bytes past) request used piece seat.number answers place ∙ ap (λ (entries : List PlantEntry). entries_so_far past ++ entries) (sym sees.own);
-  sent = [];
-  sent_is = sym (append-nil past.sent);
-  written = sym (appended-none written);
-  traced = line ∙ ap (λ (lines : List ℕ). appended traced lines) (sym sees.lines);
-}

@@ -1,5 +1,5 @@
 -- What a session keeps of its past, as it sends and is answered.
-use Rattle.std.proofs.Common.{◌≡◌, ℕ, ◌+◌, ◌-◌, true, false, Bool, if◌then◌else◌, nat_eq, ◌⊎◌, inl, inr, List, [], ◌∷◌, ◌++◌, length, Option, Some, refl, sym, ap, ◌∙◌, subst, arith}
+use Rattle.std.proofs.Common.{◌≡◌, ℕ, ◌+◌, ◌-◌, ◌⊎◌, inl, inr, List, [], ◌∷◌, ◌++◌, length, Option, Some, refl, sym, ap, ◌∙◌, subst, arith}
 use Rattle.std.specs.Prelude.{IsSome}
 use Rattle.std.proofs.lemmas.List.Elements.{All-push}
 use Rattle.std.proofs.lemmas.List.{append-nil, append_assoc, length-append, map-append}
@@ -13,86 +13,21 @@ use Rattle.plant_core.specs.declared.request.Request.TheVariants.{Told, Poll}
 use Rattle.panel_session.specs.declared.session.asked.Asked.{Asked}
 use Rattle.panel_session.specs.declared.session.asked.Asked.TheVariants.{Sent}
 use Rattle.panel_session.specs.declared.session.phase.Phase.{Phase}
-use Rattle.panel_session.specs.declared.session.phase.Phase.TheVariants.{Read, Name, Tell, Poll as PollStage, End}
+use Rattle.panel_session.specs.declared.session.phase.Phase.TheVariants.{Read, Tell, Poll as PollStage, End}
 use Rattle.panel_session.specs.Entry.{PlantEntry}
 use Rattle.panel_session.specs.Asked.{sent_to_plant}
 use Rattle.panel_session.specs.Turns.{bytes_read, entries_of_turns, Turn}
 use Rattle.panel_session.specs.Text.{Output, frames_of, with_frames, nothing_sent, output_from, told_at, polled_by, polled_at, with_control}
 use Rattle.panel_session.specs.OutgoingInside.{emptied}
 use Rattle.panel_session.specs.SoFar.{Progress, read_so_far, entries_so_far, with_sent, with_entry}
-use Rattle.panel_session.specs.StandsInside.{Kept, Keeps, AllTold, NoneFrom, behind, pending, IsAtStage}
+use Rattle.panel_session.specs.StandsInside.{Kept, Keeps, AllTold, NoneFrom, behind, IsAtStage}
 use Rattle.panel_session.proofs.OutputLemmas.{told_output, output_more, output_later, frames-behind, sent-behind}
 use Rattle.panel_session.proofs.EntryLemmas.{all_told-append, all_told-same, sent-append, says_told, says_poll, polled_at-same, polled_at-poll, told_at-told, none_from-told, none_from-poll}
 use Rattle.panel_session.proofs.KeptItemLemmas.{length-asked, length-before, no_polls}
 
--- The phase says the same once bytes were sent.
-phase-sent : (phase : Phase) (panel first : ℕ) (before asked : List Asked) (past : Progress) (sent : List ℕ) → IsAtStage phase panel first before asked past → IsAtStage phase panel first before asked (with_sent sent past)
-phase-sent Read panel first before asked past sent at = at
-phase-sent (Name page) panel first before asked past sent at = at
-phase-sent (Tell message) panel first before asked past sent at = at
-phase-sent PollStage panel first before asked past sent at = at
-phase-sent End panel first before asked past sent at = at
-
--- What was to be sent is sent.
-pub keeps_sent : (plant : PlantData) (kept : Kept) (past : Progress) → kept.unsent ≡ true → Keeps plant kept past → Keeps plant (record kept { unsent = false }) (with_sent kept.output.bytes past)
-keeps_sent plant kept past is k =
-    let all : pending kept ≡ kept.output = ap (λ (test : Bool). if test then kept.output else emptied kept.output) is in
-    record {
-      turns = k.turns;
-      before = k.before;
-      ask_before = k.ask_before;
-      ended = k.ended;
-      end_in = k.end_in;
-      asked = k.asked;
-      ask = k.ask;
-      items_are = k.items_are;
-      turns_are = k.turns_are;
-      polls_are = k.polls_are;
-      within = k.within;
-      polls = k.polls;
-      phase = phase-sent kept.phase kept.panel (length (items (bytes_read past.turns))) k.before k.asked past kept.output.bytes k.phase;
-      none_from = k.none_from;
-      output = k.output ∙ ap (behind past.sent) all ∙ sent-behind past.sent kept.output;
-    }
-
--- Where nothing is to be sent, it is the same whatever bytes were.
-pub keeps_bytes : (plant : PlantData) (kept : Kept) (past : Progress) (bytes : List ℕ) → kept.unsent ≡ false → Keeps plant kept past
-    → Keeps plant (record kept { output = record kept.output { bytes = bytes } }) past
-keeps_bytes plant kept past bytes none k =
-    let now : Output = record kept.output { bytes = bytes } in
-    let was : pending kept ≡ emptied kept.output = ap (λ (test : Bool). if test then kept.output else emptied kept.output) none in
-    let is : pending (record kept { output = now }) ≡ emptied kept.output = ap (λ (test : Bool). if test then now else emptied now) none in
-    record {
-      turns = k.turns;
-      before = k.before;
-      ask_before = k.ask_before;
-      ended = k.ended;
-      end_in = k.end_in;
-      asked = k.asked;
-      ask = k.ask;
-      items_are = k.items_are;
-      turns_are = k.turns_are;
-      polls_are = k.polls_are;
-      within = k.within;
-      polls = k.polls;
-      phase = k.phase;
-      none_from = k.none_from;
-      output = k.output ∙ ap (behind past.sent) (was ∙ sym is);
-    }
-
--- The phase says the same whatever was sent.
-phase-unsent : (phase : Phase) (panel first : ℕ) (before asked : List Asked) (past : Progress) (sent other : List ℕ) → IsAtStage phase panel first before asked (with_sent sent past)
-    → IsAtStage phase panel first before asked (with_sent other past)
-phase-unsent Read panel first before asked past sent other at = at
-phase-unsent (Name page) panel first before asked past sent other at = at
-phase-unsent (Tell message) panel first before asked past sent other at = at
-phase-unsent PollStage panel first before asked past sent other at = at
-phase-unsent End panel first before asked past sent other at = at
-
--- Bytes that were sent are yet to be.
-pub keeps_unsent : (plant : PlantData) (kept : Kept) (past : Progress) (front rest : List ℕ) → Keeps plant (record kept { unsent = false }) (with_sent (front ++ rest) past)
-    → Keeps plant (record kept { output = record kept.output { bytes = rest }; unsent = true }) (with_sent front past)
-keeps_unsent plant kept past front rest k = record {
+-- It is the same whatever bytes were sent last.
+pub keeps_bytes : (plant : PlantData) (kept : Kept) (past : Progress) (bytes : List ℕ) → Keeps plant kept past → Keeps plant (record kept { output = record kept.output { bytes = bytes } }) past
+keeps_bytes plant kept past bytes k = record {
   turns = k.turns;
   before = k.before;
   ask_before = k.ask_before;
@@ -105,15 +40,10 @@ keeps_unsent plant kept past front rest k = record {
   polls_are = k.polls_are;
   within = k.within;
   polls = k.polls;
-  phase = phase-unsent kept.phase kept.panel (length (items (bytes_read past.turns))) k.before k.asked past (front ++ rest) front k.phase;
+  phase = k.phase;
   none_from = k.none_from;
-  output = k.output ∙ ap (λ (bytes : List ℕ). record kept.output { bytes = bytes }) (append-nil (past.sent ++ (front ++ rest)) ∙ sym (append_assoc past.sent front rest));
+  output = k.output;
 }
-
--- all of it is pending where some is, and nothing where none is
-pending_all : (unsent : Bool) (output : Output) → (unsent ≡ false → output.bytes ≡ []) → output ≡ (if unsent then output else emptied output)
-pending_all true output none = refl
-pending_all false output none = ap (λ (bytes : List ℕ). record output { bytes = bytes }) (none refl)
 
 pub entries-told : (turns : List Turn) (told polls : List PlantEntry) (entry : PlantEntry) → polls ≡ [] → entries_of_turns turns ++ ((told ++ entry ∷ []) ++ polls) ≡ (entries_of_turns turns ++ (told ++ polls)) ++ entry ∷ []
 entries-told turns told polls entry none =
@@ -127,14 +57,17 @@ entries-polled turns told polls entry =
     ap (λ (now : List PlantEntry). entries_of_turns turns ++ now) (sym (append_assoc told polls (entry ∷ [])))
     ∙ sym (append_assoc (entries_of_turns turns) (told ++ polls) (entry ∷ []))
 
--- The plant answered what an item sent to it.
-pub keeps_told : (plant : PlantData) (panel count turns polls seat : ℕ) (message : Message) (output : Output) (past : Progress) (answers : List Answer) (unsent : Bool)
-    → Keeps plant (record { panel = panel; phase = Tell message; items = count; turns = turns; polls = polls; output = output; unsent = false }) past
-    → (unsent ≡ false → (with_frames (frames_of answers) (emptied output)).bytes ≡ [])
-    → Keeps plant (record { panel = panel; phase = Read; items = count; turns = turns; polls = polls; output = with_frames (frames_of answers) (emptied output); unsent = unsent })
-    (with_entry (record { seat = seat; request = Told panel (count - 1) message; answers = answers }) past)
-keeps_told plant panel count turns polls seat message output past answers unsent k none =
-    let kept : Kept = record { panel = panel; phase = Tell message; items = count; turns = turns; polls = polls; output = output; unsent = false } in
+-- a past in which a request was answered, and the frames of its answers were sent
+abbrev pub with_answered : Output → PlantEntry → Progress → Progress
+with_answered output entry past = with_sent (with_frames (frames_of entry.answers) (emptied output)).bytes (with_entry entry past)
+
+-- The plant answered what an item sent to it, and the frames are sent.
+pub keeps_told : (plant : PlantData) (panel count turns polls seat : ℕ) (message : Message) (output : Output) (past : Progress) (answers : List Answer)
+    → Keeps plant (record { panel = panel; phase = Tell message; items = count; turns = turns; polls = polls; output = output }) past
+    → Keeps plant (record { panel = panel; phase = Read; items = count; turns = turns; polls = polls; output = with_frames (frames_of answers) (emptied output) })
+    (with_answered output (record { seat = seat; request = Told panel (count - 1) message; answers = answers }) past)
+keeps_told plant panel count turns polls seat message output past answers k =
+    let kept : Kept = record { panel = panel; phase = Tell message; items = count; turns = turns; polls = polls; output = output } in
     let front = k.phase.0 in
     let asked_is : k.asked ≡ front ++ Sent message ∷ [] = k.phase.1 in
     let first = length (items (bytes_read past.turns)) in
@@ -181,7 +114,7 @@ keeps_told plant panel count turns polls seat message output past answers unsent
     ∙ ap (with_frames (frames_of answers)) was
     ∙ frames-behind (frames_of answers) past.sent (emptied output) in
     let OutputIn : List PlantEntry → Type 0 = λ entries. output_from plant 0 (k.before ++ k.asked) entries nothing_sent
-    ≡ behind past.sent (if unsent then with_frames (frames_of answers) (emptied output) else emptied (with_frames (frames_of answers) (emptied output))) in
+    ≡ behind (past.sent ++ (with_frames (frames_of answers) (emptied output)).bytes) (emptied (with_frames (frames_of answers) (emptied output))) in
     record {
       turns = k.turns;
       before = k.before;
@@ -205,25 +138,19 @@ keeps_told plant panel count turns polls seat message output past answers unsent
         subst Told_all (sym more) all_told,
       );
       none_from = subst NoneIn (sym more) none_of;
-      output = subst OutputIn (sym more) (now ∙ ap (behind past.sent) (pending_all unsent (with_frames (frames_of answers) (emptied output)) none));
+      output = subst OutputIn (sym more) (now ∙ sent-behind past.sent (with_frames (frames_of answers) (emptied output)));
     }
 
--- Polls are over where one has no answer or was the 32nd, and else may go on.
-abbrev pub polled_phase : List Answer → ℕ → Phase
-polled_phase [] polls = End
-polled_phase (answer ∷ answers) polls = if nat_eq (polls + 1) 32 then End else PollStage
-
--- The plant answered a poll. What comes next is the phase with these facts of it.
-pub keeps_polled_to : (plant : PlantData) (phase : Phase) (panel count turns polls seat : ℕ) (output : Output) (past : Progress) (answers : List Answer) (unsent : Bool)
-    → Keeps plant (record { panel = panel; phase = PollStage; items = count; turns = turns; polls = polls; output = output; unsent = false }) past
-    → (unsent ≡ false → (with_frames (frames_of answers) (emptied output)).bytes ≡ [])
+-- The plant answered a poll, and the frames are sent. What comes next is the phase with these facts of it.
+pub keeps_polled_to : (plant : PlantData) (phase : Phase) (panel count turns polls seat : ℕ) (output : Output) (past : Progress) (answers : List Answer)
+    → Keeps plant (record { panel = panel; phase = PollStage; items = count; turns = turns; polls = polls; output = output }) past
     → ((before asked : List Asked) → IsAtStage PollStage panel (length (items (bytes_read past.turns))) before asked past
     → AllTold 0 (before ++ asked) (entries_so_far (with_entry (record { seat = seat; request = Poll panel count turns; answers = answers }) past))
-    → IsAtStage phase panel (length (items (bytes_read past.turns))) before asked (with_entry (record { seat = seat; request = Poll panel count turns; answers = answers }) past))
-    → Keeps plant (record { panel = panel; phase = phase; items = count; turns = turns; polls = polls + 1; output = with_frames (frames_of answers) (emptied output); unsent = unsent })
-    (with_entry (record { seat = seat; request = Poll panel count turns; answers = answers }) past)
-keeps_polled_to plant phase panel count turns polls seat output past answers unsent k none phase_then =
-    let kept : Kept = record { panel = panel; phase = PollStage; items = count; turns = turns; polls = polls; output = output; unsent = false } in
+    → IsAtStage phase panel (length (items (bytes_read past.turns))) before asked (with_answered output (record { seat = seat; request = Poll panel count turns; answers = answers }) past))
+    → Keeps plant (record { panel = panel; phase = phase; items = count; turns = turns; polls = polls + 1; output = with_frames (frames_of answers) (emptied output) })
+    (with_answered output (record { seat = seat; request = Poll panel count turns; answers = answers }) past)
+keeps_polled_to plant phase panel count turns polls seat output past answers k phase_then =
+    let kept : Kept = record { panel = panel; phase = PollStage; items = count; turns = turns; polls = polls; output = output } in
     let E = entries_so_far past in
     let n = length (items (read_so_far past)) in
     let entry : PlantEntry = record { seat = seat; request = Poll panel count turns; answers = answers } in
@@ -239,7 +166,7 @@ keeps_polled_to plant phase panel count turns polls seat output past answers uns
     ∙ ap (with_frames (frames_of answers)) k.output
     ∙ frames-behind (frames_of answers) past.sent (emptied output) in
     let OutputIn : List PlantEntry → Type 0 = λ entries. output_from plant 0 (k.before ++ k.asked) entries nothing_sent
-    ≡ behind past.sent (if unsent then with_frames (frames_of answers) (emptied output) else emptied (with_frames (frames_of answers) (emptied output))) in
+    ≡ behind (past.sent ++ (with_frames (frames_of answers) (emptied output)).bytes) (emptied (with_frames (frames_of answers) (emptied output))) in
     record {
       turns = k.turns;
       before = k.before;
@@ -255,22 +182,21 @@ keeps_polled_to plant phase panel count turns polls seat output past answers uns
       polls = All-push (λ (entry : PlantEntry). entry.request ≡ Poll panel n (length past.turns)) past.now.polls entry k.polls (is ∙ ap (Poll panel n) k.turns_are);
       phase = phase_then k.before k.asked k.phase (subst Told_all (sym more) all_told);
       none_from = subst NoneIn (sym more) (none_from-poll n panel turns E entry is k.none_from);
-      output = subst OutputIn (sym more) (now ∙ ap (behind past.sent) (pending_all unsent (with_frames (frames_of answers) (emptied output)) none));
+      output = subst OutputIn (sym more) (now ∙ sent-behind past.sent (with_frames (frames_of answers) (emptied output)));
     }
 
 -- a poll that is the last
-pub keeps_polled_last : (plant : PlantData) (panel count turns polls seat : ℕ) (output : Output) (past : Progress) (answers : List Answer) (unsent : Bool)
-    → Keeps plant (record { panel = panel; phase = PollStage; items = count; turns = turns; polls = polls; output = output; unsent = false }) past
-    → (unsent ≡ false → (with_frames (frames_of answers) (emptied output)).bytes ≡ [])
+pub keeps_polled_last : (plant : PlantData) (panel count turns polls seat : ℕ) (output : Output) (past : Progress) (answers : List Answer)
+    → Keeps plant (record { panel = panel; phase = PollStage; items = count; turns = turns; polls = polls; output = output }) past
     → (answers ≡ []) ⊎ (polls + 1 ≡ 32)
-    → Keeps plant (record { panel = panel; phase = End; items = count; turns = turns; polls = polls + 1; output = with_frames (frames_of answers) (emptied output); unsent = unsent })
-    (with_entry (record { seat = seat; request = Poll panel count turns; answers = answers }) past)
-keeps_polled_last plant panel count turns polls seat output past answers unsent k none last =
+    → Keeps plant (record { panel = panel; phase = End; items = count; turns = turns; polls = polls + 1; output = with_frames (frames_of answers) (emptied output) })
+    (with_answered output (record { seat = seat; request = Poll panel count turns; answers = answers }) past)
+keeps_polled_last plant panel count turns polls seat output past answers k last =
     let n = length (items (read_so_far past)) in
     let entry : PlantEntry = record { seat = seat; request = Poll panel count turns; answers = answers } in
     let poll = Poll panel n (length past.turns) in
     let is : entry.request ≡ poll = ap (λ (n : ℕ). Poll panel n turns) k.items_are ∙ ap (Poll panel n) k.turns_are in
-    keeps_polled_to plant End panel count turns polls seat output past answers unsent k none (λ before asked at all. (
+    keeps_polled_to plant End panel count turns polls seat output past answers k (λ before asked at all. (
       at.0,
       record {
         answered = past.now.polls;

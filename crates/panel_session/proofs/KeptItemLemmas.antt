@@ -1,5 +1,5 @@
 -- What a session keeps of its past, item by item.
-use Rattle.std.proofs.Common.{◌≡◌, ℕ, ◌+◌, false, List, [], ◌∷◌, ◌++◌, length, Option, refl, sym, ap, ◌∙◌, subst, arith}
+use Rattle.std.proofs.Common.{◌≡◌, ℕ, ◌+◌, List, [], ◌∷◌, ◌++◌, length, Option, refl, sym, ap, ◌∙◌, subst, arith}
 use Rattle.std.specs.Prelude.{All}
 use Rattle.std.proofs.lemmas.List.Elements.{All-nil}
 use Rattle.std.proofs.lemmas.List.{append-nil, append_assoc, length-append}
@@ -114,12 +114,12 @@ item_phase (Sent message) item panel first n before asked past asks phase none h
 
 -- a session that reads, with nothing to be sent
 abbrev pub reading : ℕ → ℕ → ℕ → ℕ → Output → Kept
-reading panel items turns polls output = record { panel = panel; phase = Read; items = items; turns = turns; polls = polls; output = output; unsent = false }
+reading panel items turns polls output = record { panel = panel; phase = Read; items = items; turns = turns; polls = polls; output = output }
 
 -- what an item makes of it
 abbrev pub taken : PlantData → Asked → ℕ → ℕ → ℕ → ℕ → Output → Kept
 taken plant a panel items turns polls output =
-    record { panel = panel; phase = taken_phase a; items = items + 1; turns = turns; polls = polls; output = taken_output plant a output; unsent = false }
+    record { panel = panel; phase = taken_phase a; items = items + 1; turns = turns; polls = polls; output = taken_output plant a output }
 
 -- The phase says the same of a past in which more bytes were used and sent.
 phase-past : (phase : Phase) (panel first : ℕ) (before asked : List Asked) (past : Progress) (bytes sent : List ℕ) → (phase ≡ End → ⊥) → IsAtStage phase panel first before asked past → IsAtStage phase panel first before asked (with_sent sent (with_bytes bytes past))
@@ -205,7 +205,7 @@ keeps_none plant panel count turns polls output past bytes k none =
 
 -- The piece is used up, and polls come.
 pub keeps_to_poll : (plant : PlantData) (panel count turns polls : ℕ) (output : Output) (past : Progress) → Keeps plant (reading panel count turns polls output) past
-    → Keeps plant (record { panel = panel; phase = PollStage; items = count; turns = turns; polls = polls; output = output; unsent = false }) past
+    → Keeps plant (record { panel = panel; phase = PollStage; items = count; turns = turns; polls = polls; output = output }) past
 keeps_to_poll plant panel count turns polls output past k = record {
   turns = k.turns;
   before = k.before;

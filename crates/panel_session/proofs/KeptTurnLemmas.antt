@@ -1,5 +1,5 @@
 -- What a session keeps of its past, turn by turn.
-use Rattle.std.proofs.Common.{◌≡◌, ◌≢◌, ℕ, ◌+◌, false, Bool, if◌then◌else◌, ◌⊎◌, inl, inr, List, [], ◌∷◌, ◌++◌, length, refl, sym, ap, ◌∙◌, subst, arith}
+use Rattle.std.proofs.Common.{◌≡◌, ◌≢◌, ℕ, ◌+◌, ◌⊎◌, inl, inr, List, [], ◌∷◌, ◌++◌, length, refl, sym, ap, ◌∙◌, subst, arith}
 use Rattle.std.proofs.lemmas.List.Elements.{All-nil, All-push}
 use Rattle.std.proofs.lemmas.List.{append-nil, length-append}
 use Rattle.dle_framing.specs.declared.item.Item.{Item}
@@ -20,23 +20,22 @@ use Rattle.panel_session.specs.Turns.{bytes_read, entries_of_turns, requests, Ar
 use Rattle.panel_session.specs.Text.{Output, frames_of, with_frames, nothing_sent, output_from, IsText}
 use Rattle.panel_session.specs.OutgoingInside.{emptied}
 use mathlib.Core.List.{IsPrefix}
-use Rattle.panel_session.specs.SoFar.{IsSoFar, Progress, nothing_yet, read_so_far, entries_so_far, with_entry, with_turn}
-use Rattle.panel_session.specs.StandsInside.{Kept, Keeps, AllTold, NoneFrom, behind, pending, IsAtStage}
+use Rattle.panel_session.specs.SoFar.{IsSoFar, Progress, nothing_yet, read_so_far, entries_so_far, with_turn}
+use Rattle.panel_session.specs.StandsInside.{Kept, Keeps, AllTold, NoneFrom, IsAtStage}
 use Rattle.panel_session.proofs.EntryLemmas.{all_ask-append, sent-append}
 use Rattle.panel_session.proofs.KeptItemLemmas.{reading}
-use Rattle.panel_session.proofs.KeepsLemmas.{keeps_polled_to}
+use Rattle.panel_session.proofs.KeepsLemmas.{keeps_polled_to, with_answered}
 
 -- a poll that isn't
-pub keeps_polled_more : (plant : PlantData) (panel count turns polls seat : ℕ) (output : Output) (past : Progress) (answers : List Answer) (unsent : Bool)
-    → Keeps plant (record { panel = panel; phase = PollStage; items = count; turns = turns; polls = polls; output = output; unsent = false }) past
-    → (unsent ≡ false → (with_frames (frames_of answers) (emptied output)).bytes ≡ [])
+pub keeps_polled_more : (plant : PlantData) (panel count turns polls seat : ℕ) (output : Output) (past : Progress) (answers : List Answer)
+    → Keeps plant (record { panel = panel; phase = PollStage; items = count; turns = turns; polls = polls; output = output }) past
     → answers ≢ [] → polls + 1 ≢ 32
-    → Keeps plant (record { panel = panel; phase = PollStage; items = count; turns = turns; polls = polls + 1; output = with_frames (frames_of answers) (emptied output); unsent = unsent })
-    (with_entry (record { seat = seat; request = Poll panel count turns; answers = answers }) past)
-keeps_polled_more plant panel count turns polls seat output past answers unsent k none some below =
+    → Keeps plant (record { panel = panel; phase = PollStage; items = count; turns = turns; polls = polls + 1; output = with_frames (frames_of answers) (emptied output) })
+    (with_answered output (record { seat = seat; request = Poll panel count turns; answers = answers }) past)
+keeps_polled_more plant panel count turns polls seat output past answers k some below =
     let entry : PlantEntry = record { seat = seat; request = Poll panel count turns; answers = answers } in
     let polls_are : polls ≡ length past.now.polls = k.polls_are in
-    keeps_polled_to plant PollStage panel count turns polls seat output past answers unsent k none (λ before asked at all. (
+    keeps_polled_to plant PollStage panel count turns polls seat output past answers k (λ before asked at all. (
       at.0,
       record {
         answered = All-push (λ (entry : PlantEntry). entry.answers ≢ []) past.now.polls entry at.1.answered some;
@@ -75,12 +74,12 @@ entries_of-append turns turn =
 
 -- A turn that is over is one.
 pub turn_over : (plant : PlantData) (panel count turns polls : ℕ) (output : Output) (past : Progress)
-    → Keeps plant (record { panel = panel; phase = End; items = count; turns = turns; polls = polls; output = output; unsent = false }) past → IsTurn panel past.turns past.now
+    → Keeps plant (record { panel = panel; phase = End; items = count; turns = turns; polls = polls; output = output }) past → IsTurn panel past.turns past.now
 turn_over plant panel count turns polls output past k = record { ended = k.ended; end_in = k.end_in; asked = k.asked; ask = k.ask; told = k.phase.0; polls = k.phase.1 }
 
 -- The next turn begins.
 pub keeps_turn : (plant : PlantData) (panel count turns polls : ℕ) (output : Output) (past : Progress)
-    → Keeps plant (record { panel = panel; phase = End; items = count; turns = turns; polls = polls; output = output; unsent = false }) past
+    → Keeps plant (record { panel = panel; phase = End; items = count; turns = turns; polls = polls; output = output }) past
     → Keeps plant (reading panel count (turns + 1) 0 output) (with_turn past)
 keeps_turn plant panel count turns polls output past k =
     let later = with_turn past in
@@ -138,15 +137,14 @@ keeps_nothing plant panel = record {
   NoneAsk : List (Item (List ℕ)) → Type 0
   NoneAsk its = AllAsk its []
 
--- The session's whole text was sent, where nothing is to be sent.
-pub keeps_text : (plant : PlantData) (kept : Kept) (past : Progress) → kept.unsent ≡ false → Keeps plant kept past → IsText plant (items (read_so_far past)) (entries_so_far past) past.sent
-keeps_text plant kept past is k =
+-- The session's whole text was sent.
+pub keeps_text : (plant : PlantData) (kept : Kept) (past : Progress) → Keeps plant kept past → IsText plant (items (read_so_far past)) (entries_so_far past) past.sent
+keeps_text plant kept past k =
     let AskOf : List (Item (List ℕ)) → Type 0 = λ its. AllAsk its (k.before ++ k.asked) in
-    let nothing : pending kept ≡ emptied kept.output = ap (λ (test : Bool). if test then kept.output else emptied kept.output) is in
     record {
       asked = k.before ++ k.asked;
       items_ask = subst AskOf (sym k.end_in) (all_ask-append (items (bytes_read past.turns)) k.ended k.before k.asked k.ask_before k.ask);
-      bytes = sym (ap (λ (output : Output). output.bytes) (k.output ∙ ap (behind past.sent) nothing) ∙ append-nil past.sent);
+      bytes = sym (ap (λ (output : Output). output.bytes) k.output ∙ append-nil past.sent);
     }
 
 -- What was told of a turn so far is a front of what its items send, and all of it where polls were made.
@@ -190,5 +188,5 @@ keeps_so_far plant kept past k =
         items_ask = subst AskOf (sym k.end_in) (all_ask-append (items (bytes_read past.turns)) k.ended k.before k.asked k.ask_before k.ask);
         bytes = refl;
       };
-      sent = ((pending kept).bytes, sym (ap (λ (output : Output). output.bytes) k.output));
+      sent = ([], sym (ap (λ (output : Output). output.bytes) k.output));
     }

@@ -7,9 +7,7 @@ mod NamesLeftLemmas
 pub mod StandsLemmas
 pub mod ActsLemmas
 pub mod ReadLemmas
-pub mod ApartLemmas
 pub mod CalledLemmas
-mod MadeLemmas
 pub mod AnsweredLemmas
 pub mod GoneOnLemmas
 pub mod AnsweringLemmas
@@ -20,10 +18,7 @@ pub mod ReadsLemmas
 pub mod TurnedLemmas
 pub mod EndedLemmas
 pub mod ServedLemmas
-mod NamesHandedLemmas
-pub mod HandedLemmas
 pub mod SessionLemmas
-mod NamesOnLemmas
 pub mod FrameRoom
 pub mod FrameLemmas
 pub mod AddLemmas
@@ -31,7 +26,6 @@ pub mod AheadLemmas
 pub mod RoomLemmas
 pub mod NamePageLemmas
 mod NamesAddedLemmas
-pub mod LeftLemmas
 pub mod RunLemmas
 pub mod TurnOnce
 pub mod ByteEnds

@@ -22,13 +22,6 @@ most-some size = elim (size == 0) as (λ test. 10 ≤ (if test then 32 else (if 
   | false ↦ elim (size == 1) as (λ test. 10 ≤ (if test then 16 else 10)) [ true ↦ omega arith | false ↦ omega arith ]
 ]
 
--- and 32 or fewer
-most-most : (size : ℕ) → most_names size ≤ 32
-most-most size = elim (size == 0) as (λ test. (if test then 32 else (if size == 1 then 16 else 10)) ≤ 32) [
-  | true ↦ omega arith
-  | false ↦ elim (size == 1) as (λ test. (if test then 16 else 10) ≤ 32) [ true ↦ omega arith | false ↦ omega arith ]
-]
-
 -- how many pages are left
 count-none : (size : ℕ) → page_count size 0 ≡ 0
 count-none size =
@@ -126,7 +119,7 @@ module _ (command matrix level size : ℕ) where
   abbrev Grows : Option (List (List ℕ)) → ℕ → Paged → Type 0
   Grows names first Nothing = Unit {0}
   Grows names first Last = Unit {0}
-  Grows names first (More next) = (first + 10 ≤ next) × (next < 65536) × HasName names next × (next ≤ first + 32)
+  Grows names first (More next) = (first + 10 ≤ next) × (next < 65536) × HasName names next
 
   grows : (one : Bool) (first : ℕ) (names : Option (List (List ℕ))) → IfSome names HaveNumbers → Grows names first (page_end one size first names)
   grows one first None few = tt
@@ -140,24 +133,12 @@ module _ (command matrix level size : ℕ) where
           | (inl more) ↦ subst (At true) (sym (lt-ltb (first + most) (length names) more))
               (elim one as (λ one. Grows (Some names) first (if one || false then Last else More (first + most))) [
                 | true ↦ tt
-                | false ↦ (omega (arith, most-some size), omega (arith, few, more), more, omega (arith, most-most size))
+                | false ↦ (omega (arith, most-some size), omega (arith, few, more), more)
               ])
           | (inr last) ↦ subst (At true) (sym (le-ltb (first + most) (length names) last))
               (elim one as (λ one. Grows (Some names) first (if one || true then Last else More (first + most))) [ true ↦ tt | false ↦ tt ])
         ])
         | (inr past) ↦ subst AtMore (sym (le-ltb first (length names) past)) tt
-      ]
-
-  -- A page of which there is a name is one of those that are left.
-  pub there_left : (one : Bool) (first : ℕ) (names : Option (List (List ℕ))) → HasName names first → pages_behind command matrix level size one first names ≢ []
-  there_left one first None there = absurd there
-  there_left true first (Some names) there =
-      let its = names_text command matrix level size first (page_names true size first names) in
-      subst (λ (test : Bool). (if test then its ∷ [] else []) ≢ []) (sym (lt-ltb first (length names) there)) (λ none. cc)
-  there_left false first (Some names) there =
-      elim (cases_lt (first + most_names size) (length names)) [
-        | (inl more) ↦ λ none. (let no = sym (from-more command matrix level size names first more) ∙ none in cc)
-        | (inr last) ↦ λ none. (let no = sym (from-last command matrix level size names first there last) ∙ none in cc)
       ]
 
   -- A page that is there has bytes.
@@ -177,7 +158,7 @@ module _ (plant : PlantData) (page : NamePage) where
   is_written end is some =
       written (command_of page.names) page.matrix (level_of page.names) page.size page.one page.first (names_of plant page.matrix page.names) (λ none. some (is ∙ none))
 
-  next_page : (next : ℕ) → More next ≡ end_of plant page → IfSome (names_of plant page.matrix page.names) HaveNumbers → (page.first + 10 ≤ next) × (next < 65536) × HasName (names_of plant page.matrix page.names) next × (next ≤ page.first + 32)
+  next_page : (next : ℕ) → More next ≡ end_of plant page → IfSome (names_of plant page.matrix page.names) HaveNumbers → (page.first + 10 ≤ next) × (next < 65536) × HasName (names_of plant page.matrix page.names) next
   next_page next is few =
       let GrowsTo : Paged → Type 0 = λ end. Grows (command_of page.names) page.matrix (level_of page.names) page.size (names_of plant page.matrix page.names) page.first end in
       subst GrowsTo (sym is) (grows (command_of page.names) page.matrix (level_of page.names) page.size page.one page.first (names_of plant page.matrix page.names) few)
@@ -203,11 +184,11 @@ module _ (plant : PlantData) (page : NamePage) (output : Output) where
   pub adds_nothing : Nothing ≡ end_of plant page → AddsNames plant page output None output
   adds_nothing is =
       let none : frames_left plant (Some page) ≡ [] = ap (map frame) (so_ends Nothing is) in
-      record { frames = []; frames_are = none; adds = refl; some = λ some. absurd (some none); next = tt; most = tt }
+      record { frames = []; frames_are = none; adds = refl; next = tt }
 
   -- The last page is sent,
   pub adds_last : (output_then : Output) → Last ≡ end_of plant page → output_then ≡ with_frame (frame (data_of plant page)) output → AddsNames plant page output None output_then
-  adds_last output_then is sent = record { frames = frame (data_of plant page) ∷ []; frames_are = ap (map frame) (so_ends Last is); adds = sent; some = λ some none. cc; next = tt; most = tt }
+  adds_last output_then is sent = record { frames = frame (data_of plant page) ∷ []; frames_are = ap (map frame) (so_ends Last is); adds = sent; next = tt }
 
   -- or one behind which there are more.
   pub adds_more : (next : ℕ) (output_then : Output) → More next ≡ end_of plant page → IfSome (names_of plant page.matrix page.names) HaveNumbers → page.size ≤ 2 → output_then ≡ with_frame (frame (data_of plant page)) output
@@ -218,7 +199,5 @@ module _ (plant : PlantData) (page : NamePage) (output : Output) where
         frames = frame (data_of plant page) ∷ [];
         frames_are = ap (map frame) (so_ends (More next) is);
         adds = sent;
-        some = λ some none. cc;
         next = record { is_page = record { size = size; first = omega (arith, grows.1) }; behind = grows.0; there = grows.2; same = refl };
-        most = omega (arith, grows.3);
       }

@@ -13,7 +13,7 @@ use Rattle.panel_session.specs.declared.session.phase.Phase.{Phase}
 use Rattle.panel_session.specs.AskedInside.{FoundAsks}
 use Rattle.panel_session.specs.MovesInside.{IsReadOrLeft, IsTakenTo, TakesTo, took, took_to}
 use Rattle.panel_session.specs.NamePages.{name_frames}
-use Rattle.panel_session.specs.NamePagesInside.{BeginsNames, IsNamePage, MayBeLeft, frames_left}
+use Rattle.panel_session.specs.NamePagesInside.{BeginsNames, IsNamePage, frames_left}
 use Rattle.panel_session.specs.NamesLeftInside.{NamesNone, left_at, stage_of, with_left}
 use Rattle.panel_session.specs.OutgoingInside.{emptied}
 use Rattle.panel_session.specs.SenderKept.{SenderData, sending}
@@ -22,7 +22,7 @@ use Rattle.panel_session.specs.WorkInside.{spelled_all}
 use Rattle.panel_session.specs.declared.sending.name_page.NamePage.{NamePage}
 use Rattle.panel_session.specs.declared.session.phase.Phase.TheVariants.{Read, Name, Tell, Poll as PollStage, End}
 use Rattle.dle_framing.specs.Numbers.{ack}
-use Rattle.panel_session.specs.ReadingInside.{HasReadOn, HasTakenOn}
+use Rattle.panel_session.specs.ReadingInside.{HasTakenOn}
 use Rattle.panel_session.specs.SoFar.{read_so_far}
 use Rattle.panel_session.specs.TakenInside.{sent_by, taken_output}
 use Rattle.panel_session.proofs.ActsLemmas.{has_taken_item, has_read_none}
@@ -32,7 +32,7 @@ use Rattle.panel_session.proofs.StandsLemmas.{phase-is, taken_plain}
 
 -- a session that has no pages of names left has spelled all
 spelled_by : (phase : Phase) (session : Session) → NamesNone phase
-    → record session { phase = stage_of phase; sender = sending (with_left session.sender.names phase true session.sender.output) session.sender } ≡ record session { phase = phase }
+    → record session { phase = stage_of phase; sender = sending (with_left session.sender.names phase session.sender.output) session.sender } ≡ record session { phase = phase }
 spelled_by Read session none = refl
 spelled_by (Name page) session none = absurd none
 spelled_by (Tell message) session none = refl
@@ -127,7 +127,7 @@ has_taken session after framer_then piece used a send goes_over finds taken some
 -- No item ended.
 pub has_passed : (session : Session) (framer_then : Framer) (piece : List ℕ) (used : ℕ) → GoesOver (take used piece) session.framer framer_then
     → ((text : List ℕ) → framer.StandsFor session.framer text → FoundAsks text piece used None)
-    → HasReadOn session piece used false (record session { framer = framer_then })
+    → HasTakenOn session piece used false (record session { framer = framer_then })
 has_passed session framer_then piece used goes_over finds = λ plant panel past reading small.
     has_read_none plant panel session past piece used framer_then reading (finds (read_so_far past) reading.stands.framer) (goes_over (read_so_far past) reading.stands.framer)
 
@@ -156,12 +156,5 @@ left_is_page Nothing session sender phase read other to = none_left IsNamePage p
 left_is_page Repeat session sender phase read other to = none_left IsNamePage phase (subst NamesNone (sym (to.1 ∙ read)) tt)
 left_is_page Refused session sender phase read other to = none_left IsNamePage phase (subst NamesNone (sym (to.1 ∙ read)) tt)
 left_is_page Noted session sender phase read other to = none_left IsNamePage phase (subst NamesNone (sym (to.1 ∙ read)) tt)
-left_is_page (Named message) session sender phase read other to = may_page phase (to read).2.may
-  where
-    may_page : (phase : Phase) → IfSome (left_at phase) (MayBeLeft session.sender.names message) → IfSome (left_at phase) IsNamePage
-    may_page Read may = tt
-    may_page (Name page) may = may.is_page
-    may_page (Tell told) may = tt
-    may_page PollStage may = tt
-    may_page End may = tt
+left_is_page (Named message) session sender phase read other to = (to read).2.is_page
 left_is_page (Sent message) session sender phase read other to = absurd (other message refl)

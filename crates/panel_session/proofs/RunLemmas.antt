@@ -1,19 +1,18 @@
 -- A turn that is on its way, whatever answers and wherever its bytes go.
 use Rattle.std.proofs.Common.{◌≡◌, ◌≢◌, ℕ, ◌^◌, ◌<◌, Bool, List, [], ◌∷◌, ◌++◌, length, take, drop, All, refl, sym, ap, ◌∙◌, subst, arith}
-use Rattle.std.proofs.lemmas.List.{append_assoc, append-nil, take-append-drop, length-drop, nil_from_length, take_all}
+use Rattle.std.proofs.lemmas.List.{append_assoc, append-nil, take-append-drop, length-drop, nil_from_length}
 use Rattle.std.proofs.lemmas.List.Elements.{All-nil, All-push}
 use Rattle.dle_framing.specs.Items.{items}
 use Rattle.plant_config.specs.Plant.{PlantData}
-use Rattle.panel_session.specs.declared.session.act.Act.TheVariants.{Rest}
 use Rattle.panel_session.specs.declared.session.Session.{Session}
-use Rattle.panel_session.specs.Acting.{Acts, MayGoOn}
+use Rattle.panel_session.specs.Acting.{MayGoOn}
 use Rattle.panel_session.specs.Engine.{HasCome, HasRun, HoldsAnswered, MayTurn}
 use Rattle.panel_session.specs.EngineInside.{HasAsked, HasSent, IsUnderWay}
 use Rattle.panel_session.specs.Entry.{PlantEntry}
 use Rattle.panel_session.specs.Run.{turned}
 use Rattle.panel_session.specs.Served.{AnsweredButLast}
 use Rattle.panel_session.specs.Session.{StandsFor}
-use Rattle.panel_session.specs.SoFar.{Progress, entries_so_far, unstarted, read_so_far, with_bytes, with_sent}
+use Rattle.panel_session.specs.SoFar.{Progress, IsOver, entries_so_far, unstarted, read_so_far, with_bytes, with_sent, with_turn}
 use Rattle.panel_session.specs.Turns.{Turn, bytes_read, entries_in, entries_of_turns, IsTurn}
 use Rattle.panel_session.specs.Text.{IsText}
 use Rattle.panel_session.proofs.AnsweredLemmas.{answered_front, answered_more}
@@ -161,17 +160,15 @@ module _ {Answerer : Type 0} {Answers : Answerer → List PlantEntry → Answere
       }
 
   -- the turn is over
-  pub way_over : {answerer : Answerer} {session after : Session} {now : Progress} {rest more : List ℕ} (used : ℕ)
-      → IsUnderWay Answers sf plant panel seat past piece first answerer session rest now more
-      → Acts plant panel (with_bytes (take used rest) now) rest used Rest after
+  pub way_over : {answerer : Answerer} {session after : Session} {now : Progress} {more : List ℕ}
+      → IsUnderWay Answers sf plant panel seat past piece first answerer session [] now more
+      → IsOver plant panel now → StandsFor plant panel after (with_turn now)
       → HasRun Answers sf plant panel seat past piece first answerer after more
-  way_over {after = after} {now = now} {rest = rest} {more = more} used way acts =
-      let used_now = with_bytes (take used rest) now in
-      let turn : Turn = record now.now { piece = now.now.piece ++ take used rest } in
+  way_over {after = after} {now = now} {more = more} way over stands =
+      let turn : Turn = now.now in
       let later : Progress = turned turn more past in
       let turns : now.turns ≡ past.turns = way.come.turns in
-      let all : take used rest ≡ rest = take_all used rest (omega (arith, acts.0)) in
-      let read : read_so_far later ≡ read_so_far used_now =
+      let read : read_so_far later ≡ read_so_far now =
       append-nil (bytes_read (past.turns ++ turn ∷ [])) ∙ bytes_of-append past.turns turn ∙ ap (λ (turns : List Turn). bytes_read turns ++ turn.piece) (sym turns) in
       let entries : entries_so_far later ≡ entries_so_far now =
       append-nil (entries_of_turns (past.turns ++ turn ∷ [])) ∙ entries_of-append past.turns turn
@@ -184,13 +181,13 @@ module _ {Answerer : Type 0} {Answers : Answerer → List PlantEntry → Answere
       let Of : List PlantEntry → Type 0 = λ entries. AnsweredButLast plant (read_so_far later) entries later.sent in
       record {
         turn = turn;
-        piece_is = ap (λ (bytes : List ℕ). now.now.piece ++ bytes) all ∙ way.come.piece_is;
-        is_turn = subst TurnBehind turns acts.1.turn;
+        piece_is = sym (append-nil turn.piece) ∙ way.come.piece_is;
+        is_turn = subst TurnBehind turns over.turn;
         seats = way.come.seats;
         answers = way.answers;
-        text = subst TextOf way.sent (subst TextBehind turns acts.1.text);
+        text = subst TextOf way.sent (subst TextBehind turns over.text);
         stands = subst At
             (ap (λ (turns : List Turn). record { turns = turns ++ turn ∷ []; now = unstarted; sent = now.sent }) turns
-            ∙ ap (λ (sent : List ℕ). record { turns = past.turns ++ turn ∷ []; now = unstarted; sent = sent }) way.sent) acts.2;
-        answered = λ yes keeps. subst Of (sym entries) (subst Read (sym read) (holds_read sf plant past now more (take used rest) way.answered yes keeps));
+            ∙ ap (λ (sent : List ℕ). record { turns = past.turns ++ turn ∷ []; now = unstarted; sent = sent }) way.sent) stands;
+        answered = λ yes keeps. subst Of (sym entries) (subst Read (sym read) (way.answered yes keeps));
       }

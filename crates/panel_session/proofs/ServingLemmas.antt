@@ -27,7 +27,6 @@ use Rattle.panel_session.specs.Session.{StandsFor, plant_of}
 use Rattle.panel_session.specs.SoFar.{Progress, entries_so_far, read_so_far, unstarted}
 use Rattle.panel_session.specs.Reply.{trace_line}
 use Rattle.panel_session.specs.Turns.{Turn, entries_in, entries_of_turns}
-use Rattle.panel_session.proofs.ActsLemmas.{no_bytes}
 use Rattle.panel_session.proofs.AnsweredLemmas.{answered_front}
 use Rattle.panel_session.proofs.AnsweringLemmas.{entered}
 use Rattle.panel_session.proofs.BrokenOffLemmas.{broken_both, broken_full}
@@ -109,10 +108,8 @@ module _ {W K L : Type 0} {kw : K → Option (List ℕ)} {kf : K → ℕ} {kn : 
         written = ends.gave.writes;
         traced = has.traces;
       } in
-      let To : Progress → Type 0 = λ now. HasBrokenOff plant Full (outside first.seat.now (lw out.link.now) (kw first.trace.now)) (outside last.seat.now (lw out_then.link.now) (kw last.trace.now)) past now in
-      subst To (no_bytes now)
-      (broken_both plant Full (outside first.seat.now (lw out.link.now) (kw first.trace.now)) there (outside last.seat.now (lw out_then.link.now) (kw last.trace.now)) past now _ gone
-      (broken_full plant now [] ends.between.seat.now last.seat.now (lw out_then.link.now) (kw ends.between.trace.now) (kw last.trace.now) ends.refuses.full (ap kw ends.refuses.trace_is) (subst Sent (sym ends.sent) answered)))
+      broken_both plant Full (outside first.seat.now (lw out.link.now) (kw first.trace.now)) there (outside last.seat.now (lw out_then.link.now) (kw last.trace.now)) past now now gone
+      (broken_full plant now ends.between.seat.now last.seat.now (lw out_then.link.now) (kw ends.between.trace.now) (kw last.trace.now) ends.refuses.full (ap kw ends.refuses.trace_is) (subst Sent (sym ends.sent) answered))
 
   -- A line wasn't traced.
   untraced_of : {now : Progress} {given : List ℕ} {last : AtLock W K} {session : Session} {out out_then : WriteHalf L}

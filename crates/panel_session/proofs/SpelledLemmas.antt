@@ -1,5 +1,5 @@
 -- A session that hands out all pages of names that are left.
-use Rattle.std.proofs.Common.{◌≡◌, ◌<◌, ◌≤◌, false, true, IfSome, List, ℕ, ◌++◌, Some, refl, sym, ap, ◌∙◌, subst, arith}
+use Rattle.std.proofs.Common.{◌≡◌, ◌<◌, ◌≤◌, IfSome, List, ℕ, ◌++◌, Some, refl, sym, ap, ◌∙◌, subst, arith}
 use Rattle.std.proofs.lemmas.Grind.{flat_map-append}
 use Rattle.swp08_messages.specs.Field.{wide_numbers}
 use Rattle.plant_config.specs.Plant.{PlantData}
@@ -7,12 +7,11 @@ use Rattle.panel_session.specs.EngineInside.{IsButBytes}
 use Rattle.panel_session.specs.MovesInside.{IsReadOrLeft, NamesOn}
 use Rattle.panel_session.specs.NamePagesInside.{GoesOnWith, IsFarBehind, IsNamePage, frames_left, numbers_left}
 use Rattle.panel_session.specs.NamesLeftInside.{NamesNone, left_at, stage_of, with_left}
-use Rattle.panel_session.specs.OneSend.{bytes_in}
 use Rattle.panel_session.specs.OutgoingInside.{emptied}
 use Rattle.panel_session.specs.SenderKept.{sending}
 use Rattle.panel_session.specs.Session.{StandsFor, made_by}
 use Rattle.panel_session.specs.SoFar.{Progress}
-use Rattle.panel_session.specs.Text.{Output, with_frames}
+use Rattle.panel_session.specs.Text.{Output, with_frames, bytes_in}
 use Rattle.panel_session.specs.WorkInside.{IsSpelled, left_bytes, spelled_all}
 use Rattle.panel_session.specs.declared.sending.name_page.NamePage.{NamePage}
 use Rattle.panel_session.specs.declared.session.phase.Phase.{Phase}
@@ -23,15 +22,8 @@ use Rattle.panel_session.proofs.ReadLemmas.{spelled_plain}
 use Rattle.panel_session.proofs.SentLemmas.{stands_whatever}
 use Rattle.panel_session.proofs.TraceLemmas.{frames-bytes}
 
-pub staged : (phase : Phase) → IsReadOrLeft phase → NamesNone (stage_of phase)
-staged Read may = tt
-staged (Name page) may = tt
-staged (Tell message) may = tt
-staged PollStage may = tt
-staged End may = tt
-
 -- what is yet to be sent, by the pages that are left
-left_whole : (names : PlantData) (phase : Phase) (output : Output) → IsReadOrLeft phase → with_left names phase true output ≡ with_frames (frames_left names (left_at phase)) output
+left_whole : (names : PlantData) (phase : Phase) (output : Output) → IsReadOrLeft phase → with_left names phase output ≡ with_frames (frames_left names (left_at phase)) output
 left_whole names Read output may = refl
 left_whole names (Name page) output may = refl
 left_whole names (Tell message) output may = absurd may
@@ -48,7 +40,7 @@ module _ (session after : Session) (page : NamePage) (at : session.phase ≡ Nam
   abbrev rest : List (List ℕ)
   rest = frames_left session.sender.names (left_at after.phase)
 
-  whole : with_left after.sender.names after.phase true after.sender.output ≡ with_frames (frames_left session.sender.names (Some page)) (emptied session.sender.output)
+  whole : with_left after.sender.names after.phase after.sender.output ≡ with_frames (frames_left session.sender.names (Some page)) (emptied session.sender.output)
   whole =
       let adds = on.adds size in
       left_whole after.sender.names after.phase after.sender.output on.left
@@ -69,18 +61,16 @@ module _ (session after : Session) (page : NamePage) (at : session.phase ≡ Nam
       let frames = frames_left session.sender.names (Some page) in
       let output = session.sender.output in
       let left : Output = with_frames frames (emptied output) in
-      let Then : Phase → PlantData → Output → Session = λ phase names output. record session { phase = phase; sender = record { names = names; output = output }; parted = false } in
+      let Then : Phase → PlantData → Output → Session = λ phase names output. record session { phase = phase; sender = record { names = names; output = output } } in
       let Spelled : Phase → Session = λ phase. record session {
         phase = stage_of phase;
-        sender = sending (record (with_left session.sender.names phase true output) { bytes = left.bytes }) session.sender;
-        parted = false;
+        sender = sending (record (with_left session.sender.names phase output) { bytes = left.bytes }) session.sender;
       } in
       record {
         bytes = left.bytes;
-        parted = false;
         same = ap spelled_all on.same
-            ∙ ap (λ (phase : Phase). Then phase after.sender.names (with_left after.sender.names after.phase true after.sender.output)) (read_stage after.phase on.left)
-            ∙ ap (λ (names : PlantData). Then Read names (with_left after.sender.names after.phase true after.sender.output)) on.names
+            ∙ ap (λ (phase : Phase). Then phase after.sender.names (with_left after.sender.names after.phase after.sender.output)) (read_stage after.phase on.left)
+            ∙ ap (λ (names : PlantData). Then Read names (with_left after.sender.names after.phase after.sender.output)) on.names
             ∙ ap (Then Read session.sender.names) whole
             ∙ ap (λ (all : Output). Then Read session.sender.names (record all { bytes = left.bytes })) (sym (behind_frames frames output))
             ∙ sym (ap Spelled at);
@@ -119,11 +109,11 @@ module _ (session after : Session) (page : NamePage) (at : session.phase ≡ Nam
 -- What was spelled on is spelled.
 pub spelled_on : (session before after : Session) → IsSpelled session (spelled_all before) → IsSpelled before (spelled_all after) → IsSpelled session (spelled_all after)
 spelled_on session before after one two =
-    let Then : Session → Session = λ session. record session { sender = sending (record session.sender.output { bytes = two.bytes }) session.sender; parted = two.parted } in
-    record { bytes = two.bytes; parted = two.parted; same = two.same ∙ ap Then one.same }
+    let Then : Session → Session = λ session. record session { sender = sending (record session.sender.output { bytes = two.bytes }) session.sender } in
+    record { bytes = two.bytes; same = two.same ∙ ap Then one.same }
 
 pub spelled_first : (session : Session) → IsSpelled session (spelled_all session)
-spelled_first session = record { bytes = made_by (spelled_all session); parted = session.parted; same = refl }
+spelled_first session = record { bytes = made_by (spelled_all session); same = refl }
 
 pub spelled_last : (session after : Session) → after.phase ≡ Read → IsSpelled session (spelled_all after) → IsSpelled session after
 spelled_last session after read spelled =
@@ -140,16 +130,15 @@ reads_then End may other = absurd may
 
 -- A session that has spelled what an item asks is one that has done it.
 pub is_done : (session after : Session) → after ≡ session → IsButBytes session after
-is_done session after is = record { bytes = made_by session; parted = session.parted; same = is }
+is_done session after is = record { bytes = made_by session; same = is }
 
 pub done_spelled : (before session after : Session) → spelled_all before ≡ session → IsSpelled before after → IsButBytes session after
 done_spelled before session after is spelled =
     let Of : Session → Type 0 = λ session. IsButBytes session after in
-    subst Of is (record { bytes = spelled.bytes; parted = spelled.parted; same = spelled.same })
+    subst Of is (record { bytes = spelled.bytes; same = spelled.same })
 
 -- It stands for what that stands for.
-pub done_stands : (plant : PlantData) (panel : ℕ) (past : Progress) (session after : Session) → IsButBytes session after → after.phase ≡ Read → session.unsent ≡ false → StandsFor plant panel session past → StandsFor plant panel after past
-done_stands plant panel past session after done reads none stands =
+pub done_stands : (plant : PlantData) (panel : ℕ) (past : Progress) (session after : Session) → IsButBytes session after → StandsFor plant panel session past → StandsFor plant panel after past
+done_stands plant panel past session after done stands =
     let Of : Session → Type 0 = λ session. StandsFor plant panel session past in
-    let read : session.phase ≡ Read = ap (λ (session : Session). session.phase) (sym done.same) ∙ reads in
-    subst Of (sym done.same) (stands_whatever plant panel session past done.bytes done.parted stands none (subst NamesNone (sym read) tt))
+    subst Of (sym done.same) (stands_whatever plant panel session past done.bytes stands)

@@ -1,5 +1,5 @@
 -- Each piece is worked as a turn, whatever machine takes what fits the plant.
-use Rattle.std.proofs.Common.{◌≡◌, ◌≢◌, ℕ, ◌+◌, ◌-◌, ◌<◌, ◌≤◌, ◌⊎◌, inl, inr, zero, suc, true≢false, true, false, List, [], ◌∷◌, ◌++◌, length, Option, Some, None, refl, sym, ap, ◌∙◌, subst, arith}
+use Rattle.std.proofs.Common.{◌≡◌, ◌≢◌, ℕ, ◌+◌, ◌-◌, ◌<◌, ◌≤◌, ◌⊎◌, inl, inr, zero, suc, List, [], ◌∷◌, ◌++◌, length, Option, Some, None, refl, sym, ap, ◌∙◌, subst, arith}
 use Rattle.std.specs.Prelude.{All}
 use Rattle.std.specs.Option.{option_to_list}
 use Rattle.std.proofs.lemmas.Bool.Decides.{eqb_tells}
@@ -31,7 +31,7 @@ use Rattle.panel_session.specs.Text.{Output, nothing_sent, with_frames, frames_o
 use Rattle.panel_session.specs.Turns.{Turn, entries_in}
 use Rattle.panel_session.proofs.AsksExist.{item_asks}
 use Rattle.panel_session.proofs.ByteEnds.{byte_ends}
-use Rattle.panel_session.proofs.KeepsLemmas.{keeps_sent, keeps_told, keeps_polled_last}
+use Rattle.panel_session.proofs.KeepsLemmas.{keeps_told, keeps_polled_last}
 use Rattle.panel_session.proofs.KeptItemLemmas.{taken, keeps_item, keeps_none, keeps_to_poll}
 use Rattle.panel_session.proofs.KeptTurnLemmas.{keeps_nothing, keeps_polled_more, keeps_text, keeps_turn, turn_over}
 
@@ -66,14 +66,14 @@ module _ {State : Type 0} (step : State → Request → Stepped State Answer) (F
     polls : ℕ
     output : Output
     more : List ℕ
-    keeps : Keeps plant (record { panel = panel; phase = phase; items = count; turns = turns; polls = polls; output = output; unsent = false }) (at turn more)
+    keeps : Keeps plant (record { panel = panel; phase = phase; items = count; turns = turns; polls = polls; output = output }) (at turn more)
     seats : All (λ entry. entry.seat ≡ panel) (entries_in turn)
     legal : IsLegal step Fits machine (entries_in turn)
 
   -- The turn begins.
   goes_begin : Settled plant panel past → Goes Read unstarted
   goes_begin settled =
-      let kept : Kept = record { panel = panel; phase = Read; items = settled.count; turns = settled.turns; polls = 0; output = settled.output; unsent = false } in
+      let kept : Kept = record { panel = panel; phase = Read; items = settled.count; turns = settled.turns; polls = 0; output = settled.output } in
       let begun : past ≡ at unstarted [] = λ i. record { turns = past.turns; now = settled.begins i; sent = (sym (append-nil past.sent)) i } in
       record {
         count = settled.count;
@@ -92,22 +92,20 @@ module _ {State : Type 0} (step : State → Request → Stepped State Answer) (F
       let KeepsSent : List ℕ → Type 0 = λ sent. Keeps plant kept (record { turns = past.turns; now = turn; sent = sent }) in
       subst KeepsSent (append_assoc past.sent more bytes) k
 
-  -- What was to be sent is sent.
+  -- The frames of answers were sent.
   goes_sent : (phase : Phase) (turn : Turn) (more : List ℕ) (count turns polls : ℕ) (output : Output)
-      → Keeps plant (record { panel = panel; phase = phase; items = count; turns = turns; polls = polls; output = output; unsent = true }) (at turn more)
+      → Keeps plant (record { panel = panel; phase = phase; items = count; turns = turns; polls = polls; output = output }) (with_sent output.bytes (at turn more))
       → All (λ entry. entry.seat ≡ panel) (entries_in turn) → IsLegal step Fits machine (entries_in turn) → Goes phase turn
-  goes_sent phase turn more count turns polls output k seats legal =
-      let kept : Kept = record { panel = panel; phase = phase; items = count; turns = turns; polls = polls; output = output; unsent = true } in
-      record {
-        count = count;
-        turns = turns;
-        polls = polls;
-        output = output;
-        more = more ++ output.bytes;
-        keeps = sent_at (record kept { unsent = false }) turn more output.bytes (keeps_sent plant kept (at turn more) refl k);
-        seats = seats;
-        legal = legal;
-      }
+  goes_sent phase turn more count turns polls output k seats legal = record {
+    count = count;
+    turns = turns;
+    polls = polls;
+    output = output;
+    more = more ++ output.bytes;
+    keeps = sent_at (record { panel = panel; phase = phase; items = count; turns = turns; polls = polls; output = output }) turn more output.bytes k;
+    seats = seats;
+    legal = legal;
+  }
 
   -- The piece is used up.
   goes_on : (turn : Turn) → Goes Read turn → Goes PollStage turn
@@ -142,7 +140,7 @@ module _ {State : Type 0} (step : State → Request → Stepped State Answer) (F
         let now : Turn = record turn { told = turn.told ++ entry ∷ [] } in
         let output = with_frames (frames_of entry.answers) (emptied goes.output) in
         let so = answered (entries_in turn) (entries_in now) request (told_behind turn.told turn.polls entry goes.keeps.phase.3) (has_panel, goes.keeps.phase.6) goes.seats goes.legal in
-        let told = keeps_told plant panel goes.count goes.turns goes.polls panel message goes.output (at turn goes.more) entry.answers true goes.keeps (λ is. absurd (true≢false is)) in
+        let told = keeps_told plant panel goes.count goes.turns goes.polls panel message goes.output (at turn goes.more) entry.answers goes.keeps in
         (now, refl, goes_sent Read now goes.more goes.count goes.turns goes.polls output told so.0 so.1)
 
     -- An item is taken: of what it asks only a message to the plant is yet to be told.
@@ -206,19 +204,19 @@ module _ {State : Type 0} (step : State → Request → Stepped State Answer) (F
         let now : Turn = record turn { polls = turn.polls ++ entry ∷ [] } in
         let output = with_frames (frames_of entry.answers) (emptied goes.output) in
         let so = answered (entries_in turn) (entries_in now) request (sym (append_assoc turn.told turn.polls (entry ∷ []))) has_panel goes.seats goes.legal in
-        let kept : Phase → Kept = λ phase. record { panel = panel; phase = phase; items = goes.count; turns = goes.turns; polls = goes.polls + 1; output = output; unsent = true } in
-        let sent : (phase : Phase) → Keeps plant (kept phase) (at now goes.more) → Goes phase now =
+        let kept : Phase → Kept = λ phase. record { panel = panel; phase = phase; items = goes.count; turns = goes.turns; polls = goes.polls + 1; output = output } in
+        let sent : (phase : Phase) → Keeps plant (kept phase) (with_sent output.bytes (at now goes.more)) → Goes phase now =
         λ phase k. goes_sent phase now goes.more goes.count goes.turns (goes.polls + 1) output k so.0 so.1 in
         elim (over entry.answers (goes.polls + 1)) [
           | (inl last) ↦ (
             now,
             refl,
             sent End
-                (keeps_polled_last plant panel goes.count goes.turns goes.polls panel goes.output (at turn goes.more) entry.answers true goes.keeps (λ is. absurd (true≢false is)) last),
+                (keeps_polled_last plant panel goes.count goes.turns goes.polls panel goes.output (at turn goes.more) entry.answers goes.keeps last),
           )
           | (inr on) ↦ goes_polls left now
               (sent PollStage
-              (keeps_polled_more plant panel goes.count goes.turns goes.polls panel goes.output (at turn goes.more) entry.answers true goes.keeps (λ is. absurd (true≢false is)) on.0 on.1))
+              (keeps_polled_more plant panel goes.count goes.turns goes.polls panel goes.output (at turn goes.more) entry.answers goes.keeps on.0 on.1))
               (omega (arith, within, length-append turn.polls (entry ∷ [])))
         ]
 
@@ -230,7 +228,7 @@ module _ {State : Type 0} (step : State → Request → Stepped State Answer) (F
       let read = goes_bytes has_panel fits piece unstarted (goes_begin settled) in
       let done = goes_polls has_panel fits 32 read.0 (goes_on read.0 read.2) (omega arith) in
       let goes = done.2 in
-      let kept : Kept = record { panel = panel; phase = End; items = goes.count; turns = goes.turns; polls = goes.polls; output = goes.output; unsent = false } in (
+      let kept : Kept = record { panel = panel; phase = End; items = goes.count; turns = goes.turns; polls = goes.polls; output = goes.output } in (
         done.0,
         goes.more,
         done.1 ∙ read.1,
@@ -238,7 +236,7 @@ module _ {State : Type 0} (step : State → Request → Stepped State Answer) (F
           is_turn = turn_over plant panel goes.count goes.turns goes.polls goes.output (at done.0 goes.more) goes.keeps;
           seats = goes.seats;
           legal = goes.legal;
-          text = keeps_text plant kept (at done.0 goes.more) refl goes.keeps;
+          text = keeps_text plant kept (at done.0 goes.more) goes.keeps;
         },
         record {
           count = goes.count;

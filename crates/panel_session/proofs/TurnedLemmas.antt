@@ -40,7 +40,7 @@ module _ {plant : PlantData} {panel : ℕ} where
       written = sym (appended-none link.written);
       traced = sym (appended-none trace.written);
     };
-    text = keeps_text plant (reading panel 0 0 0 nothing_sent) nothing_yet refl (keeps_nothing plant panel);
+    text = keeps_text plant (reading panel 0 0 0 nothing_sent) nothing_yet (keeps_nothing plant panel);
     answered = answered_begins plant;
     short = All-nil _;
     told = told_none link.read_half.reads;

@@ -1,18 +1,15 @@
 -- A turn that is on its way, from its begin, and on from where it came to.
-use Rattle.std.proofs.Common.{◌≡◌, ℕ, true, false, if◌then◌else◌, Bool, List, [], ◌++◌, refl, sym, subst}
+use Rattle.std.proofs.Common.{◌≡◌, ℕ, Bool, List, [], ◌++◌, refl, sym, subst}
 use Rattle.std.proofs.lemmas.List.{append_assoc, append-nil}
 use Rattle.plant_config.specs.Plant.{PlantData}
 use Rattle.panel_session.specs.declared.session.Session.{Session}
 use Rattle.panel_session.specs.declared.session.phase.Phase.TheVariants.{Read}
 use Rattle.panel_session.specs.Engine.{MayTurn}
-use Rattle.panel_session.specs.EngineInside.{GoesTo, HasSent, IsOnItsWay, IsUnderWay}
+use Rattle.panel_session.specs.EngineInside.{GoesTo, IsOnItsWay, IsUnderWay}
 use Rattle.panel_session.specs.Entry.{PlantEntry}
-use Rattle.panel_session.specs.Session.{later_of}
 use Rattle.panel_session.specs.SoFar.{Progress}
-use Rattle.panel_session.specs.WorkInside.{unsent_bytes}
-use Rattle.panel_session.proofs.RunLemmas.{way_begins, way_sent}
+use Rattle.panel_session.proofs.RunLemmas.{way_begins}
 use Rattle.panel_session.proofs.SentLemmas.{reads_unread}
-use Rattle.panel_session.proofs.SessionLemmas.{sends_unsent}
 
 -- no bytes more are sent
 pub more_none : {Answerer : Type 0} {Answers : Answerer → List PlantEntry → Answerer → Type 0} {sf : Bool} {plant : PlantData} {panel seat : ℕ} {past : Progress} {piece : List ℕ} {first answerer : Answerer} {session : Session} {rest : List ℕ} {now : Progress} {more : List ℕ}
@@ -57,41 +54,23 @@ goes_both {Answers = Answers} {sf = sf} {plant = plant} {panel = panel} {seat = 
       way = subst More (append_assoc before come.added on.added) on.way;
     }
 
-module _ {Answerer : Type 0} {Answers : Answerer → List PlantEntry → Answerer → Type 0} {sf : Bool}
-    {plant : PlantData} {panel seat : ℕ} {past : Progress} {piece : List ℕ} {first : Answerer} {IsSeat : Answerer → ℕ → Type 0} {Serves : PlantData → Answerer → Type 0} where
-  -- A turn begins, and what was not yet sent is.
-  way_given : {begun : Session} (unsent : Bool) → begun.unsent ≡ unsent → ((answerer : Answerer) → Answers answerer [] answerer) → MayTurn IsSeat Serves plant panel seat begun past first piece
-      → HasSent Answers sf plant panel seat past piece first first (record begun { unsent = false }) piece [] (if unsent then later_of begun else [])
-  way_given {begun = begun} true is none may = way_sent 0 (later_of begun) (way_begins none may) refl (sends_unsent plant panel begun past piece may.stands is).1
-  way_given {begun = begun} false is none may =
-      let At : Bool → Type 0 = λ unsent. IsUnderWay Answers sf plant panel seat past piece first first (record begun { unsent = unsent }) piece past [] in
-      let way : IsUnderWay Answers sf plant panel seat past piece first first begun piece past [] = way_begins none may in
-      record { now = past; way = subst At is way; earlier = way.answered }
-
-  pub way_begun : {begun : Session} (session : Session) → ((answerer : Answerer) → Answers answerer [] answerer) → MayTurn IsSeat Serves plant panel seat begun past first piece → session ≡ record begun { unsent = false }
-      → HasSent Answers sf plant panel seat past piece first first session piece [] (unsent_bytes begun)
-  way_begun {begun = begun} session none may is =
-      let On : Session → Type 0 = λ session. HasSent Answers sf plant panel seat past piece first first session piece [] (unsent_bytes begun) in
-      subst On (sym is) (way_given begun.unsent refl none may)
-
-  -- It is on its way then.
-  abbrev pub on_its_way : {begun : Session} (session : Session) → ((answerer : Answerer) → Answers answerer [] answerer) → MayTurn IsSeat Serves plant panel seat begun past first piece
-      → session ≡ record begun { unsent = false } → IsOnItsWay IsSeat Serves Answers sf session first piece
-  on_its_way {begun = begun} session none may is =
-      let given = way_begun session none may is in
-      record {
-        plant = plant;
-        panel = panel;
-        seat = seat;
-        begun = begun;
-        past = past;
-        piece = piece;
-        first = first;
-        now = given.now;
-        more = unsent_bytes begun;
-        may = may;
-        way = given.way;
-      }
+-- A turn is on its way where it begins.
+abbrev pub on_its_way : {Answerer : Type 0} {Answers : Answerer → List PlantEntry → Answerer → Type 0} {sf : Bool} {plant : PlantData} {panel seat : ℕ} {past : Progress} {piece : List ℕ} {first : Answerer}
+    {IsSeat : Answerer → ℕ → Type 0} {Serves : PlantData → Answerer → Type 0} {session : Session}
+    → ((answerer : Answerer) → Answers answerer [] answerer) → MayTurn IsSeat Serves plant panel seat session past first piece → IsOnItsWay IsSeat Serves Answers sf session first piece
+on_its_way {plant = plant} {panel = panel} {seat = seat} {past = past} {piece = piece} {first = first} {session = session} none may = record {
+  plant = plant;
+  panel = panel;
+  seat = seat;
+  begun = session;
+  past = past;
+  piece = piece;
+  first = first;
+  now = past;
+  more = [];
+  may = may;
+  way = way_begins none may;
+}
 
 -- A session reads at the beginning of a turn.
 pub begins_reading : {Answerer : Type 0} {IsSeat : Answerer → ℕ → Type 0} {Serves : PlantData → Answerer → Type 0} {plant : PlantData} {panel seat : ℕ} {past : Progress} {piece : List ℕ} {first : Answerer} {begun : Session}

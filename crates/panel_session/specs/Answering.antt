@@ -17,10 +17,9 @@ use Rattle.plant_core.specs.declared.request.Request.TheVariants.{Told, Poll, Le
 use Rattle.panel_session.specs.declared.engine.at_lock.AtLock.{AtLock}
 use Rattle.panel_session.specs.declared.engine.outlet.WriteHalf.{WriteHalf}
 use Rattle.panel_session.specs.Entry.{PlantEntry}
-use Rattle.panel_session.specs.OneSend.{bytes_in}
 use Rattle.panel_session.specs.Served.{PlantSeat, mark_after, own_lines}
 use Rattle.panel_session.specs.ServedInside.{SeesMore}
-use Rattle.panel_session.specs.Text.{frames_of}
+use Rattle.panel_session.specs.Text.{frames_of, bytes_in}
 use Rattle.panel_session.specs.Reply.{trace_line}
 
 -- the entry of a request that a seat asked and was answered so

@@ -153,10 +153,8 @@ bytes_ahead false bytes = []
 -- A session is this one, but for the bytes that it has yet.
 pub record IsButBytes (session after : Session) : Type 0 where
   pub bytes : List ℕ
-  pub parted : Bool
   pub same : after ≡ record session {
     sender = sending (record session.sender.output { bytes = bytes }) session.sender;
-    parted = parted;
   }
 
 -- An item that sends the plant nothing was taken.

@@ -1,5 +1,5 @@
 -- What holds of every session. The functions of `laws` promise it.
-use Rattle.std.specs.Prelude.{◌≡◌, ◌≢◌, ◌⊎◌, ℕ, List, [], ◌++◌, map}
+use Rattle.std.specs.Prelude.{◌≡◌, ◌≢◌, ℕ, List, [], ◌++◌, map}
 use mathlib.Core.List.{IsPrefix}
 use Rattle.dle_framing.specs.Items.{items}
 use Rattle.history_lock.specs.Step.{Stepped}
@@ -9,7 +9,7 @@ use Rattle.plant_core.specs.declared.request.Request.{Request}
 use Rattle.panel_session.specs.Entry.{PlantEntry}
 use Rattle.panel_session.specs.declared.session.Session.{Session}
 use Rattle.panel_session.specs.Run.{IsWorked}
-use Rattle.panel_session.specs.Session.{StandsFor, Awaits, later_of}
+use Rattle.panel_session.specs.Session.{StandsFor, Awaits}
 use Rattle.panel_session.specs.SoFar.{Progress, FitsOn, IsSoFar, unstarted}
 use Rattle.panel_session.specs.Text.{IsText}
 use Rattle.panel_session.specs.Turns.{Turn, FitsReads, bytes_read, entries_of_turns}
@@ -40,13 +40,11 @@ TurnsFit = (plant : PlantData) (panel : ℕ) (session : Session) (past : Progres
     → StandsFor plant panel session past
     → FitsReads panel (map (λ turn. turn.piece) past.turns) (entries_of_turns past.turns)
 
--- Before anything was done of a turn, the text of those that are over was sent, or is once the outgoing bytes are.
+-- Before anything was done of a turn, the text of those that are over was sent.
 abbrev pub TurnsAreSent : Type 0
 TurnsAreSent = (plant : PlantData) (panel : ℕ) (session : Session) (past : Progress)
     → StandsFor plant panel session past → past.now ≡ unstarted
     → IsText plant (items (bytes_read past.turns)) (entries_of_turns past.turns) past.sent
-    ⊎ IsText plant (items (bytes_read past.turns)) (entries_of_turns past.turns)
-    (past.sent ++ later_of session)
 
 -- what a session stands for begins a list of entries that fits what was read of it and the rest of the present piece, of which
 -- nothing is left where the turn has polled

@@ -11,7 +11,6 @@ pub mod OutgoingKept
 pub mod SenderKept
 pub mod PageKept
 pub mod SoFar
-pub mod OneSend
 pub mod NamePagesInside
 pub mod NamesLeftInside
 pub mod TakenInside
@@ -20,7 +19,6 @@ pub mod StandsInside
 pub mod Session
 pub mod MovesInside
 pub mod PolledInside
-pub mod CallsLeft
 pub mod Acting
 pub mod ReadingInside
 pub mod Lending

@@ -1,5 +1,5 @@
 -- What a session becomes, step by step.
-use Rattle.std.specs.Prelude.{◌≡◌, ℕ, ◌+◌, ◌%◌, ◌^◌, ◌≤◌, nat_lt, Bool, true, false, if◌then◌else◌, List, [], length, Option, None, Some, IfSome}
+use Rattle.std.specs.Prelude.{◌≡◌, ℕ, ◌+◌, ◌%◌, ◌^◌, ◌≤◌, List, [], Option, None, Some, IfSome}
 use Rattle.dle_framing.specs.Numbers.{ack}
 use Rattle.plant_config.specs.Plant.{PlantData}
 use Rattle.plant_core.specs.declared.answer.Answer.{Answer}
@@ -90,7 +90,6 @@ pub record NamesOn (page : NamePage) (session after : Session) : Type 0 where
   pub same : after ≡ record session {
     phase = after.phase;
     sender = after.sender;
-    parted = false;
   }
   pub names : after.sender.names ≡ session.sender.names
   pub left : IsReadOrLeft after.phase
@@ -99,22 +98,6 @@ pub record NamesOn (page : NamePage) (session after : Session) : Type 0 where
       → AddsNames session.sender.names page (emptied session.sender.output)
       (left_at after.phase) after.sender.output
 
--- An ACK goes by itself where it has pages of names behind it,
-abbrev pub goes_apart : Asked → List ℕ → Bool
-goes_apart Nothing bytes = false
-goes_apart Repeat bytes = false
-goes_apart Refused bytes = false
-goes_apart Noted bytes = false
-goes_apart (Named message) bytes = nat_lt 2 (length bytes)
-goes_apart (Sent message) bytes = false
-
--- and then they are yet to be sent.
-abbrev pub apart : Bool → Session → Session
-apart parted session = record session {
-  parted = parted;
-  unsent = if parted then true else session.unsent;
-}
-
 -- A good frame is counted, and its ACK is to be sent.
 abbrev pub acknowledged : Session → Session
 acknowledged session = record session {
@@ -122,12 +105,10 @@ acknowledged session = record session {
   counts = record session.counts { goods = next session.counts.goods };
 }
 
--- The answers in the outbox are what is to be sent.
-abbrev pub took_answers : List Answer → Bool → Session → Session
-took_answers answers unsent session = record session {
+-- These answers are what is to be sent.
+abbrev pub took_answers : List Answer → Session → Session
+took_answers answers session = record session {
   sender = sending (with_frames (frames_of answers) (emptied session.sender.output)) session.sender;
-  unsent = unsent;
-  parted = false;
   outbox = record session.outbox { items = [] };
 }
 

@@ -1,5 +1,5 @@
 -- The pages of names that a message asks for.
-use Rattle.std.specs.Prelude.{ℕ, ◌+◌, ◌-◌, ◌*◌, ◌/◌, ◌≤◌, nat_lt, if◌then◌else◌, true, false, List, [], ◌∷◌, length, map, Option, None, Some, IfSome}
+use Rattle.std.specs.Prelude.{ℕ, ◌+◌, ◌-◌, ◌*◌, ◌/◌, nat_lt, if◌then◌else◌, true, false, List, [], ◌∷◌, length, map, Option, None, Some}
 use Rattle.std.specs.List.{range_with_len}
 use Rattle.dle_framing.specs.Frame.{frame}
 use Rattle.swp08_messages.specs.declared.message.Message.{Message}
@@ -36,21 +36,9 @@ one_page command matrix level size number (Some names) =
     then names_text command matrix level size number (page_names true size number names) ∷ []
     else []
 
--- the names of which a message asks for all or for one, where the plant has them
-abbrev pub names_asked : PlantData → Message → Option (List (List ℕ))
-names_asked plant (SourceNamesAsk matrix level size) = names_of_sources plant matrix level
-names_asked plant (SourceNameAsk matrix level size number) = names_of_sources plant matrix level
-names_asked plant (DestNamesAsk matrix size) = names_of_dests plant matrix
-names_asked plant (DestNameAsk matrix size number) = names_of_dests plant matrix
-names_asked plant message = None
-
 -- the most names of which all pages are sent at once
 abbrev pub names_at_once : ℕ
 names_at_once = 1024
-
--- The pages of these names are sent at once.
-abbrev pub GoAtOnce : Option (List (List ℕ)) → Type 0
-GoAtOnce names = IfSome names (λ names. length names ≤ names_at_once)
 
 -- The DATA of the pages of the plant's names that a message asks for, in order: all pages of a level's sources or of a
 -- matrix's destinations, or one page with one name. There is none where the plant has no such level, matrix or number. [profile]

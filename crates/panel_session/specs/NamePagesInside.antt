@@ -1,5 +1,5 @@
 -- Pages of names, one after the other.
-use Rattle.std.specs.Prelude.{◌≡◌, ◌≢◌, ℕ, ◌+◌, ◌-◌, ◌*◌, ◌<◌, ◌≤◌, Bool, if◌then◌else◌, List, [], ◌++◌, length, map, Option, None, Some, IfSome}
+use Rattle.std.specs.Prelude.{◌≡◌, ℕ, ◌+◌, ◌-◌, ◌*◌, ◌<◌, ◌≤◌, Bool, if◌then◌else◌, List, [], ◌++◌, length, map, Option, None, Some, IfSome}
 use Rattle.std.specs.List.{range_with_len}
 use Rattle.dle_framing.specs.Frame.{frame}
 use Rattle.swp08_messages.specs.Field.{wide_numbers}
@@ -11,8 +11,7 @@ use Rattle.panel_session.specs.declared.sending.name_page.NamesOf.{NamesOf}
 use Rattle.panel_session.specs.declared.sending.name_page.NamesOf.TheVariants.{Sources, Dests}
 use Rattle.swp08_messages.specs.declared.message.Message.{Message}
 use Rattle.panel_session.specs.NamePages.{page_count, page_first, page_from, one_page}
-use Rattle.panel_session.specs.NamePages.{name_frames, names_asked, names_at_once}
-use Rattle.panel_session.specs.OneSend.{bytes_in}
+use Rattle.panel_session.specs.NamePages.{name_frames, names_at_once}
 use Rattle.panel_session.specs.Text.{Output, with_frames}
 
 -- A page has names of one of three sizes, and its number is one. [profile]
@@ -80,16 +79,13 @@ pub record GoesOnWith (plant : PlantData) (page next : NamePage) : Type 0 where
   pub there : HasName (names_of plant next.matrix next.names) next.first
   pub same : names_of plant next.matrix next.names ≡ names_of plant page.matrix page.names
 
--- The frames of pages of names from one on were added to an output, and those from another on are left. If there is one, there
--- are bytes.
+-- The frames of pages of names from one on were added to an output, and those from another on are left.
 pub record AddsNames (plant : PlantData) (page : NamePage) (output : Output)
     (left : Option NamePage) (output_then : Output) : Type 0 where
   pub frames : List (List ℕ)
   pub frames_are : frames_left plant (Some page) ≡ frames ++ frames_left plant left
   pub adds : output_then ≡ with_frames frames output
-  pub some : frames_left plant (Some page) ≢ [] → bytes_in frames ≢ []
   pub next : IfSome left (GoesOnWith plant page)
-  pub most : IfSome left (λ next. next.first ≤ page.first + 32 * length frames)
 
 -- There is room for a part's next page: those before it have at least ten names each, and at most 276 bytes.
 abbrev pub HasRoomFor : ℕ → NamePage → Output → Type 0
@@ -99,21 +95,13 @@ HasRoomFor from page output = 10 * length output.bytes + 276 * from ≤ 20 + 276
 abbrev pub IsFarBehind : ℕ → NamePage → Type 0
 IsFarBehind from page = (from + names_at_once ≤ page.first) × (page.first < wide_numbers)
 
--- This page of the names that a message asks for is left: 1,024 names or more stand before it, and it is there.
-pub record MayBeLeft (plant : PlantData) (message : Message) (page : NamePage) : Type 0 where
-  pub is_page : IsNamePage page
-  pub far : names_at_once ≤ page.first
-  pub there : HasName (names_of plant page.matrix page.names) page.first
-  pub same : names_of plant page.matrix page.names ≡ names_asked plant message
-
 -- The first frames of the pages that a message asks for were added to an output, and those from a page on are left.
 pub record BeginsNames (plant : PlantData) (message : Message) (output : Output)
     (left : Option NamePage) (output_then : Output) : Type 0 where
   pub frames : List (List ℕ)
   pub frames_are : name_frames plant message ≡ frames ++ frames_left plant left
   pub adds : output_then ≡ with_frames frames output
-  pub may : IfSome left (MayBeLeft plant message)
-  pub enough : IfSome left (λ next. 32 ≤ length frames)
+  pub is_page : IfSome left IsNamePage
 
 -- the numbers that a page may yet begin at
 abbrev pub numbers_left : Option NamePage → ℕ

@@ -1,5 +1,5 @@
 -- A session whose turns are all over.
-use Rattle.std.specs.Prelude.{◌≡◌, ℕ, false}
+use Rattle.std.specs.Prelude.{◌≡◌, ℕ}
 use Rattle.plant_config.specs.Plant.{PlantData}
 use Rattle.panel_session.specs.declared.session.phase.Phase.TheVariants.{Read}
 use Rattle.panel_session.specs.SoFar.{Progress, unstarted}
@@ -16,7 +16,6 @@ between_turns panel items turns output =
       turns = turns;
       polls = 0;
       output = output;
-      unsent = false;
     }
 
 -- What a session of a panel of this plant has done where all its turns are over: something is kept of it.

@@ -85,12 +85,6 @@ pub record FitsOn (panel : ℕ) (past : Progress) (piece : List ℕ) : Type 0 wh
   pub fits : FitsReads panel (map (λ turn. turn.piece) past.turns ++ piece ∷ []) entries
   pub front : IsPrefix (entries_so_far past) entries
 
--- A front of the session's text of what was read and answered was sent.
-pub record SendsFront (plant : PlantData) (past : Progress) : Type 0 where
-  pub text : List ℕ
-  pub is_text : IsText plant (items (read_so_far past)) (entries_so_far past) text
-  pub sent : IsPrefix past.sent text
-
 -- A turn is over: it is one, and the session's whole text of what was read and answered was sent.
 pub record IsOver (plant : PlantData) (panel : ℕ) (past : Progress) : Type 0 where
   pub turn : IsTurn panel past.turns past.now

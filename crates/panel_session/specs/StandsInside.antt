@@ -1,5 +1,5 @@
 -- What a session keeps of its past.
-use Rattle.std.specs.Prelude.{◌≡◌, ◌≢◌, ℕ, ◌+◌, ◌<◌, ◌≤◌, Bool, if◌then◌else◌, List, [], ◌∷◌, ◌++◌, length, All, None}
+use Rattle.std.specs.Prelude.{◌≡◌, ◌≢◌, ℕ, ◌+◌, ◌<◌, ◌≤◌, List, [], ◌∷◌, ◌++◌, length, All, None}
 use Rattle.std.specs.Prelude.{IsSome}
 use Rattle.dle_framing.specs.declared.item.Item.{Item}
 use Rattle.dle_framing.specs.Items.{items}
@@ -24,7 +24,6 @@ pub record Kept : Type 0 where
   pub turns : ℕ
   pub polls : ℕ
   pub output : Output
-  pub unsent : Bool
 
 -- What an item sent to the plant has its entry.
 abbrev pub IsTold : ℕ → Asked → List PlantEntry → Type 0
@@ -49,10 +48,6 @@ pub record NoneFrom (item : ℕ) (entries : List PlantEntry) : Type 0 where
 -- an output with these bytes before its own
 abbrev pub behind : List ℕ → Output → Output
 behind before output = record output { bytes = before ++ output.bytes }
-
--- what is yet to be sent
-abbrev pub pending : Kept → Output
-pending kept = if kept.unsent then kept.output else emptied kept.output
 
 -- The polls of a turn so far were answered, and may go on.
 pub record MayPoll (polls : List PlantEntry) : Type 0 where
@@ -87,7 +82,7 @@ IsAtStage End panel first before asked past =
 abbrev pub output_so_far : PlantData → Progress → List Asked → Output
 output_so_far plant past asked = output_from plant 0 asked (entries_so_far past) nothing_sent
 
--- What is kept stands for this past of a session of this plant.
+-- What is kept stands for this past of a session of this plant: all that it made was sent.
 pub record Keeps (plant : PlantData) (kept : Kept) (past : Progress) : Type 0 where
   pub turns : AreTurns kept.panel past.turns
   pub before : List Asked
@@ -103,4 +98,4 @@ pub record Keeps (plant : PlantData) (kept : Kept) (past : Progress) : Type 0 wh
   pub polls : All (λ entry. entry.request ≡ poll_now kept.panel past) past.now.polls
   pub phase : IsAtStage kept.phase kept.panel (item_count past.turns) before asked past
   pub none_from : NoneFrom (length (items (read_so_far past))) (entries_so_far past)
-  pub output : output_so_far plant past (before ++ asked) ≡ behind past.sent (pending kept)
+  pub output : output_so_far plant past (before ++ asked) ≡ behind past.sent (emptied kept.output)

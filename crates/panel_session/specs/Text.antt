@@ -57,6 +57,10 @@ frames_behind page (Finished ∷ others) = frames_behind page others
 abbrev pub frames_of : List Answer → List (List ℕ)
 frames_of answers = frames_behind no_page answers
 
+-- the bytes of frames, one behind the other
+abbrev pub bytes_in : List (List ℕ) → List ℕ
+bytes_in frames = flat_map (λ sent. sent) frames
+
 -- What was sent so far: the bytes, the last message frame that was newly sent, and how often it was sent again. [profile]
 pub record Output : Type 0 where
   pub bytes : List ℕ

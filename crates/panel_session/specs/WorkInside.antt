@@ -1,23 +1,18 @@
--- What a session has yet to hand out.
-use Rattle.std.specs.Prelude.{◌≡◌, ℕ, Bool, true, if◌then◌else◌, List, []}
+-- What a session has yet to spell.
+use Rattle.std.specs.Prelude.{◌≡◌, ℕ, List}
 use Rattle.panel_session.specs.declared.session.Session.{Session}
 use Rattle.panel_session.specs.declared.session.phase.Phase.TheVariants.{Poll}
 use Rattle.panel_session.specs.NamePagesInside.{frames_left}
 use Rattle.panel_session.specs.NamesLeftInside.{left_at, stage_of, with_left}
-use Rattle.panel_session.specs.OneSend.{bytes_in}
 use Rattle.panel_session.specs.SenderKept.{sending}
-use Rattle.panel_session.specs.Session.{later_of}
-
--- what was not yet handed out
-abbrev pub unsent_bytes : Session → List ℕ
-unsent_bytes session = if session.unsent then later_of session else []
+use Rattle.panel_session.specs.Text.{bytes_in}
 
 -- a session that has spelled all pages of names that are left
 abbrev pub spelled_all : Session → Session
 spelled_all session = record session {
   phase = stage_of session.phase;
   sender = sending
-      (with_left session.sender.names session.phase true session.sender.output) session.sender;
+      (with_left session.sender.names session.phase session.sender.output) session.sender;
 }
 
 -- the bytes of these pages
@@ -28,10 +23,8 @@ left_bytes session = bytes_in (frames_left session.sender.names (left_at session
 -- the bytes that it has yet.
 pub record IsSpelled (session after : Session) : Type 0 where
   pub bytes : List ℕ
-  pub parted : Bool
   pub same : after ≡ record (spelled_all session) {
     sender = sending (record (spelled_all session).sender.output { bytes = bytes }) session.sender;
-    parted = parted;
   }
 
 -- a session that has polled so often in the turn, and polls again

@@ -1,6 +1,6 @@
 //! The session of one panel: from the bytes that the panel sends to the bytes that it is sent, by requests to the plant.
-//! `Session::act` says what the caller does next: send bytes, ask the plant, or read on. What is promised rests on
-//! `specs/Turns.antt`, the requests that a session makes, and `specs/Text.antt`, the bytes that it sends.
+//! `Session::work_turn` works a turn, over any answerer and any outlet. What is promised rests on `specs/Turns.antt`, the
+//! requests that a session makes, and `specs/Text.antt`, the bytes that it sends.
 #![tactic(auto)]
 
 mod engine;
@@ -16,7 +16,6 @@ pub use engine::outlet::Outlet;
 pub use laws::{one_turn, so_far_fits, stands_so_far, texts_go_on, turns_fit};
 pub use serve::{SessionEnd, serve_session};
 pub use session::Session;
-pub use session::act::Act;
 pub use session::counts::Counts;
 pub use session::cut::Cut;
 pub use traces::trace_laws::lines_end_once;

@@ -1,15 +1,14 @@
 //! The session of one panel.
 
-ghost use Rattle.std.specs.Prelude.{◌≡◌, ℕ, ◌<◌, ◌≤◌, false, [], length, All, IfOk};
+ghost use Rattle.std.specs.Prelude.{◌≡◌, ℕ, ◌<◌, [], length, IfOk};
 ghost use Rattle.std.specs.Borrow.{sem};
 ghost use Rattle.plant_config.specs.Plant.{PlantData};
 ghost use Rattle.plant_core.specs.declared.request.Request.{Request};
 ghost use Rattle.plant_core.specs.declared.request.Request.TheVariants.{Leave};
-ghost use Rattle.plant_core.specs.Answer.{IsSayable, room_of};
+ghost use Rattle.plant_core.specs.Answer.{room_of};
 ghost use Rattle.panel_session.specs.SoFar.{Progress, nothing_yet};
 ghost use Rattle.panel_session.specs.Reply.{trace_line};
 
-pub(crate) mod act;
 pub(crate) mod asked;
 pub(crate) mod counts;
 pub(crate) mod cut;
@@ -20,10 +19,8 @@ pub(crate) mod phase;
 mod requests;
 
 use crate::sending::sender::Sender;
-use crate::session::act::Act;
-use crate::session::asked::next_asked;
 use crate::session::counts::Counts;
-use crate::session::phase::{Phase, phase_behind};
+use crate::session::phase::Phase;
 use dle_framing::Framer;
 use history_lock::OutBox;
 use plant_config::{PanelNo, Plant};
@@ -31,9 +28,6 @@ use plant_core::{Answer, PlantState, Request};
 use plant_names::Names;
 use std::alloc::{AllocError, Global};
 use trace_lines::LineRoom;
-
-// The bytes of an ACK.
-const ACK_LEN: usize = 2;
 
 /// A session of one panel: what the panel sends is handed in, in whatever pieces it comes, and what it is sent comes out.
 /// Between the two a session asks the plant, by its caller. All its memory is taken by `start`.
@@ -44,10 +38,6 @@ pub struct Session<'p> {
     framer: Framer,
     phase: Phase,
     sender: Sender<'p>,
-    // Whether the outgoing bytes were not yet handed out.
-    unsent: bool,
-    // Whether they are an ACK with pages of names behind it, of which the ACK goes by itself.
-    parted: bool,
     outbox: OutBox<Answer>,
     // The items so far, and the polls of this turn.
     items: u64,
@@ -58,15 +48,10 @@ pub struct Session<'p> {
 }
 
 impl<'p> Session<'p> {
-    ghost use Rattle.panel_session.specs.Acting.{ActsOn};
     ghost use Rattle.panel_session.specs.Counted.{AreCounts};
     ghost use Rattle.panel_session.specs.Lending.{LendsOutbox, StaysTheSame};
-    ghost use Rattle.panel_session.specs.CallsLeft.{phase_left, IsNearer, LeavesLess};
-    ghost use Rattle.panel_session.specs.declared.session.phase.Phase.TheVariants.{Read};
-    ghost use Rattle.panel_session.specs.ReadingInside.{ReadsOn, HasReadOn};
-    ghost use Rattle.panel_session.specs.Session.{outgoing_of, outbox_of, plant_of};
+    ghost use Rattle.panel_session.specs.Session.{outbox_of, plant_of};
     ghost use Rattle.panel_session.specs.Session.{StandsFor, Awaits};
-    ghost use Rattle.panel_session.specs.Session.{MakesAnswers, TakesAnswers};
     ghost use Rattle.panel_session.specs.Session.{BeginsAnew, BeginsAnewUnanswered};
 
     /// A session of a panel of the plant, to which nothing was sent. The names are those of the plant. Its room is enough for
@@ -89,8 +74,6 @@ impl<'p> Session<'p> {
             framer: Framer::new(),
             phase: Phase::Read,
             sender: Sender::new(alloc, plant, names)?,
-            unsent: false,
-            parted: false,
             outbox: OutBox::new(alloc, PlantState::room_of(plant))?,
             items: 0,
             polls: 0,
@@ -111,8 +94,6 @@ impl<'p> Session<'p> {
         self.framer.reset();
         self.phase = Phase::Read;
         self.sender.reset();
-        self.unsent = false;
-        self.parted = false;
         self.outbox.clear();
         self.items = 0;
         self.polls = 0;
@@ -150,19 +131,7 @@ impl<'p> Session<'p> {
         self.counts
     }
 
-    /// The bytes to be written after `Act::Send`.
-    pub fn outgoing(&self) -> &[u8]
-        ensures { result.now ≡ outgoing_of self.now }
-    {
-        let bytes = self.sender.as_slice();
-        if !self.parted {
-            return bytes;
-        }
-        let (ack, pages) = bytes.split_at(ACK_LEN.min(bytes.len()));
-        if self.unsent { ack } else { pages }
-    }
-
-    /// Where the plant puts its answers after `Act::Ask`.
+    /// Where the answers to what it asks are put.
     pub fn outbox(&mut self) -> &mut OutBox<Answer>
         ensures* lends { sem 𝓛 (LendsOutbox self.entry result) }
         ensures now { result.now ≡ outbox_of self.old }
@@ -182,91 +151,5 @@ impl<'p> Session<'p> {
     {
         let leave = Request::Leave { panel: self.panel };
         self.line.write(position, leave, b"")
-    }
-
-    /// Goes on with the turn, in what is left of its piece: how many bytes it used of that, and what the caller does next.
-    pub fn act(&mut self, piece: &[u8]) -> (usize, Act)
-        ensures within { result.0 ≤ length piece.now }
-        ensures acts { ActsOn self.old piece.now result.0 result.1 self.new }
-        ensures ends { LeavesLess self.old (length piece.now) result.0 result.1 self.new }
-    {
-        if self.unsent {
-            self.unsent = false;
-            return (0, Act::Send);
-        }
-        match self.phase {
-            Phase::Read => self.read(piece),
-            Phase::Name(page) => {
-                self.name_on(page);
-                (0, Act::Send)
-            }
-            Phase::Tell(message) => (0, Act::Ask(self.telling(message))),
-            Phase::Poll => (0, Act::Ask(self.polling())),
-            Phase::End => {
-                self.end_turn();
-                (0, Act::Rest)
-            }
-        }
-    }
-
-    /// The plant answered the request that was asked: its answers are in the outbox. There is room for those of a step of the
-    /// plant; where there are more they are no answers of this plant, and none is sent.
-    pub fn answered(&mut self)
-        requires { All IsSayable (outbox_of self.old).items }
-        ensures answered { (request : Request)
-            → TakesAnswers self.old request (outbox_of self.old).items self.new }
-        ensures made { (request : Request)
-            → MakesAnswers self.old request (outbox_of self.old).items self.new }
-        ensures ends { (request : Request) → IsNearer self.old request self.new }
-    {
-        match self.phase {
-            Phase::Tell(_) => {
-                self.phase = Phase::Read;
-                self.take_answers();
-            }
-            Phase::Poll => {
-                self.polls = self.polls.wrapping_add(1);
-                self.phase = phase_behind(self.outbox.items(), self.polls);
-                self.take_answers();
-            }
-            Phase::Read | Phase::End => {}
-            Phase::Name(_) => {}
-        }
-    }
-
-    // Takes items until one has an answer to be sent. Where the piece has no more, it polls.
-    fn read(&mut self, piece: &[u8]) -> (usize, Act)
-        ensures within { result.0 ≤ length piece.now }
-        ensures acts { ReadsOn self.old piece.now result.0 result.1 self.new }
-        ensures ends { self.old.phase ≡ Read
-            → LeavesLess self.old (length piece.now) result.0 result.1 self.new }
-    {
-        let mut used = 0;
-        while used < piece.len() {
-            let (more, send) = self.read_once(&piece[used..]);
-            used += more;
-            if send {
-                return (used, Act::Send);
-            }
-        }
-        self.phase = Phase::Poll;
-        (used, Act::Ask(self.polling()))
-    }
-
-    // Takes the bytes up to the end of the next item and does what that asks: how many, and whether something is to be sent.
-    fn read_once(&mut self, piece: &[u8]) -> (usize, bool)
-        ensures within { result.0 ≤ length piece.now }
-        ensures progress { 0 < length piece.now → 0 < result.0 }
-        ensures reads { HasReadOn self.old piece.now result.0 result.1 self.new }
-        ensures quiet { result.1 ≡ false → self.new.phase ≡ self.old.phase }
-        ensures unsent { result.1 ≡ false → self.new.unsent ≡ self.old.unsent }
-        ensures left { self.old.phase ≡ Read
-            → phase_left self.new.phase self.new.polls ≤ 132 }
-    {
-        let (used, asked) = next_asked(&mut self.framer, piece);
-        match asked {
-            Some(asked) => (used, self.take_apart(asked)),
-            None => (used, false),
-        }
     }
 }

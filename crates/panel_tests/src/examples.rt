@@ -3,7 +3,7 @@
 mod of_display_packets;
 pub(crate) mod of_drill;
 pub(crate) mod of_panel_server;
-mod of_panel_session;
+pub(crate) mod of_panel_session;
 pub(crate) mod of_record_replay;
 pub(crate) mod of_trace_audit;
 mod of_trace_lines;

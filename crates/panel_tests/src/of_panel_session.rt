@@ -4,58 +4,22 @@ ghost use Rattle.std.specs.Prelude.{◌≡◌, ◌≤◌, IfOk, length};
 
 mod board;
 mod days;
+mod desk;
 mod dumps;
 mod nasty;
 mod serving;
 mod streams;
 mod traces;
-mod turns;
 
+use crate::examples::of_panel_session::Given;
 use board::Board;
 use days::{FRAMES, Line, NOTICES, REPEATS};
-use history_lock::OutBox;
-use panel_session::{Act, Session};
-use plant_config::{PanelNo, Plant};
-use plant_core::Request;
+use desk::Desk;
+use plant_config::Plant;
 use plant_names::Names;
 use std::alloc::{AllocError, Global};
 use std::process::Abort;
 use std::test::Fail;
-
-// The board answers what a session asks.
-fn answer(
-    alloc: Global,
-    session: &mut Session<'_>,
-    board: &mut Board,
-    request: &Request,
-) -> Result<(), AllocError> {
-    let mut answers = OutBox::new(alloc, 130)?;
-    board.step(request, &mut answers);
-    *session.outbox() = answers;
-    session.answered();
-    Ok(())
-}
-
-// What a session sends in a turn comes behind what was sent before.
-fn turn(
-    alloc: Global,
-    session: &mut Session<'_>,
-    board: &mut Board,
-    piece: &[u8],
-    sent: &mut Vec<u8>,
-) -> Result<(), AllocError> {
-    let mut rest = piece;
-    for _ in 0..10_000 {
-        let (used, act) = session.act(rest);
-        rest = &rest[used..];
-        match act {
-            Act::Send => sent.extend_from_slice(session.outgoing())?,
-            Act::Ask(request) => answer(alloc, session, board, &request)?,
-            Act::Rest => break,
-        }
-    }
-    Ok(())
-}
 
 // The bytes of hexadecimal with spaces.
 pub(crate) fn bytes_of(alloc: Global, text: &str) -> Result<Vec<u8>, Fail> {
@@ -71,22 +35,22 @@ pub(crate) fn bytes_of(alloc: Global, text: &str) -> Result<Vec<u8>, Fail> {
 // Whether the session of a line's panel is sent what the line says.
 fn is_sent(
     alloc: Global,
-    session: &mut Session<'_>,
+    desk: &mut Desk<'_>,
     board: &mut Board,
     line: &Line,
 ) -> Result<bool, Fail> {
     let (_, told, wanted) = line;
-    let mut sent = Vec::new(alloc);
-    turn(alloc, session, board, &bytes_of(alloc, told)?, &mut sent)?;
-    Ok(sent.as_slice() == bytes_of(alloc, wanted)?.as_slice())
+    let mut sent = Given::new(alloc);
+    desk.turn(board, &bytes_of(alloc, told)?, &mut sent);
+    Ok(sent.is(&bytes_of(alloc, wanted)?))
 }
 
 // The sessions of two panels are sent what lines say, which are worked in one turn each on a new board.
 fn are_sent(
     rt: &impl Abort,
     alloc: Global,
-    first: &mut Session<'_>,
-    second: &mut Session<'_>,
+    first: &mut Desk<'_>,
+    second: &mut Desk<'_>,
     lines: &[Line],
 ) -> Result<(), Fail> {
     let mut board = Board::new();
@@ -115,8 +79,8 @@ fn bench(alloc: Global) -> Result<(Plant, Names), AllocError>
 // The day of these lines on the bench plant.
 fn goes_so(rt: &impl Abort, alloc: Global, lines: &[Line]) -> Result<(), Fail> {
     let (plant, names) = bench(alloc)?;
-    let mut first = Session::start(alloc, &plant, &names, PanelNo::of(0))?;
-    let mut second = Session::start(alloc, &plant, &names, PanelNo::of(1))?;
+    let mut first = Desk::new(alloc, &plant, &names, 0)?;
+    let mut second = Desk::new(alloc, &plant, &names, 1)?;
     are_sent(rt, alloc, &mut first, &mut second, lines)
 }
 
@@ -136,21 +100,24 @@ enum Trial {
 
 fn goes_through(rt: &impl Abort, alloc: Global, trial: &Trial) -> Result<(), AllocError> {
     let (plant, names) = bench(alloc)?;
-    let mut session = Session::start(alloc, &plant, &names, PanelNo::of(0))?;
+    let mut desk = Desk::new(alloc, &plant, &names, 0)?;
     match trial {
-        Trial::Polls => is_polled(rt, alloc, &mut session),
-        Trial::Streams => streams::are_all_answered(rt, alloc, &mut session),
-        Trial::Kinds => nasty::are_all_answered(rt, alloc, &mut session),
+        Trial::Polls => is_polled(rt, alloc, &mut desk),
+        Trial::Streams => streams::are_all_answered(rt, alloc, &mut desk),
+        Trial::Kinds => nasty::are_all_answered(rt, alloc, &mut desk),
     }
 }
 
+// That destination 5 is parked.
+const NOTICE: &[u8] = b"\x10\x02\x04\x00\x07\x05\x7F\x05\x6C\x10\x03";
+
 // A panel that always has a notice is told 32 in a turn.
-fn is_polled(rt: &impl Abort, alloc: Global, session: &mut Session<'_>) -> Result<(), AllocError> {
+fn is_polled(rt: &impl Abort, alloc: Global, desk: &mut Desk<'_>) -> Result<(), AllocError> {
     let mut board = Board::new();
     board.always = true;
-    let mut sent = Vec::new(alloc);
-    turn(alloc, session, &mut board, &[], &mut sent)?;
-    assert!(rt; sent.len() == 32 * 11);
+    let mut sent = Given::new(alloc);
+    desk.turn(&mut board, &[], &mut sent);
+    assert!(rt; sent.is(&streams::bytes_of(alloc, [(NOTICE, 32)].as_slice())?));
     Ok(())
 }
 

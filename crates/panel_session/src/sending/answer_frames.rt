@@ -1,6 +1,6 @@
 //! The frames that are sent for the answers to one request.
 
-ghost use Rattle.std.specs.Prelude.{◌≡◌, ◌≢◌, ◌≤◌, true, false, [], length, drop, All, ◌+◌};
+ghost use Rattle.std.specs.Prelude.{◌≡◌, ◌≤◌, [], length, drop, All, ◌+◌};
 ghost use Rattle.plant_core.specs.Answer.{IsSayable};
 ghost use Rattle.plant_core.specs.declared.answer.Answer.TheVariants.{Say, Dumped};
 ghost use Rattle.swp08_messages.specs.Text.{InRange};
@@ -14,21 +14,18 @@ use plant_core::Answer;
 use swp08_messages::Message;
 
 impl Outgoing {
-    // The frames of these answers are to be sent, in order. It answers whether there are some. Pages are made once an answer
-    // of a dump comes: what is said before it has frames of its own.
-    pub(crate) fn answer(&mut self, answers: &[Answer]) -> bool
+    // The frames of these answers are to be sent, in order. Pages are made once an answer of a dump comes: what is said before
+    // it has frames of its own.
+    pub(crate) fn answer(&mut self, answers: &[Answer])
         requires sayable { All IsSayable answers.now }
         requires room { answer_bytes (length answers.now) ≤ self.old.room }
         ensures output { self.new.output
             ≡ with_frames (frames_of answers.now) (emptied self.old.output) }
         ensures room { self.new.room ≡ self.old.room }
-        ensures some { result ≡ true → self.new.output.bytes ≢ [] }
-        ensures none { result ≡ false → self.new.output.bytes ≡ [] }
         ensures most { length self.new.output.bytes ≤ answer_bytes (length answers.now) }
     {
         self.clear();
         self.answer_too(answers);
-        !self.as_slice().is_empty()
     }
 
     // The frames of these answers are to be sent too, in order. Short way: nearly every request has one answer or none.

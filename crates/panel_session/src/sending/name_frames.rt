@@ -5,7 +5,6 @@ ghost use Rattle.dle_framing.specs.Numbers.{ack};
 ghost use Rattle.swp08_messages.specs.Text.{InRange};
 ghost use Rattle.panel_session.specs.Text.{with_control};
 ghost use Rattle.panel_session.specs.NamePagesInside.{AddsNames, BeginsNames, IsFarBehind};
-ghost use Rattle.panel_session.specs.NamePagesInside.{IsNamePage};
 ghost use Rattle.panel_session.specs.OutgoingInside.{emptied};
 ghost use Rattle.panel_session.specs.OutgoingKept.{most_answer_frame};
 ghost use Rattle.panel_session.specs.RoomsInside.{room_to_send};

@@ -4,7 +4,7 @@ ghost use Rattle.std.specs.Prelude.{◌≡◌, ◌+◌, ◌≤◌, ◌++◌, IfS
 ghost use Rattle.swp08_messages.specs.Text.{InRange};
 ghost use Rattle.plant_config.specs.Plant.{PlantData};
 ghost use Rattle.plant_names.specs.Pages.{max_page_len, HaveNumbers};
-ghost use Rattle.panel_session.specs.NamePages.{name_pages, names_asked};
+ghost use Rattle.panel_session.specs.NamePages.{name_pages};
 ghost use Rattle.panel_session.specs.NamePagesInside.{IsNamePage, names_of, data_of, end_of};
 ghost use Rattle.panel_session.specs.NamePagesInside.{pages_left};
 
@@ -35,8 +35,6 @@ impl NamePage {
         ensures pages { (plant : PlantData)
             → pages_left plant result ≡ name_pages plant message }
         ensures page { IfSome result IsNamePage }
-        ensures names { (plant : PlantData) → IfSome result (λ page.
-            names_of plant page.matrix page.names ≡ names_asked plant message) }
     {
         let (names, matrix, size, first, one) = match message {
             Message::SourceNamesAsk {

@@ -133,22 +133,6 @@ impl<'p> Sender<'p> {
         self.outgoing.add_part(self.names, page)
     }
 
-    // The frames of these answers are to be sent, in order, where there is room for them. It answers whether there are some.
-    pub(crate) fn answer(&mut self, answers: &[Answer]) -> bool
-        requires { All IsSayable answers.now }
-        ensures output { self.new ≡ sending (with_frames
-            (frames_of (fitting self.old.names answers.now)) (emptied self.old.output)) self.old }
-        ensures some { result ≡ true → self.new.output.bytes ≢ [] }
-        ensures none { result ≡ false → self.new.output.bytes ≡ [] }
-        ensures most { length self.new.output.bytes ≤ answer_bytes (length answers.now) }
-    {
-        if answers.len() > self.most {
-            self.outgoing.clear();
-            return false;
-        }
-        self.outgoing.answer(answers)
-    }
-
     // Nothing is to be sent.
     pub(crate) fn clear(&mut self)
         ensures { self.new ≡ sending (emptied self.old.output) self.old }

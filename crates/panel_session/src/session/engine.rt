@@ -1,6 +1,6 @@
 //! A whole turn of a session: the one engine of replays, of panels on a network and of drills.
 
-ghost use Rattle.std.specs.Prelude.{◌≡◌, ◌≤◌, ◌<◌, ℕ, [], false, drop, length};
+ghost use Rattle.std.specs.Prelude.{◌≡◌, ◌≤◌, ◌<◌, ℕ, [], drop, length};
 ghost use Rattle.std.specs.Prelude.{IfErr, IfOk, List, OnOk, Some};
 ghost use Rattle.swp08_messages.specs.declared.message.Message.{Message};
 ghost use Rattle.panel_session.specs.AskedInside.{NamesInRange};
@@ -41,7 +41,6 @@ impl Session<'_> {
             A.Refuses A.sent_first O.Given O.Failed cut piece.now self.old self.new
             answerer.old answerer.new out.old out.new) }
     {
-        self.give_unsent(out)?;
         self.work_items(answerer, piece, out)?;
         self.work_polls(answerer, out)?;
         Ok(())
@@ -58,7 +57,6 @@ impl Session<'_> {
         requires way { IsOnItsWay A.IsSeat A.Serves A.Answers A.sent_first
             self.old answerer.old piece.now }
         requires reads { self.old.phase ≡ Read }
-        requires none { self.old.unsent ≡ false }
         ensures same { A.IsSame answerer.old answerer.new }
         ensures same_outlet { O.IsSame out.old out.new }
         ensures goes_on { OnOk result (GoesOn A.IsSeat A.Serves A.Answers A.sent_first O.Given
@@ -67,7 +65,6 @@ impl Session<'_> {
             A.Refuses A.sent_first O.Given O.Failed cut piece.now self.old self.new
             answerer.old answerer.new out.old out.new) }
         ensures reads { OnOk result (self.new.phase ≡ Read) }
-        ensures none { self.new.unsent ≡ false }
     {
         let mut rest = piece;
         while !rest.is_empty() {
@@ -88,7 +85,6 @@ impl Session<'_> {
         requires way { IsOnItsWay A.IsSeat A.Serves A.Answers A.sent_first
             self.old answerer.old piece.now }
         requires reads { self.old.phase ≡ Read }
-        requires none { self.old.unsent ≡ false }
         ensures within { IfOk result (λ used. used ≤ length piece.now) }
         ensures progress { IfOk result (λ used. 0 < length piece.now → 0 < used) }
         ensures same { A.IsSame answerer.old answerer.new }
@@ -100,7 +96,6 @@ impl Session<'_> {
             A.Refuses A.sent_first O.Given O.Failed cut piece.now self.old self.new
             answerer.old answerer.new out.old out.new) }
         ensures reads { OnOk result (self.new.phase ≡ Read) }
-        ensures none { self.new.unsent ≡ false }
     {
         let (used, asked) = next_asked(&mut self.framer, piece);
         let Some(asked) = asked else {
@@ -147,7 +142,6 @@ impl Session<'_> {
         requires way { (rest : List ℕ) × IsOnItsWay A.IsSeat A.Serves A.Answers A.sent_first
             (record self.old { phase = Tell message }) answerer.old rest }
         requires reads { self.old.phase ≡ Read }
-        requires none { self.old.unsent ≡ false }
         requires few { length (made_by self.old) ≤ 2 }
         ensures same { A.IsSame answerer.old answerer.new }
         ensures same_outlet { O.IsSame out.old out.new }
@@ -159,7 +153,6 @@ impl Session<'_> {
             (record self.old { phase = Tell message }) self.new
             answerer.old answerer.new out.old out.new) }
         ensures reads { OnOk result (self.new.phase ≡ Read) }
-        ensures none { self.new.unsent ≡ false }
     {
         if !self.give_first(answerer, out) {
             self.stop(Phase::Tell(message), self.polls);
@@ -184,7 +177,6 @@ impl Session<'_> {
         requires way { IsOnItsWay A.IsSeat A.Serves A.Answers A.sent_first
             self.old answerer.old [] }
         requires reads { self.old.phase ≡ Read }
-        requires none { self.old.unsent ≡ false }
         ensures same { A.IsSame answerer.old answerer.new }
         ensures same_outlet { O.IsSame out.old out.new }
         ensures ends { OnOk result (Ends A.IsSeat A.Serves A.Answers A.sent_first O.Given

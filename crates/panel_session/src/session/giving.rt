@@ -16,7 +16,7 @@ ghost use Rattle.panel_session.specs.NamesLeftInside.{left_at};
 ghost use Rattle.panel_session.specs.RoomsInside.{fitting};
 ghost use Rattle.panel_session.specs.Session.{made_by};
 ghost use Rattle.trace_lines.specs.TraceLine.{MaySpell};
-ghost use Rattle.panel_session.specs.WorkInside.{left_bytes, unsent_bytes, IsSpelled};
+ghost use Rattle.panel_session.specs.WorkInside.{left_bytes, IsSpelled};
 ghost use Rattle.panel_session.specs.declared.session.cut.Cut.TheVariants.{Unsent};
 ghost use Rattle.panel_session.specs.declared.session.phase.Phase.TheVariants.{Read};
 
@@ -28,23 +28,6 @@ use crate::session::phase::Phase;
 use plant_core::Request;
 
 impl Session<'_> {
-    // Gives the outlet what was not yet handed out.
-    pub(super) fn give_unsent<O: Outlet>(&mut self, out: &mut O) -> Result<(), Cut>
-        ensures same { O.IsSame out.old out.new }
-        ensures session { self.new ≡ record self.old { unsent = false } }
-        ensures sent { OnOk result (O.Given out.old (unsent_bytes self.old) out.new) }
-        ensures cut { IfErr result (λ cut. (cut ≡ Unsent)
-            × O.Failed out.old (unsent_bytes self.old) out.new) }
-    {
-        if self.unsent {
-            self.unsent = false;
-            if !out.give(self.outgoing()) {
-                return Err(Cut::Unsent);
-            }
-        }
-        Ok(())
-    }
-
     // Where all is sent first, gives what is to be sent. False if that failed.
     #[inline(always)]
     pub(super) fn give_first<A: Answerer, O: Outlet>(&mut self, answerer: &A, out: &mut O) -> bool

@@ -1,85 +1,170 @@
-//! Uses of `panel_session`: an interrogate, and the plant's answer; the line of a trace that tells both, and that of a leave.
+//! Uses of `panel_session`: a turn of a session, over what answers and an outlet; the line of a trace that tells an entry, and that
+//! of a leave.
 
-ghost use Rattle.std.specs.Prelude.{◌≡◌, [], ◌∷◌, IfOk};
+ghost use Rattle.std.specs.Prelude.{◌≡◌, ◌<◌, ◌≤◌, ◌∷◌, ◌++◌, [], false, length};
+ghost use Rattle.std.proofs.Common.{ap, sym, ◌∙◌, append_assoc};
+ghost use Rattle.std.proofs.lemmas.List.{append-nil};
+ghost use Rattle.plant_config.specs.IsPlant.{IsPlant};
 
 use history_lock::OutBox;
-use panel_session::{Act, Session, TraceLines};
+use panel_session::{Answerer, Outlet, Session, TraceLines};
 use plant_config::{PanelNo, Plant};
 use plant_core::{Answer, Request};
 use plant_names::Names;
 use std::alloc::{AllocError, Global};
-use std::process::Abort;
 use std::test::Fail;
 use swp08_messages::{Message, Point};
+use trace_lines::LineRoom;
 
-const INTERROGATE: &[u8] = b"\x10\x02\x01\x00\x00\x05\x04\xF6\x10\x03";
+// It says of destination 5 that it is parked whatever it is told, and tells nothing else.
+#[derive(Drop)]
+struct Parked;
 
-const TALLY: &[u8] = b"\x10\x02\x03\x00\x07\x05\x7F\x05\x6D\x10\x03";
+impl Answerer for Parked {
+    ghost sent_first = { false };
 
-// An interrogate is answered by ACK, and by the tally that the plant answers.
-fn an_interrogate_is_told(
-    rt: &impl Abort,
-    alloc: Global,
-    session: &mut Session<'_>,
-) -> Result<(), AllocError> {
-    let at = Point {
-        matrix: 0,
-        level: 0,
-        dest: 5,
-    };
-    assert!(rt; session.act(INTERROGATE) == (10, Act::Send));
-    assert!(rt; session.outgoing() == b"\x10\x06".as_slice());
-    let told = Request::Told {
-        panel: PanelNo::of(0),
-        item: 0,
-        message: Message::Interrogate { at },
-    };
-    assert!(rt; session.act(&[]) == (0, Act::Ask(told)));
-    let tally = Message::Tally { at, source: None };
-    *session.outbox() = boxed(alloc, Answer::Say(tally))?;
-    session.answered();
-    assert!(rt; session.act(&[]) == (0, Act::Send));
-    assert!(rt; session.outgoing() == TALLY);
-    Ok(())
+    ghost IsSame = { λ first last. Unit {0} };
+
+    ghost IsSeat = { λ parked seat. Unit {0} };
+
+    ghost Serves = { λ plant parked. IsPlant plant };
+
+    ghost Answers = { λ first entries last. Unit {0} };
+
+    ghost Enters = { λ first position entry last. Unit {0} };
+
+    ghost TracesPart = { λ first entry last. ⊥ };
+
+    ghost Refuses = { λ first last. ⊥ };
+
+    fn sent_first(&self) -> bool {
+        false
+    }
+
+    #[tactic(auto, using(plant_core::proofs::CountLemmas::room_some))]
+    fn ask(&mut self, request: &Request, out: &mut OutBox<Answer>) -> Option<u64> {
+        match request {
+            Request::Told { .. } => {
+                let at = Point {
+                    matrix: 0,
+                    level: 0,
+                    dest: 5,
+                };
+                put(Answer::Say(Message::Tally { at, source: None }), out);
+                Some(0)
+            }
+            Request::Poll { .. } | Request::Leave { .. } | Request::DisplayPoll { .. } => Some(0),
+        }
+    }
+
+    fn trace(&mut self, _: u64, _: &Request, _: &[u8], _: &mut LineRoom) -> bool {
+        true
+    }
+
+    ghost same_none = { λ parked. tt };
+
+    ghost same_more = { λ first next last one other. tt };
+
+    ghost answers_none = { λ parked. tt };
+
+    ghost answers_more = { λ first next last entries more one other. tt };
+
+    ghost seated_on = { λ first last entries seat answers is. tt };
+
+    ghost serves_on = { λ plant first last entries answers serves. serves };
+
+    ghost serves_plant = { λ plant parked serves. serves };
+
+    ghost refuses_last = { λ first last refuses. absurd refuses };
 }
 
-// A poll without an answer ends the turn.
-fn the_turn_ends(
-    rt: &impl Abort,
-    alloc: Global,
-    session: &mut Session<'_>,
-) -> Result<(), AllocError> {
-    let poll = Request::Poll {
-        panel: PanelNo::of(0),
-        at: 1,
-        turn: 0,
-    };
-    assert!(rt; session.act(&[]) == (0, Act::Ask(poll)));
-    *session.outbox() = OutBox::new(alloc, 0)?;
-    session.answered();
-    assert!(rt; session.act(&[]) == (0, Act::Rest));
-    Ok(())
+/// It keeps what it is given, and whether some of it was lost for want of memory.
+#[derive(Drop)]
+pub(crate) struct Given {
+    bytes: Vec<u8>,
+    lost: bool,
 }
 
-// A turn, call by call.
-fn a_turn_is_worked(
-    rt: &impl Abort,
-    alloc: Global,
-    session: &mut Session<'_>,
-) -> Result<(), AllocError> {
-    an_interrogate_is_told(rt, alloc, session)?;
-    the_turn_ends(rt, alloc, session)
+impl Given {
+    pub(crate) fn new(alloc: Global) -> Given {
+        Given {
+            bytes: Vec::new(alloc),
+            lost: false,
+        }
+    }
+
+    /// Whether it was given these bytes.
+    pub(crate) fn is(&self, bytes: &[u8]) -> bool {
+        self.bytes.as_slice() == bytes && !self.lost
+    }
 }
 
-// A turn, and the line of the panel's leave behind its entries.
+impl Outlet for Given {
+    ghost IsSame = { λ first last. Unit {0} };
+
+    ghost Failed = { λ before bytes after. ⊥ };
+
+    ghost Given = { λ before bytes after. after.lost ≡ false
+        → (before.lost ≡ false) × (after.bytes.items ≡ before.bytes.items ++ bytes) };
+
+    ghost given_none = { λ outlet none. (none, sym (append-nil outlet.bytes.items)) };
+
+    ghost given_more = { λ first next last bytes more given later none.
+        (let behind = later none in
+        let front = given behind.0 in (
+          front.0,
+          behind.1
+              ∙ (ap (λ all. all ++ more) front.1 ∙ append_assoc first.bytes.items bytes more),
+        )) };
+
+    fn give(&mut self, bytes: &[u8]) -> bool {
+        if self.bytes.extend_from_slice(bytes).is_err() {
+            self.lost = true;
+        }
+        true
+    }
+
+    ghost same_none = { λ outlet. tt };
+
+    ghost same_more = { λ first next last one other. tt };
+}
+
+// A frame with a wrong check byte, an interrogate, an ACK and a NAK.
+const PIECE: &[u8] =
+    b"\x10\x02\x01\x00\x00\x05\x04\xF5\x10\x03\x10\x02\x01\x00\x00\x05\x04\xF6\x10\x03\x10\x06\x10\x15";
+
+// NAK, ACK and the tally, and the tally alone again.
+const SENT: &[u8] =
+    b"\x10\x15\x10\x06\x10\x02\x03\x00\x07\x05\x7F\x05\x6D\x10\x03\x10\x02\x03\x00\x07\x05\x7F\x05\x6D\x10\x03";
+
+// What an outlet is given in the first turn of a session of the plant, and the line of the panel's leave behind it.
+fn worked(alloc: Global, plant: &Plant, names: &Names) -> Result<bool, AllocError>
+    requires panels { 1 ≤ length plant.now.panels }
+    requires names { names.now ≡ plant.now }
+    requires plant { IsPlant plant.now }
+{
+    let mut session = Session::start(alloc, plant, names, PanelNo::of(0))?;
+    let mut out = Given::new(alloc);
+    let _ = session.work_turn(&mut Parked, PIECE, &mut out);
+    Ok(out.is(SENT) && session.leave_line(4) == b"4 leave 0 = -\n".as_slice())
+}
+
+// Whether a turn sends what it should.
+fn is_worked(alloc: Global, plant: &Plant, names: &Names) -> Result<bool, AllocError>
+    requires panels { 1 ≤ length plant.now.panels }
+    requires names { names.now ≡ plant.now }
+{
+    if plant.panels().is_empty() {
+        return Ok(false);
+    }
+    worked(alloc, plant, names)
+}
+
 #[test]
-fn an_interrogate_is_answered(rt: HostRuntime) -> Result<(), Fail> {
-    let alloc = rt.alloc();
-    let plant = Plant::bench(alloc)?;
-    let names = Names::new(alloc, &plant)?;
-    let mut session = Session::start(alloc, &plant, &names, PanelNo::of(0))?;
-    a_turn_is_worked(&rt, alloc, &mut session)?;
-    assert!(rt; session.leave_line(4) == b"4 leave 0 = -\n".as_slice());
+fn a_turn_is_worked(rt: HostRuntime) -> Result<(), Fail> {
+    let plant = Plant::bench(rt.alloc())?;
+    let names = Names::new(rt.alloc(), &plant)?;
+    assert!(rt; is_worked(rt.alloc(), &plant, &names)?);
     Ok(())
 }
 
@@ -106,14 +191,14 @@ fn an_entry_has_its_line(rt: HostRuntime) -> Result<(), Fail> {
     Ok(())
 }
 
-// A box with this answer. The arm of a lamp names the types that a lamp is made of, which a proof of `put` asks for.
-fn boxed(alloc: Global, answer: Answer) -> Result<OutBox<Answer>, AllocError>
-    ensures { IfOk result (λ answers. answers.items ≡ answer ∷ []) }
+/// Puts an answer behind the others. The arm of a lamp names the types that a lamp is made of, which a proof of `put` asks for.
+pub(crate) fn put(answer: Answer, out: &mut OutBox<Answer>)
+    requires { length out.old.items < out.old.places }
+    ensures items { out.new.items ≡ out.old.items ++ answer ∷ [] }
+    ensures places { out.new.places ≡ out.old.places }
 {
-    let mut answers = OutBox::new(alloc, 1)?;
     match answer {
-        Answer::Lamp { display, value } => answers.put(Answer::Lamp { display, value }),
-        other => answers.put(other),
+        Answer::Lamp { display, value } => out.put(Answer::Lamp { display, value }),
+        other => out.put(other),
     }
-    Ok(answers)
 }

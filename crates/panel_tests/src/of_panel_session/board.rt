@@ -1,11 +1,15 @@
 //! A tiny machine of the plant's requests.
 
-ghost use Rattle.std.specs.Prelude.{◌≡◌, ◌<◌, ◌≤◌, [], ◌∷◌, ◌++◌, length, All};
+ghost use Rattle.std.specs.Prelude.{◌≡◌, ◌≤◌, [], false, length, All};
+ghost use Rattle.plant_config.specs.IsPlant.{IsPlant};
 ghost use Rattle.plant_core.specs.Answer.{IsSayable};
 
+use crate::examples::of_panel_session::put;
 use history_lock::OutBox;
+use panel_session::Answerer;
 use plant_core::{Answer, Request};
 use swp08_messages::{Message, Point};
+use trace_lines::LineRoom;
 
 // A level of 32 destinations, and the notices of two panels.
 #[derive(Drop)]
@@ -75,9 +79,10 @@ impl Board {
 
     pub(super) fn step(&mut self, request: &Request, out: &mut OutBox<Answer>)
         requires empty { out.old.items ≡ [] }
-        requires places { 130 ≤ out.old.places }
+        requires places { 64 ≤ out.old.places }
         ensures sayable { All IsSayable out.new.items }
-        ensures most { length out.new.items ≤ 130 }
+        ensures most { length out.new.items ≤ 64 }
+        ensures places { out.new.places ≡ out.old.places }
     {
         let answer = match *request {
             Request::Told {
@@ -99,27 +104,63 @@ impl Board {
     }
 }
 
-// Puts an answer behind the others. The arm of a lamp names the types that a lamp is made of, which a proof of `put` asks for.
-pub(super) fn put(answer: Answer, out: &mut OutBox<Answer>)
-    requires { length out.old.items < out.old.places }
-    ensures items { out.new.items ≡ out.old.items ++ answer ∷ [] }
-    ensures places { out.new.places ≡ out.old.places }
-{
-    match answer {
-        Answer::Lamp { display, value } => out.put(Answer::Lamp { display, value }),
-        other => out.put(other),
+impl Answerer for Board {
+    ghost sent_first = { false };
+
+    ghost IsSame = { λ first last. Unit {0} };
+
+    ghost IsSeat = { λ board seat. Unit {0} };
+
+    ghost Serves = { λ plant board. IsPlant plant };
+
+    ghost Answers = { λ first entries last. Unit {0} };
+
+    ghost Enters = { λ first position entry last. Unit {0} };
+
+    ghost TracesPart = { λ first entry last. ⊥ };
+
+    ghost Refuses = { λ first last. ⊥ };
+
+    fn sent_first(&self) -> bool {
+        false
     }
+
+    #[tactic(auto, using(plant_core::proofs::CountLemmas::room_some))]
+    fn ask(&mut self, request: &Request, out: &mut OutBox<Answer>) -> Option<u64> {
+        self.step(request, out);
+        Some(0)
+    }
+
+    fn trace(&mut self, _: u64, _: &Request, _: &[u8], _: &mut LineRoom) -> bool {
+        true
+    }
+
+    ghost same_none = { λ board. tt };
+
+    ghost same_more = { λ first next last one other. tt };
+
+    ghost answers_none = { λ board. tt };
+
+    ghost answers_more = { λ first next last entries more one other. tt };
+
+    ghost seated_on = { λ first last entries seat answers is. tt };
+
+    ghost serves_on = { λ plant first last entries answers serves. serves };
+
+    ghost serves_plant = { λ plant board serves. serves };
+
+    ghost refuses_last = { λ first last refuses. absurd refuses };
 }
 
-// The dump of a level whose destinations are parked: 4, or 130 in level 2.
+// The dump of a level whose four destinations are parked.
 fn dump(level: u8, out: &mut OutBox<Answer>)
     requires empty { out.old.items ≡ [] }
-    requires places { 130 ≤ out.old.places }
+    requires places { 64 ≤ out.old.places }
     ensures sayable { All IsSayable out.new.items }
-    ensures most { length out.new.items ≤ 130 }
+    ensures most { length out.new.items ≤ 64 }
+    ensures places { out.new.places ≡ out.old.places }
 {
-    let count = if level == 2 { 130 } else { 4 };
-    for dest in 0..count {
+    for dest in 0..4 {
         let told = Answer::Dumped {
             matrix: 0,
             level: level % 16,

@@ -1,7 +1,7 @@
 //! Streams of a few kinds and many lengths that a panel may send to bring a session out of step.
 
+use super::desk::Desk;
 use super::streams::{ANSWER, ASK, PARKED, Run, bytes_of, is_answered};
-use panel_session::Session;
 use std::alloc::{AllocError, Global};
 use std::process::Abort;
 
@@ -120,25 +120,25 @@ fn wanted_of(alloc: Global, runs: &[Run]) -> Result<Vec<u8>, AllocError> {
 // Whether a session is sent what a stream of a kind and a length wants.
 fn goes_so(
     alloc: Global,
-    session: &mut Session<'_>,
+    desk: &mut Desk<'_>,
     kind: &Kind,
     length: usize,
     (behind, runs): (&'static [u8], &[Run]),
 ) -> Result<bool, AllocError> {
     let stream = stream_of(alloc, kind, length, behind)?;
     let wanted = wanted_of(alloc, runs)?;
-    is_answered(alloc, session, &stream, &wanted)
+    Ok(is_answered(alloc, desk, &stream, &wanted))
 }
 
 // A session is sent what the streams of a kind want.
 fn is_answered_so(
     rt: &impl Abort,
     alloc: Global,
-    session: &mut Session<'_>,
+    desk: &mut Desk<'_>,
     kind: &Kind,
 ) -> Result<(), AllocError> {
     for (length, row) in LENGTHS.iter().zip(&kind.behind) {
-        assert!(rt; goes_so(alloc, session, kind, *length, *row)?, "{length}");
+        assert!(rt; goes_so(alloc, desk, kind, *length, *row)?, "{length}");
     }
     Ok(())
 }
@@ -147,10 +147,10 @@ fn is_answered_so(
 pub(super) fn are_all_answered(
     rt: &impl Abort,
     alloc: Global,
-    session: &mut Session<'_>,
+    desk: &mut Desk<'_>,
 ) -> Result<(), AllocError> {
     for kind in &KINDS {
-        is_answered_so(rt, alloc, session, kind)?;
+        is_answered_so(rt, alloc, desk, kind)?;
     }
     Ok(())
 }

@@ -1,8 +1,8 @@
 //! Streams of bytes that a panel may send, as a whole, cut in two anywhere, and byte by byte.
 
 use super::board::Board;
-use super::turn;
-use panel_session::Session;
+use super::desk::Desk;
+use crate::examples::of_panel_session::Given;
 use std::alloc::{AllocError, Global};
 use std::process::Abort;
 
@@ -130,83 +130,72 @@ fn append(bytes: &[u8], times: usize, all: &mut Vec<u8>) -> Result<(), AllocErro
 // Whether a session that is made anew is sent this where a panel sends two pieces.
 fn are_answered(
     alloc: Global,
-    session: &mut Session<'_>,
+    desk: &mut Desk<'_>,
     (first, second): (&[u8], &[u8]),
     wanted: &[u8],
-) -> Result<bool, AllocError> {
+) -> bool {
     let mut board = Board::new();
-    session.reset();
-    let mut sent = Vec::new(alloc);
-    turn(alloc, session, &mut board, first, &mut sent)?;
-    turn(alloc, session, &mut board, second, &mut sent)?;
-    Ok(sent.as_slice() == wanted)
+    desk.reset();
+    let mut sent = Given::new(alloc);
+    desk.turn(&mut board, first, &mut sent);
+    desk.turn(&mut board, second, &mut sent);
+    sent.is(wanted)
 }
 
 // Whether a stream is answered so wherever it is cut in two, its start among these places, which is a cut behind an idle read.
 // A stream of more than 500 bytes is cut nowhere else.
-fn is_answered_in_two(
-    alloc: Global,
-    session: &mut Session<'_>,
-    stream: &[u8],
-    wanted: &[u8],
-) -> Result<bool, AllocError> {
+fn is_answered_in_two(alloc: Global, desk: &mut Desk<'_>, stream: &[u8], wanted: &[u8]) -> bool {
     for at in 0..stream.len() {
-        if !are_answered(alloc, session, stream.split_at(at), wanted)? {
-            return Ok(false);
+        if !are_answered(alloc, desk, stream.split_at(at), wanted) {
+            return false;
         }
         if stream.len() > 500 {
             break;
         }
     }
-    Ok(true)
+    true
 }
 
 // What a session that is made anew is sent where a panel sends a stream byte by byte.
-fn in_bytes(
-    alloc: Global,
-    session: &mut Session<'_>,
-    stream: &[u8],
-    sent: &mut Vec<u8>,
-) -> Result<(), AllocError> {
+fn in_bytes(alloc: Global, desk: &mut Desk<'_>, stream: &[u8]) -> Given {
     let mut board = Board::new();
-    session.reset();
+    desk.reset();
+    let mut sent = Given::new(alloc);
     for byte in stream.chunks(1) {
-        turn(alloc, session, &mut board, byte, sent)?;
+        desk.turn(&mut board, byte, &mut sent);
     }
-    Ok(())
+    sent
 }
 
 // Whether a session that is made anew each time is sent this for a stream, however that is cut.
 pub(super) fn is_answered(
     alloc: Global,
-    session: &mut Session<'_>,
+    desk: &mut Desk<'_>,
     stream: &[u8],
     wanted: &[u8],
-) -> Result<bool, AllocError> {
-    let mut sent = Vec::new(alloc);
-    in_bytes(alloc, session, stream, &mut sent)?;
-    Ok(sent.as_slice() == wanted && is_answered_in_two(alloc, session, stream, wanted)?)
+) -> bool {
+    in_bytes(alloc, desk, stream).is(wanted) && is_answered_in_two(alloc, desk, stream, wanted)
 }
 
 // Whether a session is sent what a stream of the table wants.
 fn goes_so(
     alloc: Global,
-    session: &mut Session<'_>,
+    desk: &mut Desk<'_>,
     (stream, wanted): (&[Run], &[Run]),
 ) -> Result<bool, AllocError> {
     let stream = bytes_of(alloc, stream)?;
     let wanted = bytes_of(alloc, wanted)?;
-    is_answered(alloc, session, &stream, &wanted)
+    Ok(is_answered(alloc, desk, &stream, &wanted))
 }
 
 // A session is sent what each stream of the table wants.
 pub(super) fn are_all_answered(
     rt: &impl Abort,
     alloc: Global,
-    session: &mut Session<'_>,
+    desk: &mut Desk<'_>,
 ) -> Result<(), AllocError> {
     for (at, row) in STREAMS.iter().enumerate() {
-        assert!(rt; goes_so(alloc, session, *row)?, "stream {at}");
+        assert!(rt; goes_so(alloc, desk, *row)?, "stream {at}");
     }
     Ok(())
 }

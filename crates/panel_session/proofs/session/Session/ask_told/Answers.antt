@@ -1,4 +1,4 @@
-use Rattle.std.proofs.Common.{rules, ◌≡◌, ℕ, ◌-◌, ◌≤◌, Err, None, List, [], ◌++◌, length, refl, sym, ap, ◌∙◌, subst, arith}
+use Rattle.std.proofs.Common.{rules, ◌≡◌, ℕ, ◌≤◌, Err, None, List, [], ◌++◌, length, refl, sym, ap, ◌∙◌, subst, arith}
 use Rattle.history_lock.specs.Places.{Placed}
 use Rattle.plant_core.specs.declared.answer.Answer.{Answer}
 use Rattle.plant_core.proofs.CountLemmas.{room_within}
@@ -13,7 +13,7 @@ use Rattle.panel_session.specs.Turns.{entries_in}
 use Rattle.panel_session.proofs.CutLemmas.{cut_behind, cut_refused, cut_sent, fails_at}
 use Rattle.panel_session.proofs.RunLemmas.{way_asked}
 use Rattle.panel_session.proofs.TellLemmas.{ahead_acts, ahead_way, awaits_box, has_told, may_spell}
-use Rattle.panel_session.proofs.AheadLemmas.{all_ahead, few_ahead, none_ahead, of_session, unsent_ahead}
+use Rattle.panel_session.proofs.AheadLemmas.{all_ahead, few_ahead, none_ahead, of_session}
 use Rattle.panel_session.proofs.session.Session.ask_told.Goals as goal
 
 pub returns-then-not-give_first-clause-cut : goal.returns-then-not-give_first-clause-cut
@@ -22,23 +22,16 @@ returns-then-not-give_first-clause-cut g c = λ rest on before is holds.
     let Was : Session → Type 0 = λ session.
     WasCut g.A.Answerer.Answers g.A.Answerer.TracesPart g.A.Answerer.Refuses g.A.Answerer.sent_first g.O.Outlet.Given g.O.Outlet.Failed Unsent
     on.plant on.panel on.seat on.past on.piece before on.first c.args.answerer.now session c.args.out.now c.give_first.new.out in
-    let way = ahead_way self c.give_first.new.self c.args.message on c.requires.none c.give_first.ensures.session in
+    let way = ahead_way self c.give_first.new.self c.args.message on c.give_first.ensures.session in
     subst Was (sym c.stop.ensures)
     (cut_sent (record c.give_first.new.self { phase = Tell c.args.message }) before [] on.way is holds way.stands
     (fails_at c.args.out.now [] (made_by self) (g.met.O.Outlet.given_none c.args.out.now) c.if-not-give_first.ensures.failed))
-
-pub returns-then-not-give_first-clause-none : goal.returns-then-not-give_first-clause-none
-returns-then-not-give_first-clause-none g c =
-    ap (λ (session : Session). session.unsent) c.stop.ensures
-    ∙ ap (λ (session : Session). session.unsent) c.give_first.ensures.session
-    ∙ unsent_ahead g.A.Answerer.sent_first c.args.self.now
-    ∙ c.requires.none
 
 pub ask-requires-clause-serves : goal.ask-requires-clause-serves
 ask-requires-clause-serves g c =
     let on = c.requires.way.1 in
     let request = c.telling-request.result in
-    let acts = ahead_acts c.args.self.now c.give_first.new.self c.args.message request on c.requires.none c.give_first.ensures.session c.telling-request.ensures in (
+    let acts = ahead_acts c.args.self.now c.give_first.new.self c.args.message request on c.give_first.ensures.session c.telling-request.ensures in (
       on.plant,
       g.met.A.Answerer.serves_on on.plant on.first c.args.answerer.now (entries_in on.now.now) on.way.answers on.may.serves,
       acts.2,
@@ -49,7 +42,7 @@ pub ask-requires-clause-empty : goal.ask-requires-clause-empty
 ask-requires-clause-empty g c =
     let on = c.requires.way.1 in
     let request = c.telling-request.result in
-    let acts = ahead_acts c.args.self.now c.give_first.new.self c.args.message request on c.requires.none c.give_first.ensures.session c.telling-request.ensures in
+    let acts = ahead_acts c.args.self.now c.give_first.new.self c.args.message request on c.give_first.ensures.session c.telling-request.ensures in
     ap (λ (box : Placed Answer). box.items) acts.1
 
 pub returns-in_default-clause-cut : goal.returns-in_default-clause-cut
@@ -64,20 +57,13 @@ returns-in_default-clause-cut g c = λ rest on before is holds.
     let none : c.ask.result ≡ None = search rules in
     let refuses = c.ask.ensures.refuses none in
     let yes = g.met.A.Answerer.refuses_last c.args.answerer.now c.ask.new.self refuses in
-    let way = ahead_way self one c.args.message on c.requires.none c.give_first.ensures.session in
-    let acts = ahead_acts self one c.args.message request on c.requires.none c.give_first.ensures.session c.telling-request.ensures in
+    let way = ahead_way self one c.args.message on c.give_first.ensures.session in
+    let acts = ahead_acts self one c.args.message request on c.give_first.ensures.session c.telling-request.ensures in
     let Given : List ℕ → Type 0 = λ bytes. g.O.Outlet.Given c.args.out.now bytes c.give_first.new.out in
     subst Was (sym c.stop-in_default.ensures)
     (cut_refused request (record (with_outbox one c.ask.new.out) { phase = Tell c.args.message }) before (made_by self) way is refuses
     (subst Given (all_ahead sf (made_by self) yes) c.if-not-give_first.ensures.given)
     (awaits_box on.plant on.panel (record one { phase = Tell c.args.message }) on.now request c.ask.new.out (c.ask.ensures.kept none) acts.0))
-
-pub returns-in_default-clause-none : goal.returns-in_default-clause-none
-returns-in_default-clause-none g c =
-    ap (λ (session : Session). session.unsent) c.stop-in_default.ensures
-    ∙ ap (λ (session : Session). session.unsent) c.give_first.ensures.session
-    ∙ unsent_ahead g.A.Answerer.sent_first c.args.self.now
-    ∙ c.requires.none
 
 pub send_answers-requires-clause-front : goal.send_answers-requires-clause-front
 send_answers-requires-clause-front g c =
@@ -88,13 +74,13 @@ pub send_answers-requires-clause-spelled : goal.send_answers-requires-clause-spe
 send_answers-requires-clause-spelled g c =
     let on = c.requires.way.1 in
     let request = c.telling-request.result in
-    may_spell on.plant request (ahead_acts c.args.self.now c.give_first.new.self c.args.message request on c.requires.none c.give_first.ensures.session c.telling-request.ensures).2
+    may_spell on.plant request (ahead_acts c.args.self.now c.give_first.new.self c.args.message request on c.give_first.ensures.session c.telling-request.ensures).2
 
 pub send_answers-requires-clause-of_session : goal.send_answers-requires-clause-of_session
 send_answers-requires-clause-of_session g c =
     let on = c.requires.way.1 in
     let request = c.telling-request.result in
-    of_session request on.now 0 c.requires.way.0 (ahead_acts c.args.self.now c.give_first.new.self c.args.message request on c.requires.none c.give_first.ensures.session c.telling-request.ensures).3
+    of_session request on.now c.requires.way.0 (ahead_acts c.args.self.now c.give_first.new.self c.args.message request on c.give_first.ensures.session c.telling-request.ensures).3
 
 pub send_answers-requires-clause-alone : goal.send_answers-requires-clause-alone
 send_answers-requires-clause-alone g c = λ yes. ap made_by c.give_first.ensures.session ∙ none_ahead g.A.Answerer.sent_first c.args.self.now yes
@@ -114,7 +100,7 @@ returns-in_err-send_answers-clause-cut g c =
     let serves = g.met.A.Answerer.serves_on on.plant on.first answerer (entries_in on.now.now) on.way.answers on.may.serves in
     let seated = g.met.A.Answerer.seated_on on.first answerer (entries_in on.now.now) on.seat on.way.answers on.may.seated in
     let told = has_told c.args.self.now c.give_first.new.self c.send_answers.new.self c.args.message request c.ask.new.out on before
-    c.requires.reads c.requires.none c.give_first.ensures.session c.telling-request.ensures c.ask.ensures.places (c.ask.ensures.few on.plant serves) c.send_answers.ensures.session more in
+    c.requires.reads c.give_first.ensures.session c.telling-request.ensures c.ask.ensures.places (c.ask.ensures.few on.plant serves) c.send_answers.ensures.session more in
     cut_behind c.in_err-send_answers.field-0.0 c.give_first.new.out before (bytes_ahead g.A.Answerer.sent_first (made_by c.args.self.now)) (made_by c.send_answers.new.self) g.met.A.Answerer.answers_more told.way told.asked told.bytes told.alone c.if-not-give_first.ensures.given
     (c.in_err-send_answers.ensures.cut answerer (entry_of on.seat request c.ask.new.out.items) (c.in-Some.ensures.enters on.seat seated) refl told.fits))
 
@@ -127,7 +113,7 @@ returns-clause-goes_on g c = λ rest on before more holds.
     let serves = g.met.A.Answerer.serves_on on.plant on.first answerer (entries_in on.now.now) on.way.answers on.may.serves in
     let seated = g.met.A.Answerer.seated_on on.first answerer (entries_in on.now.now) on.seat on.way.answers on.may.seated in
     let told = has_told c.args.self.now c.give_first.new.self after c.args.message request c.ask.new.out on before
-    c.requires.reads c.requires.none c.give_first.ensures.session c.telling-request.ensures c.ask.ensures.places (c.ask.ensures.few on.plant serves) c.send_answers.ensures.session more in
+    c.requires.reads c.give_first.ensures.session c.telling-request.ensures c.ask.ensures.places (c.ask.ensures.few on.plant serves) c.send_answers.ensures.session more in
     let one = c.in_ok-send_answers.ensures.traced answerer (entry_of on.seat request c.ask.new.out.items) (c.in-Some.ensures.enters on.seat seated) refl told.fits in
     let way = way_asked g.met.A.Answerer.answers_more told.way told.asked one in
     let More : List ℕ → Type 0 = λ more. IsUnderWay g.A.Answerer.Answers g.A.Answerer.sent_first on.plant on.panel on.seat on.past on.piece on.first c.send_answers.new.answerer after rest told.asked.later more in

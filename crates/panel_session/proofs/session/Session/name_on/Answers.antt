@@ -1,4 +1,4 @@
-use Rattle.std.proofs.Common.{◌≤◌, false, IfSome, Option, refl, sym, subst}
+use Rattle.std.proofs.Common.{◌≤◌, IfSome, Option, refl, sym, subst}
 use Rattle.panel_session.specs.declared.sending.name_page.NamePage.{NamePage}
 use Rattle.panel_session.specs.declared.session.Session.{Session}
 use Rattle.panel_session.specs.declared.session.phase.Phase.TheVariants.{Read}
@@ -13,7 +13,7 @@ returns c =
     let session = c.args.self.now in
     let left = c.more_names-left.result in
     let sender = c.more_names-left.new.self in
-    let after : Session = record session { phase = phase_then left Read; sender = sender; parted = false } in
+    let after : Session = record session { phase = phase_then left Read; sender = sender } in
     let On : Session → Type 0 = λ after. NamesOn c.args.page session after in
     let there = sym (left_then left Read refl) in
     let Far : Option NamePage → Type 0 = λ left. IfSome left (IsFarBehind c.args.page.first) in

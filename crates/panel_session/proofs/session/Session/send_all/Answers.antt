@@ -4,7 +4,7 @@ use Rattle.std.specs.Bool.{OnFalse, OnTrue}
 use Rattle.panel_session.specs.Engine.{FailsIn}
 use Rattle.panel_session.specs.NamePagesInside.{IsNamePage, frames_left}
 use Rattle.panel_session.specs.NamesLeftInside.{left_at}
-use Rattle.panel_session.specs.OneSend.{bytes_in}
+use Rattle.panel_session.specs.Text.{bytes_in}
 use Rattle.panel_session.specs.Session.{made_by}
 use Rattle.panel_session.specs.WorkInside.{left_bytes}
 use Rattle.panel_session.specs.declared.session.phase.Phase.{Phase}

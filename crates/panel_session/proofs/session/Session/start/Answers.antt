@@ -9,7 +9,7 @@ pub returns-clause-new : goal.returns-clause-new
 unfolding StandsFor
 returns-clause-new c = (
   stands_new c.args.plant.now c.args.panel _ refl (ap (λ (sends : SenderData). sends.names) c.in_ok-new.ensures) refl c.requires.panel c.new.ensures
-      (ap (λ (sends : SenderData). reading c.args.panel 0 0 0 sends.output) c.in_ok-new.ensures) refl refl refl refl (c.in_ok-new-2.ensures.places ∙ c.room_of.ensures),
+      (ap (λ (sends : SenderData). reading c.args.panel 0 0 0 sends.output) c.in_ok-new.ensures) refl refl (c.in_ok-new-2.ensures.places ∙ c.room_of.ensures),
   c.in_ok-new-2.ensures.empty,
   λ poll. cc,
 )

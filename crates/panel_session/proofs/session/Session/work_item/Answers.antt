@@ -20,7 +20,7 @@ pub returns-in_default-clause-goes_on : goal.returns-in_default-clause-goes_on
 returns-in_default-clause-goes_on g c = λ on.
     let Found : List ℕ → Option Asked → Type 0 = λ text asked. FoundAsks text c.args.piece.now c.next_asked-used.result.0 asked in
     let after : Session = record c.args.self.now { framer = c.next_asked-used.new.framer } in
-    let sent = way_read after c.next_asked-used.result.0 on.may on.way c.requires.reads c.requires.none
+    let sent = way_read after c.next_asked-used.result.0 on.may on.way c.requires.reads
     (has_passed c.args.self.now c.next_asked-used.new.framer c.args.piece.now c.next_asked-used.result.0 c.next_asked-used.ensures.stands
     (λ text stands. subst (Found text) c.in_default.is (c.next_asked-used.ensures.finds text stands))) in
     record { now = sent.now; added = []; gave = g.met.O.Outlet.given_none c.args.out.now; way = sent.way }
@@ -37,10 +37,10 @@ returns-in_err-do_item-clause-cut g c =
     let used = c.next_asked-used.result.0 in
     let asked = c.in-Some.asked in
     let Found : List ℕ → Option Asked → Type 0 = λ text asked. FoundAsks text c.args.piece.now used asked in
-    let sent = way_taken framer_then used asked on.may on.way c.requires.reads c.requires.none c.in_default-asked.not-Sent c.next_asked-used.ensures.stands
+    let sent = way_taken framer_then used asked on.may on.way c.requires.reads c.in_default-asked.not-Sent c.next_asked-used.ensures.stands
     (λ text stands. subst (Found text) c.in-Some.is (c.next_asked-used.ensures.finds text stands)) in
     let cut = c.in_err-do_item.ensures.cut in
-    let stands = done_stands on.plant on.panel sent.now (took self.sender.names asked (record self { framer = framer_then })) c.do_item.new.self c.do_item.ensures.session c.do_item.ensures.reads c.requires.none sent.way.stands in
+    let stands = done_stands on.plant on.panel sent.now (took self.sender.names asked (record self { framer = framer_then })) c.do_item.new.self c.do_item.ensures.session sent.way.stands in
     let Was : Cut → Type 0 = λ cut.
     WasCut g.A.Answerer.Answers g.A.Answerer.TracesPart g.A.Answerer.Refuses g.A.Answerer.sent_first g.O.Outlet.Given g.O.Outlet.Failed cut
     on.plant on.panel on.seat on.past on.piece on.more on.first c.args.answerer.now c.do_item.new.self c.args.out.now c.do_item.new.out in
@@ -53,9 +53,9 @@ returns-in_default-asked-clause-goes_on g c = λ on.
     let used = c.next_asked-used.result.0 in
     let asked = c.in-Some.asked in
     let Found : List ℕ → Option Asked → Type 0 = λ text asked. FoundAsks text c.args.piece.now used asked in
-    let sent = way_taken framer_then used asked on.may on.way c.requires.reads c.requires.none c.in_default-asked.not-Sent c.next_asked-used.ensures.stands
+    let sent = way_taken framer_then used asked on.may on.way c.requires.reads c.in_default-asked.not-Sent c.next_asked-used.ensures.stands
     (λ text stands. subst (Found text) c.in-Some.is (c.next_asked-used.ensures.finds text stands)) in
-    let stands = done_stands on.plant on.panel sent.now (took self.sender.names asked (record self { framer = framer_then })) c.do_item.new.self c.do_item.ensures.session c.do_item.ensures.reads c.requires.none sent.way.stands in
+    let stands = done_stands on.plant on.panel sent.now (took self.sender.names asked (record self { framer = framer_then })) c.do_item.new.self c.do_item.ensures.session sent.way.stands in
     record { now = sent.now; added = done_bytes asked self; gave = c.in_ok-do_item.ensures.sent; way = way_for c.do_item.new.self sent.way stands }
 
 pub ask_told-requires-clause-way : goal.ask_told-requires-clause-way
@@ -71,13 +71,10 @@ ask_told-requires-clause-way g c =
     (λ text stands. subst (Found text) is (c.next_asked-used.ensures.finds text stands)) in
     let same : record c.acknowledge.new.self { phase = Tell message } ≡ told = ap (λ (session : Session). record session { phase = Tell message }) c.acknowledge.ensures in
     let Way : Session → Type 0 = λ session. IsOnItsWay g.A.Answerer.IsSeat g.A.Answerer.Serves g.A.Answerer.Answers g.A.Answerer.sent_first session c.args.answerer.now (drop used c.args.piece.now) in
-    (drop used c.args.piece.now, subst Way (sym same) (telling told on (way_read_sent told used on.may on.way c.requires.reads c.requires.none reads)))
+    (drop used c.args.piece.now, subst Way (sym same) (telling told on (way_read_sent told used on.may on.way c.requires.reads reads)))
 
 pub ask_told-requires-clause-reads : goal.ask_told-requires-clause-reads
 ask_told-requires-clause-reads g c = ap (λ (session : Session). session.phase) c.acknowledge.ensures ∙ c.requires.reads
-
-pub ask_told-requires-clause-none : goal.ask_told-requires-clause-none
-ask_told-requires-clause-none g c = ap (λ (session : Session). session.unsent) c.acknowledge.ensures ∙ c.requires.none
 
 pub ask_told-requires-clause-few : goal.ask_told-requires-clause-few
 ask_told-requires-clause-few g c = omega (arith, ap (λ (session : Session). length (made_by session)) c.acknowledge.ensures)
@@ -96,7 +93,7 @@ returns-in_err-ask_told-clause-cut g c =
     (λ text stands. subst (Found text) is (c.next_asked-used.ensures.finds text stands)) in
     let same : record c.acknowledge.new.self { phase = Tell message } ≡ told = ap (λ (session : Session). record session { phase = Tell message }) c.acknowledge.ensures in
     let Sent : Session → Type 0 = λ session. HasSent g.A.Answerer.Answers g.A.Answerer.sent_first on.plant on.panel on.seat on.past on.piece on.first c.args.answerer.now session (drop used c.args.piece.now) on.more (made_by session) in
-    let sent = subst Sent (sym same) (way_read_sent told used on.may on.way c.requires.reads c.requires.none reads) in
+    let sent = subst Sent (sym same) (way_read_sent told used on.may on.way c.requires.reads reads) in
     c.in_err-ask_told.ensures.cut (drop used c.args.piece.now) (telling (record c.acknowledge.new.self { phase = Tell message }) on sent) on.more refl sent.earlier)
 
 pub returns-clause-goes_on : goal.returns-clause-goes_on
@@ -111,11 +108,5 @@ returns-clause-goes_on g c = λ on.
     (λ text stands. subst (Found text) is (c.next_asked-used.ensures.finds text stands)) in
     let same : record c.acknowledge.new.self { phase = Tell message } ≡ told = ap (λ (session : Session). record session { phase = Tell message }) c.acknowledge.ensures in
     let Sent : Session → Type 0 = λ session. HasSent g.A.Answerer.Answers g.A.Answerer.sent_first on.plant on.panel on.seat on.past on.piece on.first c.args.answerer.now session (drop used c.args.piece.now) on.more (made_by session) in
-    let sent = subst Sent (sym same) (way_read_sent told used on.may on.way c.requires.reads c.requires.none reads) in
+    let sent = subst Sent (sym same) (way_read_sent told used on.may on.way c.requires.reads reads) in
     c.in_ok-ask_told.ensures.goes_on (drop used c.args.piece.now) (telling (record c.acknowledge.new.self { phase = Tell message }) on sent) on.more refl sent.earlier
-
-pub returns-in_err-do_item-clause-none : goal.returns-in_err-do_item-clause-none
-returns-in_err-do_item-clause-none g c = ap (λ (session : Session). session.unsent) c.do_item.ensures.session.same ∙ c.requires.none
-
-pub returns-in_default-asked-clause-none : goal.returns-in_default-asked-clause-none
-returns-in_default-asked-clause-none g c = ap (λ (session : Session). session.unsent) c.do_item.ensures.session.same ∙ c.requires.none

@@ -9,7 +9,6 @@ pub loop-rest-init : goal.loop-rest-init
 loop-rest-init g c = record {
   way = λ on. record { now = on.now; added = []; gave = g.met.O.Outlet.given_none c.args.out.now; way = more_none on.way };
   reads = c.requires.reads;
-  none = c.requires.none;
   same = g.met.A.Answerer.same_none c.args.answerer.now;
   same_outlet = g.met.O.Outlet.same_none c.args.out.now;
 }
@@ -27,7 +26,6 @@ loop-rest-preserved g c = record {
       subst Rest (sym (take_rest c.loop-rest.rest.now used))
       (goes_both on.more g.met.O.Outlet.given_more come (c.in_ok-used.ensures.goes_on (further on come)));
   reads = c.in_ok-used.ensures.reads;
-  none = c.work_item.ensures.none;
   same = g.met.A.Answerer.same_more c.args.answerer.now c.loop-rest.answerer c.work_item.new.answerer c.loop-rest.invariant.same c.work_item.ensures.same;
   same_outlet = g.met.O.Outlet.same_more c.args.out.now c.loop-rest.out c.work_item.new.out c.loop-rest.invariant.same_outlet c.work_item.ensures.same_outlet;
 }

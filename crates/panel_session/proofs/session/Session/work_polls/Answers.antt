@@ -24,8 +24,8 @@ use Rattle.panel_session.specs.Turns.{entries_in}
 use Rattle.panel_session.specs.WorkInside.{polling_at}
 use Rattle.panel_session.proofs.CutLemmas.{cut_behind, cut_refused}
 use Rattle.panel_session.proofs.RunLemmas.{way_asked}
-use Rattle.panel_session.proofs.SentLemmas.{polls_again, taken_too}
-use Rattle.panel_session.proofs.TellLemmas.{awaits_box, fits_of}
+use Rattle.panel_session.proofs.SentLemmas.{fits_of, polls_again, taken_too}
+use Rattle.panel_session.proofs.TellLemmas.{awaits_box}
 use Rattle.panel_session.proofs.WayLemmas.{more_none}
 use Rattle.panel_session.proofs.WorkLemmas.{asks_again, asks_first, polled_asked, way_ends}
 use Rattle.panel_session.proofs.session.Session.work_polls.Goals as goal
@@ -35,9 +35,8 @@ loop-position-init g c = record {
   way = λ on. (
     c.args.self.now,
     record { now = on.now; added = []; gave = g.met.O.Outlet.given_none c.args.out.now; way = more_none on.way },
-    asks_first on.way c.requires.reads c.requires.none,
+    asks_first on.way c.requires.reads,
   );
-  none = c.requires.none;
   below = omega arith;
   same = g.met.A.Answerer.same_none c.args.answerer.now;
   same_outlet = g.met.O.Outlet.same_none c.args.out.now;
@@ -125,7 +124,7 @@ returns-in-Err-clause-cut g c = λ on.
     c.send_answers.ensures.session
     ∙ ap (λ (sender : SenderData). answered_too items (record asking { outbox = c.ask.new.out; sender = sender })) c.clear.ensures
     ∙ taken_too (silenced asking) c.ask.new.out items refl c.ask.ensures.places in
-    let asked = polled_asked {seat = on.seat} {past = on.past} {piece = on.piece} {plant = on.plant} {panel = on.panel} asking after polls phase request items come.1.way.come c.polling-request.ensures come.2 c.loop-position.invariant.none c.loop-position.invariant.below few polled same in
+    let asked = polled_asked {seat = on.seat} {past = on.past} {piece = on.piece} {plant = on.plant} {panel = on.panel} asking after polls phase request items come.1.way.come c.polling-request.ensures come.2 few polled same in
     let entry = entry_of on.seat request items in
     let Own : SenderData → Type 0 = λ sender. items ≡ fitting sender.names items in
     let own : Own c.clear.new.self = subst Own (sym c.clear.ensures) fits in
@@ -166,7 +165,7 @@ returns-in-End-clause-ends g c = λ on.
     c.send_answers.ensures.session
     ∙ ap (λ (sender : SenderData). answered_too items (record asking { outbox = c.ask.new.out; sender = sender })) c.clear.ensures
     ∙ taken_too (silenced asking) c.ask.new.out items refl c.ask.ensures.places in
-    let asked = polled_asked {seat = on.seat} {past = on.past} {piece = on.piece} {plant = on.plant} {panel = on.panel} asking after polls phase request items come.1.way.come c.polling-request.ensures come.2 c.loop-position.invariant.none c.loop-position.invariant.below few polled same in
+    let asked = polled_asked {seat = on.seat} {past = on.past} {piece = on.piece} {plant = on.plant} {panel = on.panel} asking after polls phase request items come.1.way.come c.polling-request.ensures come.2 few polled same in
     let entry = entry_of on.seat request items in
     let Own : SenderData → Type 0 = λ sender. items ≡ fitting sender.names items in
     let own : Own c.clear.new.self = subst Own (sym c.clear.ensures) fits in
@@ -175,7 +174,7 @@ returns-in-End-clause-ends g c = λ on.
     let way = way_asked g.met.A.Answerer.answers_more come.1.way asked one in
     let bytes = made_by after in
     let Way : Phase → Type 0 = λ phase. IsUnderWay g.A.Answerer.Answers g.A.Answerer.sent_first on.plant on.panel on.seat on.past on.piece on.first c.send_answers.new.answerer (record after { phase = phase; polls = polls + 1 }) [] asked.later ((on.more ++ come.1.added) ++ bytes) in
-    let run = way_ends after (polls + 1) on.may (subst Way c.in-End.is way) (ap (λ (session : Session). session.unsent) same ∙ c.loop-position.invariant.none) in
+    let run = way_ends after (polls + 1) on.may (subst Way c.in-End.is way) in
     let Run : Session → List ℕ → Type 0 = λ session more. HasRun g.A.Answerer.Answers g.A.Answerer.sent_first on.plant on.panel on.seat on.past on.piece on.first c.send_answers.new.answerer session more in
     let Sent : List ℕ → Type 0 = λ more. Run (ended_turn after) more in
     let At : Session → Type 0 = λ session. Run session (on.more ++ (come.1.added ++ bytes)) in (
@@ -197,8 +196,6 @@ loop-position-preserved g c =
     let polls_now = c.loop-position.polls in
     let PolledNow : List Answer → Type 0 = λ answers. HasPolled answers (polls_now + 1) c.phase_behind-phase.result in
     let goes_on = polls_again c.ask.new.out.items (polls_now + 1) c.phase_behind-phase.result (subst PolledNow c.items.ensures c.phase_behind-phase.ensures) c.in_default-phase.not-End in
-    let unsent =
-    ap (λ (session : Session). session.unsent) c.send_answers.ensures.session ∙ c.loop-position.invariant.none in
     record {
       way = λ on.
           let asking = c.loop-position.self in
@@ -220,7 +217,7 @@ loop-position-preserved g c =
           c.send_answers.ensures.session
           ∙ ap (λ (sender : SenderData). answered_too items (record asking { outbox = c.ask.new.out; sender = sender })) c.clear.ensures
           ∙ taken_too (silenced asking) c.ask.new.out items refl c.ask.ensures.places in
-          let asked = polled_asked {seat = on.seat} {past = on.past} {piece = on.piece} {plant = on.plant} {panel = on.panel} asking after polls phase request items come.1.way.come c.polling-request.ensures come.2 c.loop-position.invariant.none c.loop-position.invariant.below few polled same in
+          let asked = polled_asked {seat = on.seat} {past = on.past} {piece = on.piece} {plant = on.plant} {panel = on.panel} asking after polls phase request items come.1.way.come c.polling-request.ensures come.2 few polled same in
           let entry = entry_of on.seat request items in
           let Own : SenderData → Type 0 = λ sender. items ≡ fitting sender.names items in
           let own : Own c.clear.new.self = subst Own (sym c.clear.ensures) fits in
@@ -238,9 +235,8 @@ loop-position-preserved g c =
               gave = g.met.O.Outlet.given_more c.args.out.now c.loop-position.out c.send_answers.new.out come.1.added bytes come.1.gave c.in_default-send_answers.ensures.sent;
               way = way_then;
             },
-            asks_again after (polls + 1) on.may way_then unsent,
+            asks_again after (polls + 1) way_then,
           );
-      none = unsent;
       below = omega (arith, c.loop-position.invariant.below, goes_on.1);
       same = g.met.A.Answerer.same_more c.args.answerer.now c.loop-position.answerer c.send_answers.new.answerer c.loop-position.invariant.same
           (g.met.A.Answerer.same_more c.loop-position.answerer c.ask.new.self c.send_answers.new.answerer c.ask.ensures.same c.send_answers.ensures.same);

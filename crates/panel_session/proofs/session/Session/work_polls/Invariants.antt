@@ -1,8 +1,7 @@
-use Rattle.std.proofs.Common.{◌≡◌, ◌-◌, ◌<◌, false, []}
+use Rattle.std.proofs.Common.{◌-◌, ◌<◌, []}
 use Rattle.plant_core.specs.declared.request.Request.TheVariants.{Poll}
-use Rattle.panel_session.specs.declared.session.act.Act.TheVariants.{Ask}
 use Rattle.panel_session.specs.declared.session.Session.{Session}
-use Rattle.panel_session.specs.Acting.{Acts}
+use Rattle.panel_session.specs.Acting.{IsAsking}
 use Rattle.panel_session.specs.EngineInside.{GoesTo, IsOnItsWay}
 use Rattle.panel_session.specs.WorkInside.{polling_at}
 use Rattle.panel_session.proofs.session.Session.work_polls.Given as goal
@@ -13,8 +12,7 @@ invariant-loop-position g l = record {
   way : (on : IsOnItsWay g.A.Answerer.IsSeat g.A.Answerer.Serves g.A.Answerer.Answers g.A.Answerer.sent_first l.fn.self l.fn.answerer [])
       → (session : Session)
       × (come : GoesTo g.A.Answerer.Answers g.A.Answerer.sent_first g.O.Outlet.Given on.plant on.panel on.seat on.past on.piece on.more on.first l.answerer session [] l.fn.out l.out)
-      × Acts on.plant on.panel come.now [] 0 (Ask (Poll l.self.panel l.self.items l.self.counts.turns)) (polling_at l.polls l.self);
-  none : l.self.unsent ≡ false;
+      × IsAsking on.plant on.panel come.now [] (Poll l.self.panel l.self.items l.self.counts.turns) (polling_at l.polls l.self);
   below : l.polls < 32;
   same : g.A.Answerer.IsSame l.fn.answerer l.answerer;
   same_outlet : g.O.Outlet.IsSame l.fn.out l.out;

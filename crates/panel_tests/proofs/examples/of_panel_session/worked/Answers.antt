@@ -1,7 +1,7 @@
 use Rattle.std.proofs.Common.{refl, arith}
 use Rattle.dle_framing.specs.Items.{reading}
 use Rattle.panel_session.specs.SoFar.{nothing_yet}
-use Rattle.panel_tests.proofs.of_panel_session.turns.worked.Goals as goal
+use Rattle.panel_tests.proofs.examples.of_panel_session.worked.Goals as goal
 
 pub work_turn-requires : goal.work_turn-requires
 unfolding reading
