@@ -1,8 +1,6 @@
 -- How the positions of a trace are walked.
 use Rattle.std.proofs.Common.{◌≡◌, ℕ, ◌+◌, ◌<◌, ◌≤◌, List, [], ◌∷◌, ◌++◌, length, Option, None, Some, refl, sym, ap, ◌∙◌, subst, below_more, arith}
 use Rattle.std.specs.List.{fold}
-use Rattle.std.specs.Ordering.{nat_cmp}
-use Rattle.std.specs.BTreeMap.{get}
 use Rattle.std.proofs.lemmas.List.Sums.{fold-append}
 use Rattle.plant_config.specs.Plant.{PlantData}
 use Rattle.plant_config.proofs.OneMore.{flat_map-range_more}
@@ -23,6 +21,7 @@ use Rattle.trace_audit.specs.declared.verdict.Verdict.{Verdict}
 use Rattle.trace_audit.specs.declared.verdict.Verdict.TheVariants.{Gap, Repeat}
 use Rattle.trace_lines.specs.Trace.{TracedEntry}
 use Rattle.trace_audit.specs.Verdict.{entries_at, entries_below, state_at, fault_of, finding, IsFirstFinding}
+use Rattle.trace_audit.specs.RowsInside.{row_at}
 use Rattle.trace_audit.specs.KeptInside.{HasRow, IsRow, AreKept, IsReady, IsLooked, HasWalked}
 
 -- A step has few answers,
@@ -51,7 +50,7 @@ state_at-more plant entries position entry one =
     ∙ ap (fold go (state_at plant entries position)) one
 
 -- the row of a position is that of its entries
-row-of : (plant : PlantData) (kept : Kept) (entries : List TracedEntry) (position : ℕ) (row : Option Row) → AreKept plant kept entries → get nat_cmp kept.rows position ≡ row → IsRow plant row (entries_at position entries)
+row-of : (plant : PlantData) (kept : Kept) (entries : List TracedEntry) (position : ℕ) (row : Option Row) → AreKept plant kept entries → row_at kept.rows position ≡ row → IsRow plant row (entries_at position entries)
 row-of plant kept entries position row are is =
     let Of : Option Row → Type 0 = λ row. IsRow plant row (entries_at position entries) in
     subst Of is (are.rows position)
@@ -70,7 +69,7 @@ one-entry plant state position entries (entry ∷ other ∷ others) last is none
     let wrong : Some (Repeat position) ≡ None = sym (ap (fault_of plant state position) is) ∙ none in absurd cc
 
 -- Where nothing is found at a position the next one comes,
-pub walked-more : (plant : PlantData) (kept : Kept) (position : ℕ) (row : Row) (old new : Walker) → HasWalked plant kept position old → get nat_cmp kept.rows position ≡ Some row → IsReady plant new → IsLooked plant position row old.state new.state None → HasWalked plant kept (position + 1) new
+pub walked-more : (plant : PlantData) (kept : Kept) (position : ℕ) (row : Row) (old new : Walker) → HasWalked plant kept position old → row_at kept.rows position ≡ Some row → IsReady plant new → IsLooked plant position row old.state new.state None → HasWalked plant kept (position + 1) new
 walked-more plant kept position row old new walked is ready looked = record {
   ready = ready;
   right = λ entries are.
@@ -90,7 +89,7 @@ walked-more plant kept position row old new walked is ready looked = record {
 }
 
 -- and where there is no row, that is the first finding.
-pub walked-gap : (plant : PlantData) (kept : Kept) (position : ℕ) (walker : Walker) (entries : List TracedEntry) → HasWalked plant kept position walker → get nat_cmp kept.rows position ≡ None → position < kept.positions → AreKept plant kept entries → IsFirstFinding plant entries (Gap position)
+pub walked-gap : (plant : PlantData) (kept : Kept) (position : ℕ) (walker : Walker) (entries : List TracedEntry) → HasWalked plant kept position walker → row_at kept.rows position ≡ None → position < kept.positions → AreKept plant kept entries → IsFirstFinding plant entries (Gap position)
 walked-gap plant kept position walker entries walked is within are = record {
   position = position;
   within = subst (λ count. position < count) are.positions within;

@@ -1,7 +1,5 @@
 -- How the entries of a trace are kept, and how the plant stands while they are looked at.
-use Rattle.std.specs.Prelude.{◌≡◌, ◌≢◌, is_some, if◌then◌else◌, ℕ, ◌+◌, ◌≤◌, Bool, true, false, List, [], ◌∷◌, ◌++◌, length, Option, None, Some, vec_capacity}
-use Rattle.std.specs.Ordering.{nat_cmp}
-use Rattle.std.specs.BTreeMap.{BTreeMap, get}
+use Rattle.std.specs.Prelude.{◌≡◌, ℕ, ◌+◌, ◌≤◌, Bool, true, false, List, [], ◌∷◌, ◌++◌, length, Option, None, Some, vec_capacity}
 use Rattle.line_text.specs.Lines.{lines}
 use Rattle.plant_config.specs.Plant.{PlantData}
 use Rattle.plant_core.specs.Answer.{room_of}
@@ -13,6 +11,7 @@ use Rattle.trace_audit.specs.Verdict.{LinesTell}
 use Rattle.trace_audit.specs.Verdict.{entries_at, position_count, state_at, fault_of, AreRightBelow, IsFirstFinding}
 use Rattle.trace_audit.specs.declared.kept.Row.{Row}
 use Rattle.trace_audit.specs.declared.kept.Kept.{Kept}
+use Rattle.trace_audit.specs.RowsInside.{row_at}
 use Rattle.trace_audit.specs.declared.verdict.Verdict.{Verdict}
 use Rattle.trace_audit.specs.declared.walk.Walker.{Walker}
 
@@ -36,18 +35,9 @@ abbrev pub IsRow : PlantData → Option Row → List TracedEntry → Type 0
 IsRow plant None entries = entries ≡ []
 IsRow plant (Some row) entries = HasRow plant row entries
 
--- A value was put at a position of a map: the first one where there was none before, else the other one. The values at other
--- positions stay.
-pub record IsPut {V : Type 0} (old new : BTreeMap ℕ V) (position : ℕ) (first other : V)
-    : Type 0 where
-  pub here : get nat_cmp new position
-      ≡ Some (if is_some (get nat_cmp old position) then other else first)
-  pub others : (place : ℕ) → place ≢ position
-      → get nat_cmp new place ≡ get nat_cmp old place
-
 -- These entries are kept.
 pub record AreKept (plant : PlantData) (kept : Kept) (entries : List TracedEntry) : Type 0 where
-  pub rows : (position : ℕ) → IsRow plant (get nat_cmp kept.rows position)
+  pub rows : (position : ℕ) → IsRow plant (row_at kept.rows position)
       (entries_at position entries)
   pub lines : kept.lines ≡ length entries
   pub positions : kept.positions ≡ position_count entries

@@ -1,4 +1,5 @@
 pub mod Verdict
+pub mod RowsInside
 pub mod KeptInside
 pub mod Laws
 pub mod FindingLaws

@@ -1,20 +1,19 @@
 //! The entries of a trace, by position.
 
 ghost use Rattle.std.specs.Prelude.{◌≡◌, ◌+◌, ◌≤◌, ◌<◌, ◌^◌, ◌∷◌, ◌++◌, [], List};
-ghost use Rattle.std.specs.Prelude.{OnOk};
-ghost use Rattle.std.specs.Ordering.{nat_cmp};
-ghost use Rattle.std.specs.BTreeMap.{get};
+ghost use Rattle.std.specs.Prelude.{IfOk, OnOk};
 ghost use Rattle.std.specs.Option.{option_copied};
 ghost use Rattle.plant_config.specs.Plant.{PlantData};
 ghost use Rattle.plant_core.specs.State.{FitsPlant};
 ghost use Rattle.trace_lines.specs.TraceLine.{trace_limit};
 ghost use Rattle.trace_lines.specs.Trace.{TracedEntry};
 ghost use Rattle.trace_lines.specs.Trace.{entry_of};
-ghost use Rattle.trace_audit.specs.KeptInside.{AreKept, IsPut};
+ghost use Rattle.trace_audit.specs.KeptInside.{AreKept};
+ghost use Rattle.trace_audit.specs.RowsInside.{row_at};
 
+use crate::rows::Rows;
 use plant_core::Request;
 use std::alloc::{AllocError, Global};
-use std::collections::BTreeMap;
 use trace_lines::Traced;
 
 // The last entry that a line told at a position, and whether there was one before.
@@ -28,7 +27,7 @@ pub(crate) struct Row<'t> {
 // The entries of the lines so far.
 #[derive(Drop)]
 pub(crate) struct Kept<'t> {
-    rows: BTreeMap<u64, Row<'t>>,
+    rows: Rows<Row<'t>>,
     // How many there are.
     lines: u64,
     // How many positions there are from 0 to the greatest one.
@@ -36,15 +35,16 @@ pub(crate) struct Kept<'t> {
 }
 
 impl<'t> Kept<'t> {
-    // No entry.
-    pub(crate) fn new(alloc: Global) -> Kept<'t>
-        ensures { (plant : PlantData) → AreKept plant result [] }
+    // No entry. Those at so many positions are found at once.
+    pub(crate) fn new(alloc: Global, count: usize) -> Result<Kept<'t>, AllocError>
+        ensures { IfOk result (λ kept. (plant : PlantData) → AreKept plant kept []) }
     {
-        Kept {
-            rows: BTreeMap::new(alloc),
+        let rows = Rows::new(alloc, count)?;
+        Ok(Kept {
+            rows,
             lines: 0,
             positions: 0,
-        }
+        })
     }
 
     // How many lines told an entry.
@@ -63,9 +63,9 @@ impl<'t> Kept<'t> {
 
     // The row of a position, if a line had it.
     pub(crate) fn row(&self, position: u64) -> Option<&Row<'t>>
-        ensures { option_copied result ≡ get nat_cmp self.now.rows position }
+        ensures { option_copied result ≡ row_at self.now.rows position }
     {
-        self.rows.get(&position)
+        self.rows.get(position)
     }
 
     // Keeps one entry more.
@@ -79,7 +79,7 @@ impl<'t> Kept<'t> {
         let position = traced.position;
         let first = row_of(traced, false);
         let other = row_of(traced, true);
-        put_at(&mut self.rows, position, first, other)?;
+        self.rows.put(position, first, other)?;
         self.lines += 1;
         self.positions = self.positions.max(position + 1);
         Ok(())
@@ -99,19 +99,4 @@ fn row_of<'t>(traced: &Traced<'t>, repeated: bool) -> Row<'t>
         reply: traced.reply,
         repeated,
     }
-}
-
-// Puts a value at a position: the first one where none was there, else the other one.
-fn put_at<V: Drop>(
-    values: &mut BTreeMap<u64, V>,
-    position: u64,
-    first: V,
-    other: V,
-) -> Result<(), AllocError>
-    ensures { OnOk result (IsPut values.old values.new position first other) }
-{
-    if values.insert(position, first)?.is_some() {
-        values.insert(position, other)?;
-    }
-    Ok(())
 }

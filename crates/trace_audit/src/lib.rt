@@ -5,6 +5,7 @@
 
 mod kept;
 mod laws;
+mod rows;
 mod trace;
 mod verdict;
 mod walk;

@@ -11,14 +11,18 @@ use crate::walk::walk;
 use line_text::split_line;
 use plant_config::Plant;
 use std::alloc::{AllocError, Global};
+use std::simd::prelude::*;
 use trace_lines::read_line;
+
+// No line that tells an entry is shorter, with its LF.
+const SHORTEST_LINE: usize = 14;
 
 /// What is found in the text of a trace, whose lines are in any order. A line is an entry's text and LF, which the last line
 /// may lack. It takes memory for the lines and for one plant.
 pub fn audit(alloc: Global, plant: &Plant, text: &[u8]) -> Result<Verdict, AllocError>
     ensures { IfOk result (λ verdict. IsVerdict plant.now (lines text.now) verdict) }
 {
-    let mut kept = Kept::new(alloc);
+    let mut kept = Kept::new(alloc, count_lines(text))?;
     if let Some(number) = read_lines(plant, text, &mut kept)? {
         return Ok(Verdict::BadLine(number));
     }
@@ -51,4 +55,16 @@ fn read_lines<'t>(
         rest = after;
     }
     Ok(None)
+}
+
+// How many lines a text has, or a few more, but no more than can tell entries. No clause holds it to that, since it is but how
+// many rows get room at once.
+fn count_lines(text: &[u8]) -> usize {
+    // So many lines end in less than 32 bytes at the most.
+    let mut count: usize = 3;
+    for i in 0..text.len() / 32 {
+        let ends = u8x32::from_slice(&text[32 * i..]).simd_eq(u8x32::splat(b'\n'));
+        count = count.wrapping_add(ends.to_bitmask().count_ones() as usize);
+    }
+    count.min(text.len() / SHORTEST_LINE + 3)
 }

@@ -1,0 +1,82 @@
+//! Rows by position.
+
+ghost use Rattle.std.specs.Prelude.{◌≡◌, ℕ, ◌<◌, length, IfOk, OnOk, None};
+ghost use Rattle.std.specs.Ordering.{nat_cmp};
+ghost use Rattle.std.specs.BTreeMap.{get};
+ghost use Rattle.std.specs.Option.{option_copied};
+ghost use Rattle.trace_audit.specs.RowsInside.{row_at, row_of_table, IsPut};
+
+use std::alloc::{AllocError, Global};
+use std::collections::BTreeMap;
+
+// A row or none at each position.
+#[derive(Drop)]
+pub(crate) struct Rows<V> {
+    // Those of the positions below its length.
+    table: Vec<Option<V>>,
+    // Those of the others.
+    others: BTreeMap<u64, V>,
+}
+
+impl<V: Copy> Rows<V> {
+    // No row at any position. Those at so many positions are found at once.
+    pub(crate) fn new(alloc: Global, count: usize) -> Result<Rows<V>, AllocError>
+        ensures { IfOk result (λ rows. (position : ℕ) → row_at rows position ≡ None) }
+    {
+        let table = vec![in alloc; None; count]?;
+        Ok(Rows {
+            table,
+            others: BTreeMap::new(alloc),
+        })
+    }
+}
+
+impl<V: Drop> Rows<V> {
+    // The row of a position, if it has one.
+    pub(crate) fn get(&self, position: u64) -> Option<&V>
+        ensures { option_copied result ≡ row_at self.now position }
+    {
+        if position < self.table.len() as u64 {
+            return self.table[position as usize].as_ref();
+        }
+        self.others.get(&position)
+    }
+
+    // Puts a row at a position: the first one where none was there, else the other one.
+    pub(crate) fn put(&mut self, position: u64, first: V, other: V) -> Result<(), AllocError>
+        ensures { OnOk result (IsPut (row_at self.old) (row_at self.new) position first other) }
+    {
+        if position < self.table.len() as u64 {
+            put_in(&mut self.table, position as usize, first, other);
+            return Ok(());
+        }
+        put_at(&mut self.others, position, first, other)
+    }
+}
+
+// The same in a table.
+fn put_in<V: Drop>(table: &mut [Option<V>], place: usize, first: V, other: V)
+    requires { place < length table.old }
+    ensures put { IsPut (row_of_table table.old) (row_of_table table.new) place first other }
+    ensures length { length table.new ≡ length table.old }
+{
+    if table[place].replace(first).is_some() {
+        table[place] = Some(other);
+    }
+}
+
+// The same in a map.
+fn put_at<V: Drop>(
+    values: &mut BTreeMap<u64, V>,
+    position: u64,
+    first: V,
+    other: V,
+) -> Result<(), AllocError>
+    ensures { OnOk result (IsPut (λ place. get nat_cmp values.old place)
+        (λ place. get nat_cmp values.new place) position first other) }
+{
+    if values.insert(position, first)?.is_some() {
+        values.insert(position, other)?;
+    }
+    Ok(())
+}
