@@ -34,4 +34,24 @@ pub mod TurnLemmas
 pub mod DuePolls
 pub mod BusyLemmas
 pub mod StateTextLemmas
+pub mod FieldLemmas
+pub mod FaultLemmas
+pub mod FirstDestLemmas
+pub mod FirstTieLemmas
+pub mod HoldLemmas
+pub mod PartLemmas
+pub mod LevelLemmas
+pub mod PanelPartLemmas
+pub mod BoardPartLemmas
+pub mod GroupPartLemmas
+pub mod ShownPartLemmas
+pub mod DestsRead
+pub mod DestsCan
+pub mod BroughtLemmas
+pub mod StateRead
+pub mod TextLengths
+pub mod TextFields
+pub mod OneText
+pub mod TestLemmas
+pub mod PlacedLemmas
 mod Worked

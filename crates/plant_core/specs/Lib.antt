@@ -15,6 +15,11 @@ pub mod State
 pub mod StateInside
 pub mod Wide
 pub mod StateText
+pub mod StateFields
+pub mod StateFault
+pub mod FirstTies
+pub mod ReadInside
+pub mod ReadParts
 pub mod Short
 pub mod Answer
 pub mod Noticed

@@ -4,13 +4,19 @@
 #![tactic(auto)]
 
 mod answer;
+mod brought;
 mod connect;
+mod dest_fields;
 mod display;
+mod display_fault;
 mod display_laws;
 mod due;
 mod dump;
+mod first_ties;
+mod group_fields;
 mod hear;
 mod history_laws;
+mod in_place;
 mod laws;
 mod machine;
 mod moved;
@@ -19,10 +25,19 @@ mod notify;
 mod place;
 mod protect;
 mod protect_laws;
+mod read_dests;
+mod read_fields;
+mod read_groups;
+mod read_notices;
+mod read_shown;
+mod read_state;
 mod request;
 mod salvo;
 mod salvo_laws;
+mod shown_fields;
 mod state;
+mod state_fault;
+mod state_laws;
 mod tables;
 mod tallies;
 mod wide;
@@ -46,8 +61,10 @@ pub use notice_laws::{
 pub use protect_laws::{
     protects_are_lifted, protects_are_made, protects_begin_with_none, protects_hold,
 };
+pub use read_state::StateFault;
 pub use request::Request;
 pub use salvo_laws::{entries_are_kept, goes_are_answered, goes_are_whole};
 pub use state::PlantState;
+pub use state_laws::texts_tell_states;
 pub use wide::{is_short_dest, is_short_source};
 pub use write_state::state_size;

@@ -2,6 +2,7 @@
 
 ghost use Rattle.std.specs.Prelude.{◌≡◌, ◌<◌, ℕ, true, false, All, IfOk, length};
 ghost use Rattle.std.specs.FinMap.{empty};
+ghost use Rattle.plant_config.specs.Plant.{destinations_of};
 ghost use Rattle.plant_config.specs.IsPlant.{IsPlant};
 ghost use Rattle.crosspoint_state.specs.Crosspoints.{NamesOnce, is_idle};
 ghost use Rattle.crosspoint_state.specs.Taps.{ArePointsOf};
@@ -12,7 +13,9 @@ ghost use Rattle.due_displays.specs.Due.{AreDueOf, is_due};
 ghost use Rattle.plant_core.specs.State.{AreCrosspoints, IsChangeOf};
 ghost use Rattle.plant_core.specs.StateInside.{AreTablesOf};
 ghost use Rattle.plant_core.specs.DueInside.{HaveTurned};
+ghost use Rattle.plant_core.specs.ReadInside.{AreBrought};
 
+use crate::brought::brought;
 use crate::moved::Moved;
 use crate::tallies::Tallies;
 use change_boards::Screens;
@@ -56,6 +59,29 @@ impl Indexes {
         let due = Box::new(alloc, DueDisplays::new(alloc, plant, &tables.screens)?)?;
         Ok(Indexes { tables, due })
     }
+
+    // What is kept for a plant whose destinations carry this: all displays are due.
+    pub(crate) fn of(
+        alloc: Global,
+        plant: &Plant,
+        points: &Crosspoints,
+    ) -> Result<Indexes, AllocError>
+        requires plant { IsPlant plant.now }
+        requires kept { ArePointsOf plant.now points.now }
+        requires points { AreCrosspoints plant.now points.now.entries }
+        requires ties { HaveValidTies plant.now points.now.entries }
+        ensures tables { IfOk result (λ indexes.
+            AreTablesOf plant.now points.now.entries indexes.tables.value) }
+        ensures due { IfOk result (λ indexes. AreDueOf plant.now indexes.due.value) }
+        ensures all { IfOk result (λ indexes.
+            (display : ℕ) → display < length plant.now.displays
+            → is_due plant.now indexes.due.value display ≡ true) }
+    {
+        let moves = brought(alloc, plant, points)?;
+        let mut indexes = Indexes::new(alloc, plant)?;
+        indexes.tables.settle(plant, points, &moves);
+        Ok(indexes)
+    }
 }
 
 impl Tables {
@@ -77,6 +103,20 @@ impl Tables {
             screens,
             moved,
         })
+    }
+
+    // The tables of a plant of which all destinations were parked become those of what its destinations carry.
+    fn settle(&mut self, plant: &Plant, points: &Crosspoints, moves: &[Change])
+        requires plant { IsPlant plant.now }
+        requires kept { ArePointsOf plant.now points.now }
+        requires points { AreCrosspoints plant.now points.now.entries }
+        requires ties { HaveValidTies plant.now points.now.entries }
+        requires tables { AreTablesOf plant.now empty self.old }
+        requires moves { AreBrought points.now.entries (destinations_of plant.now) moves.now }
+        ensures { AreTablesOf plant.now points.now.entries self.new }
+    {
+        self.ties.rebuild(plant, points);
+        self.tallies.follow(plant, &self.mixers, points, moves);
     }
 
     // Makes changes for which the ties are enough, none of them idle, and follows them in the tallies.

@@ -10,9 +10,9 @@ use crosspoint_state::Spot;
 use plant_config::{Change, DestId, MAX_DESTINATIONS, PanelNo, SourceId, TieNo};
 
 /// What stands for no source and no tie.
-const NO_NUMBER: u32 = u32::MAX;
+pub(crate) const NO_NUMBER: u32 = u32::MAX;
 /// What stands for no device.
-const NO_DEVICE: u16 = u16::MAX;
+pub(crate) const NO_DEVICE: u16 = u16::MAX;
 
 /// What a destination carries.
 pub(crate) fn write_spot(spot: Option<Spot>, out: &mut Vec<u8>)
