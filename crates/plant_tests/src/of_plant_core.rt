@@ -8,6 +8,7 @@ mod displays;
 mod large;
 mod long_runs;
 mod rows;
+mod state_read;
 mod state_text;
 
 pub(crate) use displays::STUDIO;

@@ -6,14 +6,14 @@ use super::Act::{Connects, Leaves, Protects, Stores};
 use super::rows::POOL;
 use super::{Act, Rig, plant_of, request_of};
 use plant_config::Plant;
-use plant_core::state_size;
+use plant_core::{PlantState, state_size};
 use std::alloc::{AllocError, Global};
 use std::process::Abort;
 use std::test::Fail;
 use swp08_messages::Point;
 
 /// A panel, the number of a destination of the last matrix, and what the panel does.
-type Deed = (u32, u16, Act);
+pub(super) type Deed = (u32, u16, Act);
 
 /// A place of a text, and bytes that stand there.
 type Part = (usize, &'static [u8]);
@@ -45,7 +45,7 @@ const TIES_PARTS: [Part; 2] = [
 ];
 
 // What is done, one after the other.
-fn are_done(rt: &impl Abort, rig: &mut Rig, matrix: u8, deeds: &[Deed])
+pub(super) fn are_done(rt: &impl Abort, rig: &mut Rig, matrix: u8, deeds: &[Deed])
     ensures { rig.new.state.plant ≡ rig.old.state.plant }
 {
     for (panel, dest, act) in deeds {
@@ -59,11 +59,15 @@ fn are_done(rt: &impl Abort, rig: &mut Rig, matrix: u8, deeds: &[Deed])
 }
 
 // The text of a state.
-fn text_of(alloc: Global, plant: &Plant, rig: &Rig) -> Result<Vec<u8>, AllocError>
-    requires { rig.now.state.plant ≡ plant.now }
+pub(super) fn text_of(
+    alloc: Global,
+    plant: &Plant,
+    state: &PlantState,
+) -> Result<Vec<u8>, AllocError>
+    requires { state.now.plant ≡ plant.now }
 {
     let mut text = Vec::with_capacity(alloc, state_size(plant))?;
-    rig.state.write_state(&mut text);
+    state.write_state(&mut text);
     Ok(text)
 }
 
@@ -85,7 +89,7 @@ fn is_written(
 ) -> Result<(), AllocError> {
     let mut rig = Rig::of(alloc, plant)?;
     are_done(rt, &mut rig, matrix, deeds);
-    let text = text_of(alloc, plant, &rig)?;
+    let text = text_of(alloc, plant, &rig.state)?;
     assert!(rt; text.len() == state_size(plant));
     for part in parts {
         has(rt, &text, part);
