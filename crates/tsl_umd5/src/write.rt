@@ -9,6 +9,7 @@ ghost use Rattle.tsl_umd5.specs.Packet.{IsPrintable, IsPacketText, AddsDisplay};
 
 use crate::layout::{COUNT_BYTES, FLAGS, PACKET_HEAD, VERSION};
 use crate::shown::Shown;
+use line_text::append;
 
 /// Appends the packet of this screen without a display. It needs six spare bytes, and takes no memory.
 ///
@@ -81,16 +82,4 @@ fn set_count(start: usize, out: &mut Vec<u8>)
 {
     let count = (out.len() - (start + COUNT_BYTES)) as u16;
     out[start..start + COUNT_BYTES].copy_from_slice(&count.to_le_bytes());
-}
-
-// Appends bytes for which there is room.
-fn append(bytes: &[u8], out: &mut Vec<u8>)
-    requires room { vec_len out.old + length bytes.now ≤ vec_capacity out.old }
-    ensures text { out.new.items ≡ out.old.items ++ bytes.now }
-    ensures len { vec_len out.new ≡ vec_len out.old + length bytes.now }
-    ensures room { vec_capacity out.new ≡ vec_capacity out.old }
-{
-    for byte in bytes {
-        out.push_reserved(*byte);
-    }
 }

@@ -12,8 +12,8 @@ ghost use Rattle.ctl_io.specs.MemDiskInside.{write_of, IsSpan};
 
 use crate::memory::calls::CallCount;
 use crate::memory::disk_call::{DiskCall, WriteSpan};
-use crate::memory::mem_sink::append;
 use crate::{Did, Disk};
+use line_text::append;
 use std::alloc::{AllocError, Global};
 use std::marker::Model;
 

@@ -9,9 +9,9 @@ ghost use Rattle.ctl_io.specs.MemDisks.{after_lending, after_making, after_retur
 ghost use Rattle.ctl_io.specs.MemDisks.{longest_name};
 ghost use Rattle.ctl_io.specs.MemDisksInside.{IsBlank};
 
-use crate::memory::mem_sink::append;
 use crate::memory::named::{is_listed, names_of, take_first};
 use crate::{Bytes, MemDisk, NamedDisk};
+use line_text::append;
 use std::alloc::{AllocError, Global};
 use std::marker::Model;
 

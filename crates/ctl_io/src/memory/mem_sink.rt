@@ -1,12 +1,12 @@
 //! A sink in memory.
 
-ghost use Rattle.std.specs.Prelude.{◌≡◌, ◌+◌, ◌≤◌, [], ◌++◌, Some, IfOk, length};
-ghost use Rattle.std.specs.Prelude.{vec_len, vec_capacity};
+ghost use Rattle.std.specs.Prelude.{◌≡◌, [], Some, IfOk};
 ghost use Rattle.ctl_io.specs.Calls.{uncalled};
 ghost use Rattle.ctl_io.specs.Memory.{write_answer, after_write};
 
 use crate::memory::calls::CallCount;
 use crate::{Sink, Write};
+use line_text::append;
 use std::alloc::{AllocError, Global};
 use std::marker::Model;
 
@@ -80,16 +80,5 @@ impl Sink for MemSink {
 
     fn write(&mut self, bytes: &[u8]) -> Write {
         self.take(bytes)
-    }
-}
-
-/// Appends the bytes in the memory that is there.
-pub(crate) fn append(bytes: &[u8], out: &mut Vec<u8>)
-    requires { vec_len out.old + length bytes.now ≤ vec_capacity out.old }
-    ensures items { out.new.items ≡ out.old.items ++ bytes.now }
-    ensures room { vec_capacity out.new ≡ vec_capacity out.old }
-{
-    for byte in bytes {
-        out.push_reserved(*byte);
     }
 }

@@ -1,13 +1,13 @@
 //! A display port in memory.
 
-ghost use Rattle.std.specs.Prelude.{◌≡◌, ◌+◌, ◌<◌, ◌≤◌, [], ◌++◌, IfOk, length, map};
-ghost use Rattle.std.specs.Prelude.{vec_len, vec_capacity};
+ghost use Rattle.std.specs.Prelude.{◌≡◌, ◌<◌, [], IfOk, length, map};
 ghost use Rattle.std.specs.List.{concat};
 ghost use Rattle.ctl_io.specs.Calls.{uncalled};
 ghost use Rattle.ctl_net.specs.MemPort.{send_answer, after_send, opened_to};
 
 use crate::{DisplayPort, Opening, Sent};
 use ctl_io::CallCount;
+use line_text::append;
 use std::alloc::{AllocError, Global};
 use std::marker::Model;
 
@@ -115,15 +115,4 @@ impl DisplayPort for MemPort {
     }
 
     fn pause(&mut self) {}
-}
-
-// Appends the bytes in the memory that is there.
-fn append(bytes: &[u8], out: &mut Vec<u8>)
-    requires { vec_len out.old + length bytes.now ≤ vec_capacity out.old }
-    ensures items { out.new.items ≡ out.old.items ++ bytes.now }
-    ensures room { vec_capacity out.new ≡ vec_capacity out.old }
-{
-    for byte in bytes {
-        out.push_reserved(*byte);
-    }
 }

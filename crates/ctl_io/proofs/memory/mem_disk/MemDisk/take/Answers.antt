@@ -28,7 +28,7 @@ invariant_of-self-then-listed c =
     let from : c.len.result ≡ length c.self.inside.written.items = search rules in
     let within : c.args.at + length c.args.bytes.now ≤ length c.self.inside.present.items = search rules in
     kept_failed c.self.inside _ _ _ _ span c.args.bytes.now (not c.next_fails-listed.result) (ap not c.if-listed.true) c.self.invariant from refl within
-    c.append.ensures.items c.push_reserved-2.ensures.items c.push_reserved-2.ensures.capacity c.push_reserved.ensures.items c.push_reserved.ensures.capacity
+    c.append.ensures.bytes c.push_reserved-2.ensures.items c.push_reserved-2.ensures.capacity c.push_reserved.ensures.items c.push_reserved.ensures.capacity
 
 pub returns-then-listed-clause-after : goal.returns-then-listed-clause-after
 returns-then-listed-clause-after c =
@@ -37,7 +37,7 @@ returns-then-listed-clause-after c =
     let write : DiskWrite = record { at = c.args.at; bytes = c.args.bytes.now } in
     let span : WriteSpan = record { at = c.args.at; from = c.len.result; len = n } in
     let from : c.len.result ≡ length w = search rules in
-    let written = c.append.ensures.items in
+    let written = c.append.ensures.bytes in
     let calls = c.push_reserved-2.ensures.items in
     after_recorded (disk_state c.self.inside) n _ _ c.next_fails-listed.ensures (c.has_room-room.ensures ∙ room_is c.self.inside n) _ (λ done. WasWritten done write) (search rules) refl
     ((λ k. events_on [] (written k) (calls k)) ∙ events_write w c.args.bytes.now c.self.inside.calls.items span _ c.self.invariant.calls from refl)
@@ -53,7 +53,7 @@ invariant_of-self-2 c =
     let present = take_at c.overwrite.new.out (drop (length c.overwrite.new.out) c.self.inside.present.items) c.self.inside.present.len long
     ∙ c.overwrite.ensures ∙ ap (overlaid c.args.at c.args.bytes.now) c.deref_mut.ensures.value in
     kept_write c.self.inside _ _ _ _ _ span c.args.bytes.now (not c.next_fails-listed.result) (ap not c.if-listed.false) c.self.invariant from refl within
-    present c.append.ensures.items c.push_reserved-2.ensures.items c.push_reserved-2.ensures.capacity c.push_reserved.ensures.items c.push_reserved.ensures.capacity
+    present c.append.ensures.bytes c.push_reserved-2.ensures.items c.push_reserved-2.ensures.capacity c.push_reserved.ensures.items c.push_reserved.ensures.capacity
 
 pub returns-clause-answer : goal.returns-clause-answer
 returns-clause-answer c =
@@ -67,7 +67,7 @@ returns-clause-after c =
     let write : DiskWrite = record { at = c.args.at; bytes = c.args.bytes.now } in
     let span : WriteSpan = record { at = c.args.at; from = c.len.result; len = n } in
     let from : c.len.result ≡ length w = search rules in
-    let written = c.append.ensures.items in
+    let written = c.append.ensures.bytes in
     let calls = c.push_reserved-2.ensures.items in
     after_recorded (disk_state c.self.inside) n _ _ c.next_fails-listed.ensures (c.has_room-room.ensures ∙ room_is c.self.inside n) _ (λ done. WasWritten done write) (search rules) refl
     ((λ k. events_on [] (written k) (calls k)) ∙ events_write w c.args.bytes.now c.self.inside.calls.items span _ c.self.invariant.calls from refl)

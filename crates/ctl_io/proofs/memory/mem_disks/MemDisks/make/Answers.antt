@@ -11,7 +11,7 @@ returns-clause-made c =
     let made = made_size c.self.inside in
     let size = c.args.size in
     let blank = (all_split (IsBlank made) _ _ (subst (AllByRecursion (IsBlank made)) c.in_ok-blank.ensures.items c.self.invariant.blank)).1 in
-    let named : c.of.result ≡ c.args.name.now = c.of.ensures ∙ c.append.ensures.items ∙ ap (λ (front : List _). front ++ c.args.name.now) blank.unnamed in
+    let named : c.of.result ≡ c.args.name.now = c.of.ensures ∙ c.append.ensures.bytes ∙ ap (λ (front : List _). front ++ c.args.name.now) blank.unnamed in
     let cut : c.cut.new.self ≡ unused (replicate size 0) made.calls_room made.bytes_room [] =
     c.cut.ensures ∙ ap (λ (d : DiskState). record d { start = take size d.start }) blank.disk ∙ zeros_cut size made (subst (λ (d : DisksState). size ≤ d.made.bytes) (sym c.self.view_is) c.requires.within) in
     (λ k. Some (record { name = named k; disk = cut k })) ∙ made_is c.args.name.now size made (omega (arith, c.if-name-gt-LONGEST_NAME.false))
