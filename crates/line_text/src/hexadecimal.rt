@@ -4,6 +4,8 @@ ghost use Rattle.std.specs.Prelude.{◌≡◌, ◌+◌, ◌*◌, ◌/◌, ◌%�
 ghost use Rattle.std.specs.Prelude.{vec_len, vec_capacity};
 ghost use Rattle.hex.specs.Hex.{encode_upper, upper_digits};
 
+use std::mem::{forget, replace};
+
 // The two digits of each byte, one behind the other: a look-up serves both.
 static PAIRS: [u8; 512] = *b"\
     000102030405060708090A0B0C0D0E0F101112131415161718191A1B1C1D1E1F\
@@ -22,11 +24,15 @@ pub fn append_hex(bytes: &[u8], out: &mut Vec<u8>)
     ensures len { vec_len out.new ≡ vec_len out.old + 2 * length bytes.now }
     ensures room { vec_capacity out.new ≡ vec_capacity out.old }
 {
+    // Meanwhile the vector stands by itself, so that where its bytes are isn't read again behind each of them.
+    let empty = Vec::new(*out.allocator());
+    let mut whole = replace(out, empty);
     for byte in bytes {
         let (high, low) = digits_of(*byte);
-        out.push_reserved(high);
-        out.push_reserved(low);
+        whole.push_reserved(high);
+        whole.push_reserved(low);
     }
+    forget(replace(out, whole));
 }
 
 /// Writes bytes in hexadecimal, in upper case, into room of just that length.

@@ -5,7 +5,7 @@ use Rattle.line_text.proofs.hexadecimal.append_hex.Given as goal
 -- With the bytes that are left, all are appended.
 abbrev pub invariant-loop-byte : goal.invariant-loop-byte
 invariant-loop-byte l = record {
-  bytes : l.out.items ++ encode_upper (drop l.byte-index l.bytes) ≡ l.fn.out.items ++ encode_upper l.bytes;
-  len : vec_len l.out ≡ vec_len l.fn.out + 2 * l.byte-index;
-  room : vec_capacity l.out ≡ vec_capacity l.fn.out;
+  bytes : l.whole.items ++ encode_upper (drop l.byte-index l.bytes) ≡ l.fn.out.items ++ encode_upper l.bytes;
+  len : vec_len l.whole ≡ vec_len l.fn.out + 2 * l.byte-index;
+  room : vec_capacity l.whole ≡ vec_capacity l.fn.out;
 }
