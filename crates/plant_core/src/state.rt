@@ -186,10 +186,10 @@ impl PlantState {
         tells_source(extended, at, self.standing(at))
     }
 
-    // Nothing is done: what is kept of a state holds.
-    // kit: a body that only calls methods doesn't know the invariant.
+    /// Nothing is done: what is kept of a state holds.
+    // kit: a body that only calls methods doesn't know the invariant, nor does the crate above.
     #[inline(always)]
-    fn is_kept(&self)
+    pub fn is_kept(&self)
         ensures valid { IsValid self.now }
         ensures short { StaysShort self.now }
     {
