@@ -9,6 +9,7 @@ mod of_plant_core;
 mod of_plant_file;
 pub(crate) mod of_plant_names;
 mod of_plant_rules;
+mod of_plant_snapshot;
 mod of_protects;
 mod of_salvo_groups;
 mod of_standby;

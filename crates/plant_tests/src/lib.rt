@@ -14,6 +14,8 @@ mod of_plant_file;
 #[cfg(test)]
 mod of_plant_names;
 #[cfg(test)]
+mod of_plant_snapshot;
+#[cfg(test)]
 mod of_standby;
 #[cfg(test)]
 mod of_tally;

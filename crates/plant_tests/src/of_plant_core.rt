@@ -139,15 +139,15 @@ fn message_of(at: Point, reply: Reply) -> Option<Message> {
 
 /// A plant's state, and room for the answers of a step.
 #[derive(Drop)]
-struct Rig {
-    state: PlantState,
+pub(crate) struct Rig {
+    pub(crate) state: PlantState,
     out: OutBox<Answer>,
     ghost room: { room_of state.plant ≤ out.places },
 }
 
 impl Rig {
     // The start of a plant.
-    fn of(alloc: Global, plant: &Plant) -> Result<Rig, AllocError>
+    pub(crate) fn of(alloc: Global, plant: &Plant) -> Result<Rig, AllocError>
         ensures { IfOk result (λ rig. rig.state.plant ≡ plant.now) }
     {
         let out = OutBox::new(alloc, PlantState::room_of(plant))?;
@@ -161,7 +161,7 @@ impl Rig {
     }
 
     // An event is asked for, in place of what was answered before.
-    fn ask(&mut self, rt: &impl Abort, request: &Request)
+    pub(crate) fn ask(&mut self, rt: &impl Abort, request: &Request)
         ensures { self.new.state.plant ≡ self.old.state.plant }
     {
         assert!(rt; self.state.fits(request));

@@ -1,0 +1,12 @@
+pub use Rattle.plant_config.specs.Plant
+pub use Rattle.plant_core.specs.State
+pub use Rattle.plant_core.specs.StateText
+pub use Rattle.state_store.specs.Kept
+pub mod StandsFor
+pub mod Damage
+pub mod Store
+pub mod Answers
+pub mod Laws
+pub mod TextLaws
+pub mod SizeInside
+pub mod SavedInside
