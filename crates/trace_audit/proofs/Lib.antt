@@ -1,3 +1,4 @@
+pub mod RowLemmas
 pub mod ReadLemmas
 pub mod WalkLemmas
 pub mod PlaceLemmas

@@ -1,5 +1,5 @@
 -- What row a position has.
-use Rattle.std.specs.Prelude.{◌≡◌, ◌≢◌, ℕ, nat_lt, is_some, if◌then◌else◌, List, length, slice_get, Option, Some}
+use Rattle.std.specs.Prelude.{◌≡◌, ◌≢◌, ℕ, nat_lt, is_some, if◌then◌else◌, List, slice_get, vec_capacity, Option, Some}
 use Rattle.std.specs.Option.{option_flatten}
 use Rattle.std.specs.Ordering.{nat_cmp}
 use Rattle.std.specs.BTreeMap.{get}
@@ -9,9 +9,9 @@ use Rattle.trace_audit.specs.declared.rows.Rows.{Rows}
 abbrev pub row_of_table : {V : Type 0} → List (Option V) → ℕ → Option V
 row_of_table table place = option_flatten (slice_get table place)
 
--- the row of a position: of the table where that has the place, else of the map
+-- the row of a position: of the table where that has room for the place, else of the map
 abbrev pub row_at : {V : Type 0} → Rows V → ℕ → Option V
-row_at rows position = if nat_lt position (length rows.table.items)
+row_at rows position = if nat_lt position (vec_capacity rows.table)
     then row_of_table rows.table.items position
     else get nat_cmp rows.others position
 
