@@ -1,7 +1,8 @@
 //! The notices of all panels.
 
 ghost use Rattle.std.specs.Prelude.{◌≡◌, ◌<◌, ◌↔◌, length, All, IsTrue, IsNone, IfOk};
-ghost use Rattle.change_boards.specs.Board.{IsEmpty, next};
+ghost use Rattle.number_tables.specs.Numbers.{word_limit, HasBitsOf};
+ghost use Rattle.change_boards.specs.Board.{IsEmpty, dests_of, next};
 ghost use Rattle.change_boards.specs.Notices.{board_of, has, has_left, start_boards, with_mark};
 ghost use Rattle.change_boards.specs.Notices.{with_removal, with_leave};
 
@@ -72,6 +73,17 @@ impl Notices {
     {
         let board = &self.boards[panel.get() as usize];
         board.has(dest, sort)
+    }
+
+    /// Of which of 64 neighbouring destinations a panel has this notice: a bit for each of those from 64 times `place` on,
+    /// which is 0 to 1,023.
+    pub fn word(&self, panel: PanelNo, place: u32, sort: Sort) -> u64
+        requires panel { panel < length self.now }
+        requires place { place < word_limit }
+        ensures { HasBitsOf (dests_of (board_of self.now panel) sort) place result }
+    {
+        let board = &self.boards[panel.get() as usize];
+        board.word(place, sort)
     }
 
     /// Whether a panel has no notice.

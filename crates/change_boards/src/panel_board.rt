@@ -2,7 +2,8 @@
 
 ghost use Rattle.std.specs.Prelude.{◌≡◌, ◌<◌, ◌↔◌, IsNone, IsTrue, IfOk, IfSome};
 ghost use Rattle.change_boards.specs.Board.{IsEmpty, abandoned, blank, has_notice};
-ghost use Rattle.change_boards.specs.Board.{marked, next, without_next};
+ghost use Rattle.change_boards.specs.Board.{dests_of, marked, next, without_next};
+ghost use Rattle.number_tables.specs.Numbers.{word_limit, HasBitsOf};
 
 use crate::sort::Sort;
 use number_tables::{MAX_NUMBERS, NumberSet};
@@ -67,6 +68,17 @@ impl PanelBoard {
         match sort {
             Sort::Source => self.source.contains(dest.get()),
             Sort::Protect => self.protect.contains(dest.get()),
+        }
+    }
+
+    /// Of which of 64 neighbouring destinations the panel has this notice.
+    pub(crate) fn word(&self, place: u32, sort: Sort) -> u64
+        requires { place < word_limit }
+        ensures { HasBitsOf (dests_of self.now sort) place result }
+    {
+        match sort {
+            Sort::Source => self.source.word(place),
+            Sort::Protect => self.protect.word(place),
         }
     }
 

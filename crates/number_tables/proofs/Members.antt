@@ -1,12 +1,14 @@
 -- The set that words stand for has the numbers whose bits are set.
-use Rattle.std.proofs.Common.{◌≡◌, ℕ, ◌+◌, ◌*◌, ◌<◌, ◌≤◌, ◌==◌, nat_eq, List, length, Bool, true, false, not, ◌&&◌, ◌||◌, suc, zero, inl, inr, refl, sym, ap, ◌∙◌, arith, eq-eqb, eqb-true}
+use Rattle.std.proofs.Common.{◌≡◌, ℕ, ◌+◌, ◌*◌, ◌/◌, ◌%◌, ◌<◌, ◌≤◌, ◌==◌, nat_eq, List, length, Bool, true, false, not, ◌&&◌, ◌||◌, suc, zero, inl, inr, refl, sym, ap, ◌∙◌, arith, eq-eqb, eqb-true}
 use Rattle.std.proofs.lemmas.Bool.{cases_eq, or_left, or_right}
 use Rattle.std.proofs.lemmas.Map.Views.{any-filter_same}
+use Rattle.std.specs.Prelude.{slice_index}
+use Rattle.std.specs.Int.{bit_at}
 use Rattle.std.specs.List.{list_any, range_with_len}
 use Rattle.std.specs.Cmp.{nat_cmp_total, unsigned_tied}
 use Rattle.std.specs.FinSet.{empty, contains, insert, remove, contains-empty, contains-insert, contains-remove, contains-from_list_nat, same_set, nat_cmp-IsAntisymmetric}
 use Rattle.std.specs.Ordering.{nat_cmp}
-use Rattle.number_tables.specs.Numbers.{Numbers}
+use Rattle.number_tables.specs.Numbers.{Numbers, HasBitsOf}
 use Rattle.number_tables.specs.SetInside.{has_bit, members, IsZero, SetsBit, ClearsBit}
 use Rattle.number_tables.proofs.SummaryLemmas.{bit_within, no_bit}
 
@@ -29,6 +31,16 @@ contains-members words n =
     within : (b : Bool) → has_bit words n ≡ b → (b && list_any (λ k. nat_eq k n) (range_with_len 0 (64 * length words))) ≡ b
     within true has = in_range 0 (64 * length words) n (omega arith) (omega (arith, bit_within words n has))
     within false has = refl
+
+-- the bits of a word are those of 64 neighbouring numbers
+pub bits_of_word : (words : List ℕ) (place : ℕ) → HasBitsOf (members words) place (slice_index words place)
+bits_of_word words place bit below =
+    let n : ℕ = 64 * place + bit in
+    let word : n / 64 ≡ place = omega arith in
+    let low : n % 64 ≡ bit = omega arith in
+    sym (contains-members words n
+    ∙ ap (λ at. bit_at (slice_index words at) (n % 64) == 1) word
+    ∙ ap (λ at. bit_at (slice_index words place) at == 1) low)
 
 -- two sets with the same members are one
 pub same_members : (s t : Numbers) → ((n : ℕ) → contains s n ≡ contains t n) → s ≡ t

@@ -2,9 +2,9 @@
 
 ghost use Rattle.std.specs.Prelude.{◌≡◌, ◌<◌, ◌↔◌, IsTrue, IfOk, IfSome};
 ghost use Rattle.std.specs.FinSet.{empty, contains, insert, remove};
-ghost use Rattle.number_tables.specs.Numbers.{lowest, number_limit};
+ghost use Rattle.number_tables.specs.Numbers.{lowest, number_limit, word_limit, HasBitsOf};
 
-use crate::words::{clear_bit, has_bit, lowest_bit, set_bit, zero, zero_summed, zeroed};
+use crate::words::{clear_bit, has_bit, lowest_bit, set_bit, word_at, zero, zero_summed, zeroed};
 use std::alloc::{AllocError, Global};
 use std::marker::Model;
 
@@ -62,6 +62,15 @@ impl NumberSet {
         ensures { result ≡ contains self.now number }
     {
         has_bit(&self.words, number)
+    }
+
+    /// Which of 64 neighbouring numbers are members: a bit for each of those from 64 times `place` on, which is 0 to 1,023.
+    #[inline]
+    pub fn word(&self, place: u32) -> u64
+        requires { place < word_limit }
+        ensures { HasBitsOf self.now place result }
+    {
+        word_at(&self.words, place)
     }
 
     /// Adds a number, 0 to 65,535.

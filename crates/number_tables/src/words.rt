@@ -52,6 +52,14 @@ pub(crate) fn has_bit(words: &[u64], number: u32) -> bool
     (words[(number / 64) as usize] >> (number % 64)) & 1 == 1
 }
 
+/// A word.
+pub(crate) fn word_at(words: &[u64], place: u32) -> u64
+    requires { place < length words.now }
+    ensures { result ≡ slice_index words.now place }
+{
+    words[place as usize]
+}
+
 /// Sets a bit.
 pub(crate) fn set_bit(words: &mut [u64], number: u32)
     requires { number < 64 * length words.old }

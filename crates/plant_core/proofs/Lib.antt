@@ -50,8 +50,17 @@ pub mod DestsCan
 pub mod BroughtLemmas
 pub mod StateRead
 pub mod TextLengths
+pub mod NoticeTextLemmas
 pub mod TextFields
 pub mod OneText
+pub mod TextParts
+pub mod TextPlaces
+pub mod TextRules
+pub mod DestRules
+pub mod GroupRules
+pub mod PanelRules
+pub mod DisplayRules
+pub mod WholeText
 pub mod TestLemmas
 pub mod PlacedLemmas
 mod Worked

@@ -18,6 +18,7 @@ pub mod StateText
 pub mod StateFields
 pub mod StateFault
 pub mod FirstTies
+pub mod WriteInside
 pub mod ReadInside
 pub mod ReadParts
 pub mod Short
@@ -37,3 +38,4 @@ pub mod ProtectLaws
 pub mod SalvoLaws
 pub mod NoticeLaws
 pub mod DisplayLaws
+pub mod TextLaws

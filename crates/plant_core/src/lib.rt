@@ -42,6 +42,7 @@ mod tables;
 mod tallies;
 mod wide;
 mod write_fields;
+mod write_notices;
 mod write_state;
 
 pub use answer::Answer;
@@ -65,6 +66,6 @@ pub use read_state::StateFault;
 pub use request::Request;
 pub use salvo_laws::{entries_are_kept, goes_are_answered, goes_are_whole};
 pub use state::PlantState;
-pub use state_laws::texts_tell_states;
+pub use state_laws::{texts_are_whole, texts_tell_states};
 pub use wide::{is_short_dest, is_short_source};
 pub use write_state::state_size;

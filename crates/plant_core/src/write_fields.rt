@@ -159,8 +159,8 @@ pub(crate) fn write_word(number: u16, out: &mut Vec<u8>)
     append(&number.to_le_bytes(), out);
 }
 
-// Bytes for which there is room.
-fn append(bytes: &[u8], out: &mut Vec<u8>)
+/// Bytes for which there is room.
+pub(crate) fn append(bytes: &[u8], out: &mut Vec<u8>)
     requires room { vec_len out.old + length bytes.now ≤ vec_capacity out.old }
     ensures text { out.new.items ≡ out.old.items ++ bytes.now }
     ensures len { vec_len out.new ≡ vec_len out.old + length bytes.now }

@@ -13,9 +13,9 @@ ghost use Rattle.plant_core.specs.StateText.{texts_of};
 
 use crate::state::PlantState;
 use crate::write_fields::{
-    left_of, notices_of, write_display, write_entry, write_number, write_owner, write_spot,
-    write_word,
+    left_of, write_display, write_entry, write_number, write_owner, write_spot, write_word,
 };
+use crate::write_notices::write_notices;
 use change_boards::{Notices, Shown};
 use crosspoint_state::Crosspoints;
 use plant_config::{Change, DestId, DisplayId, PanelNo, Plant};
@@ -147,9 +147,7 @@ fn write_panel(plant: &Plant, notices: &Notices, panel: PanelNo, out: &mut Vec<u
     ensures room { vec_capacity out.new ≡ vec_capacity out.old }
 {
     out.push_reserved(left_of(notices, panel));
-    for number in 0..plant.destination_count() {
-        out.push_reserved(notices_of(notices, panel, DestId::of(number)));
-    }
+    write_notices(notices, panel, plant.destination_count(), out);
 }
 
 // All displays.

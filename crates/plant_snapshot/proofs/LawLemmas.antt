@@ -8,7 +8,7 @@ use Rattle.plant_core.proofs.OneText.{one_text}
 use Rattle.plant_snapshot.specs.StandsFor.{kept_for, IsStateKept}
 use Rattle.plant_snapshot.specs.Damage.{fault_kept}
 use Rattle.plant_snapshot.specs.Laws.{StandForOneState, StandUndamaged}
-use Rattle.plant_snapshot.proofs.WholeText.{whole_text}
+use Rattle.plant_core.proofs.WholeText.{whole_text}
 
 one_state : (plant : PlantData) (one other : State) (kept : Kept) → IsStateKept plant one kept → IsStateKept plant other kept → one ≡ other
 one_state plant one other Start first second = first ∙ sym second

@@ -1,11 +1,3 @@
 pub mod LawLemmas
 pub mod OpenLemmas
 pub mod SizeLemmas
-pub mod TextParts
-pub mod TextPlaces
-pub mod TextRules
-pub mod DestRules
-pub mod GroupRules
-pub mod PanelRules
-pub mod DisplayRules
-pub mod WholeText

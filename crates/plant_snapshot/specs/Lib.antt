@@ -7,6 +7,5 @@ pub mod Damage
 pub mod Store
 pub mod Answers
 pub mod Laws
-pub mod TextLaws
 pub mod SizeInside
 pub mod SavedInside

@@ -10,7 +10,6 @@ mod open;
 mod saved;
 mod size;
 mod store;
-mod text_laws;
 
 pub use fault::{OpenFault, SaveFault};
 pub use format::format_store;
@@ -18,4 +17,3 @@ pub use laws::stores_stand_for_one_state;
 pub use open::open_saved;
 pub use size::store_size;
 pub use store::Store;
-pub use text_laws::texts_are_whole;

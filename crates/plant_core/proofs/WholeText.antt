@@ -9,14 +9,14 @@ use Rattle.plant_core.specs.StateFields.{four_at}
 use Rattle.plant_core.specs.StateFault.{first_broken, count_fields, dest_fields, group_fields, panel_fields, display_fields, first_fault}
 use Rattle.plant_core.specs.ReadInside.{part}
 use Rattle.plant_core.proofs.FaultLemmas.{in_displays}
-use Rattle.plant_snapshot.specs.TextLaws.{TextsAreWhole}
-use Rattle.plant_snapshot.proofs.TextParts.{part_within, four_is}
-use Rattle.plant_snapshot.proofs.TextPlaces.{StandIn, stand_in}
-use Rattle.plant_snapshot.proofs.TextRules.{holds_before, none_in_all}
-use Rattle.plant_snapshot.proofs.DestRules.{dest_whole}
-use Rattle.plant_snapshot.proofs.GroupRules.{group_whole}
-use Rattle.plant_snapshot.proofs.PanelRules.{panel_whole}
-use Rattle.plant_snapshot.proofs.DisplayRules.{display_whole}
+use Rattle.plant_core.specs.TextLaws.{TextsAreWhole}
+use Rattle.plant_core.proofs.TextParts.{part_within, four_is}
+use Rattle.plant_core.proofs.TextPlaces.{StandIn, stand_in}
+use Rattle.plant_core.proofs.TextRules.{holds_before, none_in_all}
+use Rattle.plant_core.proofs.DestRules.{dest_whole}
+use Rattle.plant_core.proofs.GroupRules.{group_whole}
+use Rattle.plant_core.proofs.PanelRules.{panel_whole}
+use Rattle.plant_core.proofs.DisplayRules.{display_whole}
 
 -- the four counts
 count_holds : (bytes text : List ℕ) (place number : ℕ) → number < 2 ^ 32 → part bytes 0 16 ≡ text → place + 4 ≤ 16 → part text place 4 ≡ four number → (four_at bytes place == number) ≡ true

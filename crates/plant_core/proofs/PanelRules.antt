@@ -13,9 +13,9 @@ use Rattle.plant_core.specs.Short.{StaysShort}
 use Rattle.plant_core.specs.StateText.{bit, notices_of, panel_text}
 use Rattle.plant_core.specs.StateFields.{byte_at, place_of_panel, place_of_notices}
 use Rattle.plant_core.specs.StateFault.{first_broken, fields_of_each, has_short_number, most_notices, notices_fields, panel_fields}
-use Rattle.plant_snapshot.proofs.TextParts.{byte_within}
-use Rattle.plant_snapshot.proofs.TextPlaces.{StandIn}
-use Rattle.plant_snapshot.proofs.TextRules.{dest_short, holds_before, none_in_all}
+use Rattle.plant_core.proofs.TextParts.{byte_within}
+use Rattle.plant_core.proofs.TextPlaces.{StandIn}
+use Rattle.plant_core.proofs.TextRules.{dest_short, holds_before, none_in_all}
 
 pub few_of_bit : (is : Bool) → bit is ≤ 1
 few_of_bit true = omega arith

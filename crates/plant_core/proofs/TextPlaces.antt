@@ -13,7 +13,7 @@ use Rattle.plant_core.specs.ReadInside.{part}
 use Rattle.plant_core.proofs.PartLemmas.{part_all}
 use Rattle.plant_core.proofs.StateTextLemmas.{room_for_one}
 use Rattle.plant_core.proofs.TextLengths.{texts_long, dest_long, group_long, panel_long, display_long}
-use Rattle.plant_snapshot.proofs.TextParts.{part_front, part_back, text_of_number}
+use Rattle.plant_core.proofs.TextParts.{part_front, part_back, text_of_number}
 
 -- parts of five lists, one behind the other
 in_first : (a b c d e : List ℕ) (count : ℕ) → length a ≡ count → part (a ++ b ++ c ++ d ++ e) 0 count ≡ a

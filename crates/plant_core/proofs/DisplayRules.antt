@@ -14,11 +14,11 @@ use Rattle.plant_core.specs.StateText.{bit, four_or_none, display_text}
 use Rattle.plant_core.specs.StateFields.{byte_at, four_at, some_four_at, place_of_display}
 use Rattle.plant_core.specs.StateFault.{first_broken, is_of_level, was_shown, shown_source_in, watch_at, shown_source_holds, most_lamp, display_fields}
 use Rattle.plant_core.specs.ReadInside.{part}
-use Rattle.plant_snapshot.proofs.TextParts.{part_within, byte_within, four_is, some_four_is}
-use Rattle.plant_snapshot.proofs.TextPlaces.{StandIn}
-use Rattle.plant_snapshot.proofs.TextRules.{crosspoint_level, holds_before}
-use Rattle.plant_snapshot.proofs.DestRules.{source_small}
-use Rattle.plant_snapshot.proofs.PanelRules.{few_of_bit}
+use Rattle.plant_core.proofs.TextParts.{part_within, byte_within, four_is, some_four_is}
+use Rattle.plant_core.proofs.TextPlaces.{StandIn}
+use Rattle.plant_core.proofs.TextRules.{crosspoint_level, holds_before}
+use Rattle.plant_core.proofs.DestRules.{source_small}
+use Rattle.plant_core.proofs.PanelRules.{few_of_bit}
 
 -- the source within a display's text, and its lamps
 source_part : (source : Option ℕ) (air preview : ℕ) → part (1 ∷ four_or_none source ++ air ∷ preview ∷ []) 1 4 ≡ four_or_none source

@@ -22,9 +22,9 @@ use Rattle.plant_core.specs.StateFault.{first_broken, is_of_level, has_short_num
 use Rattle.plant_core.specs.ReadInside.{part}
 use Rattle.plant_core.proofs.Changes.{source_same}
 use Rattle.plant_core.proofs.TextFields.{IsSmall, source_told, tie_told}
-use Rattle.plant_snapshot.proofs.TextParts.{part_within, some_four_is, some_two_is}
-use Rattle.plant_snapshot.proofs.TextPlaces.{StandIn}
-use Rattle.plant_snapshot.proofs.TextRules.{crosspoint_level, dest_short, all_pass, holds_before}
+use Rattle.plant_core.proofs.TextParts.{part_within, some_four_is, some_two_is}
+use Rattle.plant_core.proofs.TextPlaces.{StandIn}
+use Rattle.plant_core.proofs.TextRules.{crosspoint_level, dest_short, all_pass, holds_before}
 
 -- the three parts of a destination's text
 told_text : (spot : Option Spot) (owner : List ℕ) → spot_text spot ++ owner ≡ four_or_none (source_told spot) ++ four_or_none (tie_told spot) ++ owner

@@ -17,10 +17,10 @@ use Rattle.plant_core.specs.StateFields.{four_at, place_of_group, place_of_entry
 use Rattle.plant_core.specs.StateFault.{first_broken, fields_of_each, is_of_level, has_short_number, has_short_source_number, count_in, entry_dest_in, entry_source_in, is_before, entry_dest_holds, entry_source_holds, entry_fields, group_fields}
 use Rattle.plant_core.specs.ReadInside.{part}
 use Rattle.plant_core.proofs.TextLengths.{entry_long}
-use Rattle.plant_snapshot.proofs.TextParts.{part_within, part_back, text_of_number, four_is, two_is, some_four_is}
-use Rattle.plant_snapshot.proofs.TextPlaces.{StandIn}
-use Rattle.plant_snapshot.proofs.TextRules.{crosspoint_level, dest_short, source_short, none_pass, holds_then, holds_else, holds_before, none_in_all}
-use Rattle.plant_snapshot.proofs.DestRules.{source_small}
+use Rattle.plant_core.proofs.TextParts.{part_within, part_back, text_of_number, four_is, two_is, some_four_is}
+use Rattle.plant_core.proofs.TextPlaces.{StandIn}
+use Rattle.plant_core.proofs.TextRules.{crosspoint_level, dest_short, source_short, none_pass, holds_then, holds_else, holds_before, none_in_all}
+use Rattle.plant_core.proofs.DestRules.{source_small}
 
 -- the parts of a group's text, and of a change's
 count_part : (count : ℕ) (entries : List ℕ) → part (two count ++ entries) 0 2 ≡ two count
