@@ -12,7 +12,7 @@ use Rattle.command_rows.specs.Moment.{Moment}
 use Rattle.command_rows.specs.End.{End}
 use Rattle.command_rows.specs.ShownLaws.{ShownPlantsArePlants}
 use Rattle.command_rows.specs.RowLaws.{WasWorked}
-use Rattle.command_rows.specs.Sound.{IsSound}
+use Rattle.command_rows.specs.Sound.{IsSound, IsSilent}
 use Rattle.command_rows.proofs.RowLawsLemmas.{have_cause}
 use Rattle.command_rows.proofs.SoundLemmas.{worked_cause}
 use Rattle.command_rows.proofs.AloneLemmas.{IsAloneEnd, memory_end, alone_sound, alone_with}
@@ -34,6 +34,9 @@ own_end plant its end (inr (verdict, is, has)) = subst (IsAloneEnd (0 ∷ 1 ∷ 
 
 pub sound : IsSound parts last AuditRow (0 ∷ 1 ∷ 5 ∷ 6 ∷ [])
 sound = alone_sound parts last (λ given. AuditEnds given.0 given.1) (0 ∷ 1 ∷ 5 ∷ 6 ∷ []) (λ given end ends. own_end given.0 given.1 end ends)
+
+pub silent : IsSilent parts last AuditRow
+silent given before now end status ends = (own_end given.0 given.1 end ends.0).memory
 
 -- The verdict of a row that was worked, with this status.
 pub record HasVerdict (said : AllSaid parts last) (before now : Moment) (status : ℕ) : Type 0 where

@@ -4,7 +4,7 @@ use Rattle.plant_config.specs.Plant.{PlantData}
 use Rattle.ctl_io.specs.Sink.{appended}
 use Rattle.command_words.specs.Parts.{NoMore, AllSaid}
 use Rattle.command_rows.specs.End.{End, done}
-use Rattle.command_rows.specs.Sound.{IsSound}
+use Rattle.command_rows.specs.Sound.{IsSound, IsSilent}
 use Rattle.command_rows.proofs.SoundLemmas.{worked_cause}
 use Rattle.command_rows.proofs.AloneLemmas.{IsAloneEnd, memory_end, done_end, alone_sound, alone_with}
 use Rattle.command_check.specs.Check.{parts, check_text, CheckEnds, CheckRow}
@@ -16,6 +16,9 @@ own_end plant end (inr is) = done_end [] (check_text plant) end is
 
 pub sound : IsSound parts NoMore CheckRow (0 ∷ 1 ∷ [])
 sound = alone_sound parts NoMore (λ given. CheckEnds given.0) (0 ∷ 1 ∷ []) (λ given end ends. own_end given.0 end ends)
+
+pub silent : IsSilent parts NoMore CheckRow
+silent given before now end status ends = (own_end given.0 end ends.0).memory
 
 pub zero : ZeroHasChecked
 zero said before now runs =

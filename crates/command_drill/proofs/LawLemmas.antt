@@ -5,7 +5,7 @@ use Rattle.command_words.specs.Parts.{NoMore, AllSaid}
 use Rattle.command_rows.specs.Moment.{Snapshot, Moment}
 use Rattle.command_rows.specs.End.{End, Stopped}
 use Rattle.command_rows.specs.Opener.{AllGiven, AllLead}
-use Rattle.command_rows.specs.Sound.{IsSound}
+use Rattle.command_rows.specs.Sound.{IsSound, IsSilent}
 use Rattle.command_rows.proofs.RowLawsLemmas.{written_or}
 use Rattle.command_rows.proofs.SoundLemmas.{worked_cause}
 use Rattle.command_rows.proofs.AloneLemmas.{IsAloneEnd, memory_end, done_end, alone_sound}
@@ -19,6 +19,9 @@ own_end drill end (inr (is, trace)) = done_end [] (drill_text drill) end is
 
 pub sound : IsSound parts NoMore DrillRow (0 ∷ 1 ∷ [])
 sound = alone_sound parts NoMore (λ given. DrillEnds (drill_of given.0 given.1.0 given.1.1.0)) (0 ∷ 1 ∷ []) (λ given end ends. own_end (drill_of given.0 given.1.0 given.1.1.0) end ends)
+
+pub silent : IsSilent parts NoMore DrillRow
+silent given before now end status ends = (own_end (drill_of given.0 given.1.0 given.1.1.0) end ends.0).memory
 
 -- numbers stop no run, and are given as they were said
 never_stops : {A : Type 0} (said : AllSaid parts NoMore) (before now : Snapshot) (stopped : Stopped) → AllLead parts NoMore said before now (Err stopped) → A

@@ -4,7 +4,7 @@ use Rattle.ctl_io.specs.Sink.{appended}
 use Rattle.record_replay.specs.Monitor.{monitor_text}
 use Rattle.command_words.specs.Parts.{NoMore, AllSaid}
 use Rattle.command_rows.specs.End.{End, done}
-use Rattle.command_rows.specs.Sound.{IsSound}
+use Rattle.command_rows.specs.Sound.{IsSound, IsSilent}
 use Rattle.command_rows.proofs.SoundLemmas.{worked_cause}
 use Rattle.command_rows.proofs.AloneLemmas.{IsAloneEnd, memory_end, done_end, alone_sound, alone_with}
 use Rattle.command_monitor.specs.Monitor.{parts, MonitorEnds, MonitorRow}
@@ -16,6 +16,9 @@ own_end stream end (inr is) = done_end [] (monitor_text stream) end is
 
 pub sound : IsSound parts NoMore MonitorRow (0 ∷ 1 ∷ [])
 sound = alone_sound parts NoMore (λ given. MonitorEnds given.0) (0 ∷ 1 ∷ []) (λ given end ends. own_end given.0 end ends)
+
+pub silent : IsSilent parts NoMore MonitorRow
+silent given before now end status ends = (own_end given.0 end ends.0).memory
 
 pub zero : ZeroHasTold
 zero said before now runs =

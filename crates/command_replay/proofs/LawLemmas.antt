@@ -14,7 +14,7 @@ use Rattle.command_rows.specs.Lines.{line_refused}
 use Rattle.command_rows.specs.Moment.{Moment}
 use Rattle.command_rows.specs.End.{End, done, ended}
 use Rattle.command_rows.specs.RowLaws.{WasKept}
-use Rattle.command_rows.specs.Sound.{IsSound}
+use Rattle.command_rows.specs.Sound.{IsSound, IsSilent}
 use Rattle.command_rows.proofs.RowLawsLemmas.{have_cause, written_or}
 use Rattle.command_rows.proofs.AlwaysLemmas.{worked}
 use Rattle.command_rows.proofs.SoundLemmas.{worked_cause}
@@ -29,6 +29,9 @@ own_end plant script end (inr (inr (number, is, bad))) = refused_end [] (line_re
 
 pub sound : IsSound parts NoMore ReplayRow (0 ∷ 1 ∷ 5 ∷ [])
 sound = alone_sound parts NoMore (λ given. ReplayEnds given.0 given.1.0) (0 ∷ 1 ∷ 5 ∷ []) (λ given end ends. own_end given.0 given.1.0 end ends)
+
+pub silent : IsSilent parts NoMore ReplayRow
+silent given before now end status ends = (own_end given.0 given.1.0 end ends.0).memory
 
 pub zero : ZeroHasReplayed
 zero said before now runs =

@@ -1,10 +1,9 @@
 -- What the laws say of rows that leave the files alone.
-use Rattle.std.proofs.Common.{◌≡◌, ◌⊎◌, inl, inr, ℕ, ◌<◌, Bool, true, false, List, [], ◌∷◌, Result, Ok, refl, sym, ◌∙◌, ap, subst, arith}
+use Rattle.std.proofs.Common.{◌≡◌, ◌⊎◌, inl, inr, ℕ, ◌<◌, Bool, true, false, List, [], ◌∷◌, Ok, refl, sym, ◌∙◌, ap, subst, arith}
 use Rattle.std.proofs.lemmas.Bool.{false≢true}
-use Rattle.std.specs.Prelude.{Contains}
 use Rattle.ctl_io.specs.Faults.{count_after}
 use Rattle.command_words.specs.Parts.{Part, Last, AllSaid}
-use Rattle.command_rows.specs.Moment.{Snapshot, Output, Moment, FilesStay}
+use Rattle.command_rows.specs.Moment.{Snapshot, Output, Moment}
 use Rattle.command_rows.specs.End.{End, done, ended, out_of_memory, unwritten_status, IsWritten}
 use Rattle.command_rows.specs.Opener.{AllGiven}
 use Rattle.command_rows.specs.Row.{Alone, RowRuns}
@@ -40,11 +39,12 @@ module _ (parts : List Part) (last : Last) (Ends : AllGiven parts last → End �
   alone_sound statuses so = record {
     own = λ given before now end status ends.
         let its = so given end ends.0 in
-        record { known = its.known; few = its.few; memory = its.memory; fault = λ is. absurd (false≢true (sym its.no_fault ∙ is)) };
+        record { known = its.known; few = its.few; memory = λ one. record { front = []; tells = its.memory one }; fault = λ is. absurd (false≢true (sym its.no_fault ∙ is)) };
     leaves = λ given before now end status ends.
         let its = so given end ends.0 in
         record {
-          sources = ap (λ (s : Snapshot). s.custody.sources) ends.1;
+          sources = ap (λ (s : Snapshot). s.custody.sources.out) ends.1;
+          disks = ap (λ (s : Snapshot). s.custody.disks.out) ends.1;
           sinks = ap (λ (s : Snapshot). s.custody.sinks.out) ends.1;
           unmade = λ none. ap (λ (s : Snapshot). s.custody.sinks) ends.1;
           others = λ name other opening. ap (λ (s : Snapshot). s.held name opening) ends.1;

@@ -8,7 +8,7 @@ use Rattle.plant_file.specs.declared.fault.PlantFault.{PlantFault}
 use Rattle.plant_config.specs.Plant.{PlantData}
 use Rattle.plant_config.specs.Bench.{bench}
 use Rattle.plant_config.specs.PlantOfText.{plant_of_text}
-use Rattle.command_words.specs.Parts.{Part, Plant, Whole, Made, Store, Number, Last, Said, AllSaid}
+use Rattle.command_words.specs.Parts.{Part, Plant, Whole, Made, Store, Later, Number, Last, Said, AllSaid}
 use Rattle.command_rows.specs.Moment.{Snapshot, Moment}
 use Rattle.command_rows.specs.End.{End, Stopped, NoMemory, FileMissing, FileFault, PlantRefused, PlantTooLong, TooLong, stopped_end, IsWritten, ComesTo}
 use Rattle.command_rows.specs.ReadsFile.{stop_reading}
@@ -93,6 +93,7 @@ part_unheld Plant said name before now leads shows = plant_unheld (is_bench said
 part_unheld (Whole kind) said name before now leads shows = whole_unheld kind.word kind.longest said (before.held said 0) name shows leads.finds
 part_unheld Made said name before now leads shows = leads
 part_unheld Store said name before now leads shows = leads
+part_unheld (Later kind) said name before now leads shows = leads
 part_unheld (Number low most) said name before now leads shows = leads
 
 -- so opening isn't stopped there for want of memory

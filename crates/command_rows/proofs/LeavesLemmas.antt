@@ -1,20 +1,18 @@
 -- What opening, and a run behind it, leave of the files.
-use Rattle.std.proofs.Common.{◌≡◌, ◌≢◌, ◌⊎◌, inl, inr, ℕ, ◌+◌, ◌-◌, Bool, true, false, List, [], ◌∷◌, ◌++◌, Result, Ok, Err, refl, sym, ◌∙◌, ap, subst, arith}
+use Rattle.std.proofs.Common.{◌≡◌, inl, inr, ℕ, ◌+◌, ◌-◌, Bool, true, false, List, [], ◌∷◌, Ok, refl, sym, ◌∙◌, ap, subst, arith}
 use Rattle.std.specs.Prelude.{Contains}
 use Rattle.std.proofs.lemmas.List.Elements.{Contains-append_left, Contains-append_right, Contains-push}
 use Rattle.ctl_io.specs.Custody.{Custody, SourceEnd}
-use Rattle.ctl_io.specs.Faults.{count_after, one_more}
 use Rattle.ctl_io.specs.Held.{Held, Stays}
 use Rattle.ctl_io.specs.WholeFile.{FileReading, Well, Missing, Failed, CameBack, GivenBack}
-use Rattle.command_words.specs.Parts.{Part, Plant, Whole, Made, Store, Number, Last, AllSaid}
+use Rattle.command_words.specs.Parts.{Part, Plant, Whole, Made, Store, Later, Number, Last, AllSaid}
 use Rattle.command_rows.specs.Moment.{Snapshot}
-use Rattle.command_rows.specs.End.{End, Stopped}
-use Rattle.command_rows.specs.ReadsFile.{ReadsFile, reading_for}
-use Rattle.command_rows.specs.Opener.{AllGiven, Leads, AllLead}
-use Rattle.command_rows.specs.OpenerLaws.{form_files, ReadsFiles, ReadsFront}
+use Rattle.command_rows.specs.ReadsFile.{reading_for}
+use Rattle.command_rows.specs.Opener.{AllGiven, AllLead}
+use Rattle.command_rows.specs.OpenerLaws.{ReadsFiles}
 use Rattle.command_rows.specs.ShownLaws.{OpeningGivesBack, OpeningLeavesOthers}
-use Rattle.command_rows.specs.RowLaws.{made_files}
-use Rattle.command_rows.specs.Sound.{given_made}
+use Rattle.command_rows.specs.RowLaws.{made_files, own_files}
+use Rattle.command_rows.specs.Sound.{given_made, given_own}
 use Rattle.command_rows.proofs.OpenerLemmas.{reads_front}
 
 -- one source was handed out and came back
@@ -74,4 +72,22 @@ made_as_said (Made ∷ parts) last said given before now lead =
 made_as_said (Plant ∷ parts) last said given before now lead = made_as_said parts last said.1 given.1 lead.between now lead.others
 made_as_said (Whole kind ∷ parts) last said given before now lead = made_as_said parts last said.1 given.1 lead.between now lead.others
 made_as_said (Store ∷ parts) last said given before now lead = made_as_said parts last said.1 given.1 lead.between now lead.others
+made_as_said (Later kind ∷ parts) last said given before now lead = made_as_said parts last said.1 given.1 lead.between now lead.others
 made_as_said (Number low most ∷ parts) last said given before now lead = made_as_said parts last said.1 given.1 lead.between now lead.others
+
+-- and so are those of all files that a row asks for itself
+pub own_as_said : (parts : List Part) (last : Last) (said : AllSaid parts last) (given : AllGiven parts last) (before now : Snapshot) → AllLead parts last said before now (Ok given)
+    → given_own parts last given ≡ own_files parts last said
+own_as_said [] last said given before now lead = refl
+own_as_said (Made ∷ parts) last said given before now lead =
+    let later = own_as_said parts last said.1 given.1 lead.between now lead.others in
+    λ i. lead.leads.0 i ∷ later i
+own_as_said (Store ∷ parts) last said given before now lead =
+    let later = own_as_said parts last said.1 given.1 lead.between now lead.others in
+    λ i. lead.leads.0 i ∷ later i
+own_as_said (Later kind ∷ parts) last said given before now lead =
+    let later = own_as_said parts last said.1 given.1 lead.between now lead.others in
+    λ i. lead.leads.0 i ∷ later i
+own_as_said (Plant ∷ parts) last said given before now lead = own_as_said parts last said.1 given.1 lead.between now lead.others
+own_as_said (Whole kind ∷ parts) last said given before now lead = own_as_said parts last said.1 given.1 lead.between now lead.others
+own_as_said (Number low most ∷ parts) last said given before now lead = own_as_said parts last said.1 given.1 lead.between now lead.others

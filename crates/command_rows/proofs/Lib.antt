@@ -10,3 +10,4 @@ pub mod AlwaysLemmas
 pub mod SoundLemmas
 pub mod AloneLemmas
 pub mod ShownPlantLemmas
+pub mod DiskLemmas

@@ -1,17 +1,17 @@
 -- What opening leaves of the files.
-use Rattle.std.proofs.Common.{◌≡◌, ◌⊎◌, inl, inr, ℕ, ◌-◌, Bool, true, false, List, [], ◌∷◌, ◌++◌, length, Result, Ok, Err, refl, sym, ◌∙◌, ap, subst, append_assoc, append-nil}
+use Rattle.std.proofs.Common.{◌≡◌, inl, inr, ℕ, ◌-◌, Bool, true, false, List, [], ◌∷◌, ◌++◌, length, Result, Ok, Err, refl, sym, ◌∙◌, ap, subst}
 use Rattle.std.specs.Prelude.{MatchBool, if◌then◌else◌}
 use Rattle.ctl_io.specs.Faults.{count_after}
 use Rattle.ctl_io.specs.Held.{Held}
 use Rattle.ctl_io.specs.WholeFile.{FileReading, Well, reading_failed}
 use Rattle.plant_config.specs.Plant.{PlantData}
-use Rattle.command_words.specs.Parts.{Part, Plant, Whole, Made, Store, Number, Last, NoMore, Wholes, Prefix, Said, SaidLast, AllSaid}
+use Rattle.command_words.specs.Parts.{Part, Plant, Whole, Made, Store, Later, Number, Last, NoMore, Wholes, Prefix, Said, SaidLast}
 use Rattle.command_rows.specs.Moment.{Snapshot}
 use Rattle.command_rows.specs.End.{Stopped, NoMemory, FileMissing, FileFault, PlantRefused, PlantTooLong, TooLong}
 use Rattle.command_rows.specs.ReadsFile.{ReadsFile, stop_reading, reading_for}
 use Rattle.command_rows.specs.OpensPlant.{FindsPlant, OpensFile, IsBench, is_bench}
-use Rattle.command_rows.specs.Opener.{Given, GivenLast, FindsWhole, ReadsAll, Leads, LastLeads, AllLead}
-use Rattle.command_rows.specs.OpenerLaws.{part_files, last_files, form_files, ReadsFiles, ReadsFront, OpeningReadsFront, OpeningCounts, OpeningMakesNone, CausedBy, StopsThere, HasCause, OpeningHasCause}
+use Rattle.command_rows.specs.Opener.{Given, GivenLast, FindsWhole, ReadsAll, Leads, LastLeads}
+use Rattle.command_rows.specs.OpenerLaws.{part_files, last_files, form_files, ReadsFiles, ReadsFront, OpeningReadsFront, OpeningCounts, OpeningMakesNone, OpeningLendsNone, CausedBy, HasCause, OpeningHasCause}
 use Rattle.command_rows.proofs.OpensLemmas.{if_held}
 
 -- none was read, or one
@@ -61,6 +61,7 @@ part_well Plant said given before now leads = plant_well (is_bench said) said be
 part_well (Whole kind) said given before now leads = (now, leads.reads, refl)
 part_well Made said given before now leads = leads.1
 part_well Store said given before now leads = leads.1
+part_well (Later kind) said given before now leads = leads.1
 part_well (Number low most) said given before now leads = leads.1
 
 -- and one that stops the run reads a front of them
@@ -70,6 +71,7 @@ part_stops Plant said later stopped before now leads = plant_front (is_bench sai
 part_stops (Whole kind) said later stopped before now leads = one_read (stop_reading stopped) said later before now leads.reads
 part_stops Made said later stopped before now leads = absurd leads
 part_stops Store said later stopped before now leads = absurd leads
+part_stops (Later kind) said later stopped before now leads = absurd leads
 part_stops (Number low most) said later stopped before now leads = absurd leads
 
 -- files that are read one after the other
@@ -112,6 +114,11 @@ files_sinks reading [] before now (well, same) = ap (λ (s : Snapshot). s.custod
 files_sinks reading (name ∷ later) before now (inl (none, read)) = read.given_back.sinks
 files_sinks reading (name ∷ later) before now (inr (between, read, reads)) = files_sinks reading later between now reads ∙ read.given_back.sinks
 
+files_disks : (reading : FileReading) (names : List (List ℕ)) (before now : Snapshot) → ReadsFiles reading names before now → now.custody.disks ≡ before.custody.disks
+files_disks reading [] before now (well, same) = ap (λ (s : Snapshot). s.custody.disks) same
+files_disks reading (name ∷ later) before now (inl (none, read)) = read.given_back.disks
+files_disks reading (name ∷ later) before now (inr (between, read, reads)) = files_disks reading later between now reads ∙ read.given_back.disks
+
 pub counts : OpeningCounts
 counts parts last said before now opened lead =
     let front = reads_front parts last said before now opened lead in
@@ -121,6 +128,11 @@ pub makes_none : OpeningMakesNone
 makes_none parts last said before now opened lead =
     let front = reads_front parts last said before now opened lead in
     files_sinks (reading_for opened) front.opened before now front.reads
+
+pub lends_none : OpeningLendsNone
+lends_none parts last said before now opened lead =
+    let front = reads_front parts last said before now opened lead in
+    files_disks (reading_for opened) front.opened before now front.reads
 
 -- the cause of a stop at a plant's file, and at a file that is read whole
 plant_cause : (stopped : Stopped) (name : List ℕ) (held : Held) → FindsPlant name held (Err stopped) → CausedBy stopped name held
@@ -186,6 +198,7 @@ part_cause (Whole kind) said later stopped before now leads =
     first_cause stopped said later before now (whole_cause stopped kind.word kind.longest said (before.held said 0) leads.finds) leads.reads
 part_cause Made said later stopped before now leads = absurd leads
 part_cause Store said later stopped before now leads = absurd leads
+part_cause (Later kind) said later stopped before now leads = absurd leads
 part_cause (Number low most) said later stopped before now leads = absurd leads
 
 all_cause : (word : List ℕ) (most : ℕ) (names : List (List ℕ)) (before now : Snapshot) (stopped : Stopped) → ReadsAll word most names before now (Err stopped) → HasCause stopped names before now

@@ -2,7 +2,7 @@
 use Rattle.std.proofs.Common.{◌≡◌, ◌≢◌, ◌⊎◌, inl, inr, ℕ, ◌-◌, Bool, true, false, List, [], ◌∷◌, length, Err, refl, sym, ◌∙◌, arith}
 use Rattle.std.specs.Prelude.{MatchBool}
 use Rattle.ctl_io.specs.Held.{Held}
-use Rattle.command_words.specs.Parts.{Part, Plant, Whole, Made, Store, Number, Last, NoMore, Wholes, Prefix, AllSaid, SaidLast}
+use Rattle.command_words.specs.Parts.{Part, Plant, Whole, Made, Store, Later, Number, Last, NoMore, Wholes, Prefix, AllSaid, SaidLast}
 use Rattle.command_rows.specs.Moment.{Snapshot, Moment}
 use Rattle.command_rows.specs.End.{End, Stopped, NoMemory, FileMissing, FileFault, PlantRefused, PlantTooLong, TooLong, stopped_end, IsWritten, ComesTo}
 use Rattle.command_rows.specs.OpensPlant.{IsBench, OpensFile, is_bench}
@@ -125,6 +125,7 @@ at_plant (Plant ∷ parts) last said stopped before now refuses (inl lead) =
 at_plant (Whole kind ∷ parts) last said stopped before now refuses (inl lead) = not_whole kind.word kind.longest said.0 (before.held said.0 0) stopped refuses lead.finds
 at_plant (Made ∷ parts) last said stopped before now refuses (inl lead) = absurd lead
 at_plant (Store ∷ parts) last said stopped before now refuses (inl lead) = absurd lead
+at_plant (Later kind ∷ parts) last said stopped before now refuses (inl lead) = absurd lead
 at_plant (Number low most ∷ parts) last said stopped before now refuses (inl lead) = absurd lead
 at_plant (Plant ∷ parts) last said stopped before now refuses (inr (one, goes)) =
     let so = at_plant parts last said.1 stopped goes.between now refuses goes.others in
@@ -136,6 +137,9 @@ at_plant (Made ∷ parts) last said stopped before now refuses (inr (one, goes))
     let so = at_plant parts last said.1 stopped goes.between now refuses goes.others in
     record { name = so.name; at = (one, record { between = goes.between; leads = goes.leads; others = so.at }) }
 at_plant (Store ∷ parts) last said stopped before now refuses (inr (one, goes)) =
+    let so = at_plant parts last said.1 stopped goes.between now refuses goes.others in
+    record { name = so.name; at = (one, record { between = goes.between; leads = goes.leads; others = so.at }) }
+at_plant (Later kind ∷ parts) last said stopped before now refuses (inr (one, goes)) =
     let so = at_plant parts last said.1 stopped goes.between now refuses goes.others in
     record { name = so.name; at = (one, record { between = goes.between; leads = goes.leads; others = so.at }) }
 at_plant (Number low most ∷ parts) last said stopped before now refuses (inr (one, goes)) =

@@ -1,5 +1,5 @@
 -- How rows end that ask nothing of the files.
-use Rattle.std.proofs.Common.{◌≡◌, ◌≢◌, ℕ, inl, inr, Bool, true, false, List, Option, Ok, refl, sym, ◌∙◌, ap, subst, arith}
+use Rattle.std.proofs.Common.{◌≡◌, ℕ, inl, inr, List, Option, Ok, refl, ◌∙◌, ap, subst, arith}
 use Rattle.ctl_io.specs.Faults.{Rose, one_more}
 use Rattle.ctl_io.specs.Sink.{appended, AppendsPart}
 use Rattle.ctl_io.proofs.SinkLemmas.{appended-appended}

@@ -1,5 +1,5 @@
 -- How opening follows what the files show.
-use Rattle.std.proofs.Common.{◌≡◌, ◌⊎◌, inl, inr, ℕ, ◌+◌, ◌-◌, ◌<◌, ◌≤◌, Bool, true, false, List, [], ◌∷◌, ◌++◌, length, Result, Ok, Err, refl, sym, ◌∙◌, ap, subst, arith}
+use Rattle.std.proofs.Common.{◌≡◌, ◌⊎◌, inl, inr, ℕ, ◌+◌, ◌-◌, Bool, true, false, List, [], ◌∷◌, ◌++◌, length, Result, Ok, Err, refl, sym, ◌∙◌, ap, subst, arith}
 use Rattle.std.specs.Prelude.{bytes_eq, MatchBool, if◌then◌else◌}
 use Rattle.std.proofs.lemmas.Slice.Eq.{bytes_eq-Decides}
 use Rattle.ctl_io.specs.Held.{Held, Unshown, NoFile, Holds, CountsOn, OtherOpeningsStay}
@@ -8,14 +8,13 @@ use Rattle.line_text.specs.Lines.{lines}
 use Rattle.plant_file.specs.declared.fault.PlantFault.{PlantFault}
 use Rattle.plant_config.specs.Plant.{PlantData}
 use Rattle.plant_config.specs.Bench.{bench}
-use Rattle.plant_config.specs.PlantOfText.{plant_of_text}
-use Rattle.command_words.specs.Parts.{Part, Plant, Whole, Made, Store, Number, Last, NoMore, Wholes, Prefix, Said, SaidLast, AllSaid}
+use Rattle.command_words.specs.Parts.{Part, Plant, Whole, Made, Store, Later, Number, Last, NoMore, Wholes, Prefix, Said, SaidLast, AllSaid}
 use Rattle.command_rows.specs.Moment.{Snapshot}
 use Rattle.command_rows.specs.End.{Stopped, NoMemory, FileMissing, FileFault, PlantRefused, PlantTooLong, TooLong}
 use Rattle.command_rows.specs.ReadsFile.{ReadsFile}
 use Rattle.command_rows.specs.OpensPlant.{FindsPlant, OpensFile, IsBench, is_bench}
-use Rattle.command_rows.specs.Opener.{Given, GivenLast, AllGiven, FindsWhole, GivesSaid, ReadsAll, Leads, LastLeads, AllLead}
-use Rattle.command_rows.specs.OpenerLaws.{part_files, ReadsFiles}
+use Rattle.command_rows.specs.Opener.{Given, GivenLast, AllGiven, FindsWhole, GivesSaid, ReadsAll, Leads, LastLeads}
+use Rattle.command_rows.specs.OpenerLaws.{part_files}
 use Rattle.command_rows.specs.Shown.{Holding, behind_one, behind_all, TextShows, FileShows, WholeShows, Shows, AllWholeShow, LastShows, AllShow}
 use Rattle.command_rows.specs.ShownLaws.{IsKept, OpeningFollowsShown, ReadingCountsOn}
 
@@ -106,6 +105,7 @@ part_follows Plant said before now opened shown leads shows = plant_follows (is_
 part_follows (Whole kind) said before now opened shown leads shows = whole_follows kind.word kind.longest said (before.held said 0) opened shown leads.finds shows
 part_follows Made said before now opened shown leads shows = said_follows said before now opened shown leads shows
 part_follows Store said before now opened shown leads shows = said_follows said before now opened shown leads shows
+part_follows (Later kind) said before now opened shown leads shows = said_follows said before now opened shown leads shows
 part_follows (Number low most) said before now opened shown leads shows = said_follows said before now opened shown leads shows
 
 pub part_behind : (part : Part) (said : Said part) (given : Given part) (before now : Snapshot) → Leads part said before now (Ok given) → now.held ≡ behind_all (part_files part said) before.held
@@ -113,6 +113,7 @@ part_behind Plant said given before now leads = plant_behind (is_bench said) sai
 part_behind (Whole kind) said given before now leads = read_behind said before now leads.reads
 part_behind Made said given before now leads = ap (λ (s : Snapshot). s.held) leads.1
 part_behind Store said given before now leads = ap (λ (s : Snapshot). s.held) leads.1
+part_behind (Later kind) said given before now leads = ap (λ (s : Snapshot). s.held) leads.1
 part_behind (Number low most) said given before now leads = ap (λ (s : Snapshot). s.held) leads.1
 
 -- what is shown where a file was read well, once it was

@@ -1,8 +1,8 @@
 -- What the statuses of a row tell whose promise is sound, and what it leaves of the files.
-use Rattle.std.proofs.Common.{◌≡◌, ◌≢◌, ◌⊎◌, inl, inr, ℕ, Bool, true, false, List, Ok, Err, refl, sym, ◌∙◌, ap, subst, arith}
+use Rattle.std.proofs.Common.{◌≡◌, ◌≢◌, ◌⊎◌, inl, inr, ℕ, Bool, true, false, List, [], Ok, Err, refl, sym, ◌∙◌, ap, subst, arith}
 use Rattle.std.specs.Prelude.{Contains}
 use Rattle.std.proofs.lemmas.List.Elements.{Contains-append_left, Contains-append_right}
-use Rattle.ctl_io.specs.Custody.{Custody, SourceEnd, SinkEnd}
+use Rattle.ctl_io.specs.Custody.{Custody, SinkEnd, DiskEnd}
 use Rattle.ctl_io.specs.Faults.{count_after, one_more}
 use Rattle.ctl_io.specs.Sink.{appended}
 use Rattle.ctl_io.specs.WholeFile.{reading_failed}
@@ -12,10 +12,10 @@ use Rattle.command_rows.specs.End.{End, Stopped, NoMemory, FileMissing, FileFaul
 use Rattle.command_rows.specs.ReadsFile.{stop_reading}
 use Rattle.command_rows.specs.Row.{Promise, EndsOpened}
 use Rattle.command_rows.specs.OpenerLaws.{form_files, HasCause}
-use Rattle.command_rows.specs.Sound.{IsOneOf, IsSoundEnd, IsSound}
-use Rattle.command_rows.specs.RowLaws.{OneHasCause, IsKnown, RowStatusesAreKnown, WorkedHasCause, SevenHasCause, made_files, RowsLeaveAll}
-use Rattle.command_rows.proofs.OpenerLemmas.{counts, has_cause, makes_none}
-use Rattle.command_rows.proofs.LeavesLemmas.{gives_back, leaves_others, made_as_said, stays_over}
+use Rattle.command_rows.specs.Sound.{IsOneOf, IsSoundEnd, IsSound, IsSilent}
+use Rattle.command_rows.specs.RowLaws.{OneHasCause, OneIsSilent, IsKnown, RowStatusesAreKnown, WorkedHasCause, SevenHasCause, own_files, RowsLeaveAll}
+use Rattle.command_rows.proofs.OpenerLemmas.{counts, has_cause, makes_none, lends_none}
+use Rattle.command_rows.proofs.LeavesLemmas.{gives_back, leaves_others, made_as_said, own_as_said, stays_over}
 use Rattle.command_rows.proofs.RowLawsLemmas.{have_cause, not_7, one_memory, written_or}
 
 -- rows whose promises are sound
@@ -29,15 +29,19 @@ module _ (parts : List Part) (last : Last) (Ends : Promise parts last) (statuses
         let memory = one_memory stop.stopped (sym written.status_is) in
         record {
           there = inl (subst (λ (s : Stopped). HasCause s (form_files parts last said) before.files now.files) memory (has_cause parts last said before.files now.files stop.stopped stop.lead));
+          front = [];
           appends = written.appends ∙ ap (λ (s : Stopped). appended before.output.written (stopped_end s).text) memory;
         }
     | inr not ↦ absurd (let one = not.0 in omega (arith, one))
   ]
   one_cause said before now (inr done) = elim (written_or done.ends.end 1 before now done.ends.comes) [
-    | inl written ↦ record {
-      there = inr (done.given, done.opened, done.lead);
-      appends = written.appends ∙ ap (λ (e : End). appended before.output.written e.text) ((sound_end said before now 1 done).memory (sym written.status_is));
-    }
+    | inl written ↦
+        let memory = (sound_end said before now 1 done).memory (sym written.status_is) in
+        record {
+          there = inr (done.given, done.opened, done.lead);
+          front = memory.front;
+          appends = written.appends ∙ ap (λ (e : End). appended before.output.written e.text) memory.tells;
+        }
     | inr not ↦ absurd (let one = not.0 in omega (arith, one))
   ]
 
@@ -104,6 +108,19 @@ module _ (parts : List Part) (last : Last) (Ends : Promise parts last) (statuses
     | inr not ↦ not.1
   ]
 
+-- a row that says nothing else where memory ran out
+pub one_silent : (parts : List Part) (last : Last) (Ends : Promise parts last) → IsSilent parts last Ends → OneIsSilent parts last Ends
+one_silent parts last Ends silent said before now (inl stop) = elim (written_or (stopped_end stop.stopped) 1 before now stop.comes) [
+  | inl written ↦ written.appends ∙ ap (λ (s : Stopped). appended before.output.written (stopped_end s).text) (one_memory stop.stopped (sym written.status_is))
+  | inr not ↦ absurd (let one = not.0 in omega (arith, one))
+]
+one_silent parts last Ends silent said before now (inr done) = elim (written_or done.ends.end 1 before now done.ends.comes) [
+  | inl written ↦
+      written.appends ∙ ap (λ (e : End). appended before.output.written e.text)
+      (silent done.given (record before { files = done.opened }) now done.ends.end 1 done.ends.ends (sym written.status_is))
+  | inr not ↦ absurd (let one = not.0 in omega (arith, one))
+]
+
 -- what is left of the files where opening stopped the run
 stop_fault : (stopped : Stopped) → (stopped_end stopped).status ≢ 3 → reading_failed (stop_reading stopped) ≡ false
 stop_fault NoMemory other = refl
@@ -133,9 +150,10 @@ module _ (parts : List Part) (last : Last) (Ends : Promise parts last) (statuses
       record {
         sources = gives_back parts last said before.files now.files (Err stop.stopped) stop.lead;
         sinks = ap (λ (c : Custody SinkEnd). c.out) sinks;
+        disks = ap (λ (c : Custody DiskEnd). c.out) (lends_none parts last said before.files now.files (Err stop.stopped) stop.lead);
         unmade = λ none. sinks;
         others = λ name other. leaves_others parts last said before.files now.files (Err stop.stopped) name stop.lead
-            (λ one. other (Contains-append_left (form_files parts last said) (made_files parts last said) name one));
+            (λ one. other (Contains-append_left (form_files parts last said) (own_files parts last said) name one));
         stay = λ not_3 not_7. faults ∙ ap (λ (b : Bool). count_after b before.files.faults)
             (stop_fault stop.stopped (λ is. not_3 (comes_as (stopped_end stop.stopped) status before.output now.output stop.comes not_7 ∙ is)));
         rise = counted_either (reading_failed (stop_reading stop.stopped)) before.files.faults now.files.faults faults;
@@ -146,14 +164,16 @@ module _ (parts : List Part) (last : Last) (Ends : Promise parts last) (statuses
       let left = sound.leaves done.given (record before { files = done.opened }) now done.ends.end status done.ends.ends in
       let own = sound.own done.given (record before { files = done.opened }) now done.ends.end status done.ends.ends in
       let made = made_as_said parts last said done.given before.files done.opened done.lead in
+      let own_names = own_as_said parts last said done.given before.files done.opened done.lead in
       let count : now.files.faults ≡ count_after done.ends.end.is_file_fault before.files.faults = left.faults ∙ ap (count_after done.ends.end.is_file_fault) faults in
       record {
-        sources = ap (λ (c : Custody SourceEnd). c.out) left.sources ∙ gives_back parts last said before.files done.opened (Ok done.given) done.lead;
+        sources = left.sources ∙ gives_back parts last said before.files done.opened (Ok done.given) done.lead;
         sinks = left.sinks ∙ ap (λ (c : Custody SinkEnd). c.out) sinks;
+        disks = left.disks ∙ ap (λ (c : Custody DiskEnd). c.out) (lends_none parts last said before.files done.opened (Ok done.given) done.lead);
         unmade = λ none. left.unmade (made ∙ none) ∙ sinks;
         others = λ name other. stays_over (before.files.held name) (done.opened.held name) (now.files.held name)
-            (leaves_others parts last said before.files done.opened (Ok done.given) name done.lead (λ one. other (Contains-append_left (form_files parts last said) (made_files parts last said) name one)))
-            (left.others name (λ one. other (Contains-append_right (form_files parts last said) (made_files parts last said) name (subst (λ (ns : List (List ℕ)). Contains ns name) made one))));
+            (leaves_others parts last said before.files done.opened (Ok done.given) name done.lead (λ one. other (Contains-append_left (form_files parts last said) (own_files parts last said) name one)))
+            (left.others name (λ one. other (Contains-append_right (form_files parts last said) (own_files parts last said) name (subst (λ (ns : List (List ℕ)). Contains ns name) own_names one))));
         stay = λ not_3 not_7. count ∙ ap (λ (b : Bool). count_after b before.files.faults)
             (not_fault statuses done.ends.end own (λ is. not_3 (comes_as done.ends.end status before.output now.output done.ends.comes not_7 ∙ is)) done.ends.end.is_file_fault refl);
         rise = counted_either done.ends.end.is_file_fault before.files.faults now.files.faults count;

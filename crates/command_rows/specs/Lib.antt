@@ -4,6 +4,7 @@ pub mod End
 pub mod ReadsFile
 pub mod OpensPlant
 pub mod MadeFile
+pub mod LentDisk
 pub mod Kinds
 pub mod Opener
 pub mod OpenerLaws

@@ -4,7 +4,7 @@ use Rattle.ctl_io.specs.Held.{Held, IsHeld, IsLonger, MayBeHere, MayBeMissing}
 use Rattle.line_text.specs.Lines.{lines}
 use Rattle.plant_config.specs.Plant.{PlantData}
 use Rattle.command_words.specs.Words.{SaysNumber}
-use Rattle.command_words.specs.Parts.{Part, Plant, Whole, Made, Store, Number, Last, NoMore, Wholes, Prefix, Said, SaidLast, AllSaid, AllSay}
+use Rattle.command_words.specs.Parts.{Part, Plant, Whole, Made, Store, Later, Number, Last, NoMore, Wholes, Prefix, Said, SaidLast, AllSaid, AllSay}
 use Rattle.command_rows.specs.Moment.{Snapshot}
 use Rattle.command_rows.specs.End.{Stopped, NoMemory, FileMissing, FileFault, PlantRefused, PlantTooLong, TooLong}
 use Rattle.command_rows.specs.ReadsFile.{ReadsFile, reading_for}
@@ -32,6 +32,7 @@ Given Plant = PlantData
 Given (Whole kind) = List ℕ
 Given Made = List ℕ
 Given Store = List ℕ
+Given (Later kind) = List ℕ
 Given (Number low most) = ℕ
 
 -- behind the parts: the lines of all files, each of which begins with a line of its own; and a prefix as it was said
@@ -79,6 +80,7 @@ Leads Plant said before now opened = OpensPlant said before now opened
 Leads (Whole kind) said before now opened = ReadsWhole kind.word kind.longest said before now opened
 Leads Made said before now opened = GivesSaid said before now opened
 Leads Store said before now opened = GivesSaid said before now opened
+Leads (Later kind) said before now opened = GivesSaid said before now opened
 Leads (Number low most) said before now opened = GivesSaid said before now opened
 
 -- ---- behind the parts

@@ -1,21 +1,23 @@
 -- What opening leaves of the files, over all parts and whatever it leads to.
-use Rattle.std.specs.Prelude.{◌≡◌, ◌⊎◌, ℕ, List, [], ◌∷◌, ◌++◌, if◌then◌else◌, Result, Ok, Err}
+use Rattle.std.specs.Prelude.{◌≡◌, ◌⊎◌, ℕ, List, [], ◌∷◌, ◌++◌, if◌then◌else◌, Result, Err}
 use Rattle.ctl_io.specs.Faults.{count_after}
 use Rattle.ctl_io.specs.Held.{Held, IsLonger, MayBeHere, MayBeMissing}
 use Rattle.ctl_io.specs.WholeFile.{FileReading, Well, reading_failed}
-use Rattle.command_words.specs.Parts.{Part, Plant, Whole, Made, Store, Number, Last, NoMore, Wholes, Prefix, Said, SaidLast, AllSaid}
+use Rattle.command_words.specs.Parts.{Part, Plant, Whole, Made, Store, Later, Number, Last, NoMore, Wholes, Prefix, Said, SaidLast, AllSaid}
 use Rattle.command_rows.specs.Moment.{Snapshot}
 use Rattle.command_rows.specs.End.{Stopped, NoMemory, FileMissing, FileFault, PlantRefused, PlantTooLong, TooLong}
 use Rattle.command_rows.specs.ReadsFile.{ReadsFile, stop_reading, reading_for}
 use Rattle.command_rows.specs.OpensPlant.{longest_plant, HasFault, is_bench}
 use Rattle.command_rows.specs.Opener.{AllGiven, AllLead}
 
--- the names of the files that are read for a part, behind the parts, and for all of a form, in order: none for the bench plant
+-- the names of the files that opening reads for a part, behind the parts, and for all of a form, in order: none for the bench
+-- plant
 abbrev pub part_files : (part : Part) → Said part → List (List ℕ)
 part_files Plant word = if is_bench word then [] else word ∷ []
 part_files (Whole kind) name = name ∷ []
 part_files Made name = []
 part_files Store name = []
+part_files (Later kind) name = []
 part_files (Number low most) number = []
 
 abbrev pub last_files : (last : Last) → SaidLast last → List (List ℕ)
@@ -63,6 +65,12 @@ abbrev pub OpeningMakesNone : Type 0
 OpeningMakesNone = (parts : List Part) (last : Last) (said : AllSaid parts last)
     (before now : Snapshot) (opened : Result (AllGiven parts last) Stopped)
     → AllLead parts last said before now opened → now.custody.sinks ≡ before.custody.sinks
+
+-- No disk was handed out or given back.
+abbrev pub OpeningLendsNone : Type 0
+OpeningLendsNone = (parts : List Part) (last : Last) (said : AllSaid parts last)
+    (before now : Snapshot) (opened : Result (AllGiven parts last) Stopped)
+    → AllLead parts last said before now opened → now.custody.disks ≡ before.custody.disks
 
 -- What stops the run at the file of this name has its cause in what the files hold of it when its turn comes. Of a file that is too
 -- long this says only that it may be here: by how much, the opening itself says.

@@ -1,5 +1,5 @@
 -- A row: a command by what is given for its form, and by what it promises of that between two moments.
-use Rattle.std.specs.Prelude.{◌≡◌, ◌≢◌, ◌⊎◌, ℕ, false, MatchBool, List, Result, Ok, Err}
+use Rattle.std.specs.Prelude.{◌≡◌, ◌≢◌, ◌⊎◌, ℕ, false, MatchBool, List, Ok, Err}
 use Rattle.ctl_io.specs.Faults.{Rose}
 use Rattle.command_words.specs.Parts.{Part, Last, AllSaid, AllSay}
 use Rattle.command_rows.specs.Moment.{Snapshot, Output, Moment, FilesStay}

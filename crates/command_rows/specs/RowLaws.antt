@@ -1,9 +1,9 @@
 -- What the status of a run tells, whatever its row is. Each is a law over the ends of rows.
-use Rattle.std.specs.Prelude.{◌≡◌, ◌≢◌, ◌⊎◌, ℕ, ◌<◌, false, List, [], ◌∷◌, ◌++◌, Contains, Result, Ok, Err}
+use Rattle.std.specs.Prelude.{◌≡◌, ◌≢◌, ◌⊎◌, ℕ, ◌<◌, false, List, [], ◌∷◌, ◌++◌, Contains, Ok, Err}
 use Rattle.ctl_io.specs.Faults.{one_more}
 use Rattle.ctl_io.specs.Sink.{appended}
 use Rattle.ctl_io.specs.Held.{Stays}
-use Rattle.command_words.specs.Parts.{Part, Plant, Whole, Made, Store, Number, Last, AllSaid}
+use Rattle.command_words.specs.Parts.{Part, Plant, Whole, Made, Store, Later, Number, Last, AllSaid}
 use Rattle.command_rows.specs.Moment.{Snapshot, Moment}
 use Rattle.command_rows.specs.Lines.{no_memory}
 use Rattle.command_rows.specs.End.{End, Stopped, NoMemory, PlantRefused, PlantTooLong, FileMissing, stopped_end, IsWritten}
@@ -146,19 +146,26 @@ MissingFirstEndsWithThree parts last Ends =
 
 -- ---- rows whose promises are sound
 
--- Memory ran out at a file that may be here, behind others that were read well, or behind all of them; and nothing was appended but
--- the line that says so.
+-- Memory ran out at a file that may be here, behind others that were read well, or behind all of them; and the line that says so was
+-- appended, behind what the row had written until then.
 pub record RanOut (parts : List Part) (last : Last) (said : AllSaid parts last)
     (before now : Moment) : Type 0 where
   pub there : HasCause NoMemory (form_files parts last said) before.files now.files
       ⊎ ((given : AllGiven parts last) × (opened : Snapshot)
       × AllLead parts last said before.files opened (Ok given))
-  pub appends : now.output.written ≡ appended before.output.written no_memory
+  pub front : List ℕ
+  pub appends : now.output.written ≡ appended before.output.written (front ++ no_memory)
 
 -- A run that ends with 1 ran out of memory.
 abbrev pub OneHasCause : (parts : List Part) (last : Last) → Promise parts last → Type 0
 OneHasCause parts last Ends = (said : AllSaid parts last) (before now : Moment)
     → RowRuns parts last Ends said before now 1 → RanOut parts last said before now
+
+-- A run that ends with 1 appended nothing but the line that says so.
+abbrev pub OneIsSilent : (parts : List Part) (last : Last) → Promise parts last → Type 0
+OneIsSilent parts last Ends = (said : AllSaid parts last) (before now : Moment)
+    → RowRuns parts last Ends said before now 1
+    → now.output.written ≡ appended before.output.written no_memory
 
 -- A run ends with one of these statuses of its row's own, with one of those of stops, or with 7: one of eight.
 pub record IsKnown (statuses : List ℕ) (status : ℕ) : Type 0 where
@@ -192,17 +199,30 @@ made_files (Made ∷ parts) last said = said.0 ∷ made_files parts last said.1
 made_files (Plant ∷ parts) last said = made_files parts last said.1
 made_files (Whole kind ∷ parts) last said = made_files parts last said.1
 made_files (Store ∷ parts) last said = made_files parts last said.1
+made_files (Later kind ∷ parts) last said = made_files parts last said.1
 made_files (Number low most ∷ parts) last said = made_files parts last said.1
 
--- What a run left of the files: each source and each sink was given back, and none was made of a form without a file to make; what
--- is held of names that aren't the form's stays; their count of faults stayed unless the status is 3 or 7, and rose by one at most.
+-- the names of all files that a row asks for itself: those that it makes, its stores, and those that it reads later
+abbrev pub own_files : (parts : List Part) (last : Last) → AllSaid parts last → List (List ℕ)
+own_files [] last said = []
+own_files (Made ∷ parts) last said = said.0 ∷ own_files parts last said.1
+own_files (Store ∷ parts) last said = said.0 ∷ own_files parts last said.1
+own_files (Later kind ∷ parts) last said = said.0 ∷ own_files parts last said.1
+own_files (Plant ∷ parts) last said = own_files parts last said.1
+own_files (Whole kind ∷ parts) last said = own_files parts last said.1
+own_files (Number low most ∷ parts) last said = own_files parts last said.1
+
+-- What a run left of the files: each source, each sink and each disk was given back, and no sink was made of a form without a file to
+-- make; what is held of names that aren't the form's stays; their count of faults stayed unless the status is 3 or 7, and rose by one
+-- at most.
 pub record LeavesAll (parts : List Part) (last : Last) (said : AllSaid parts last)
     (before now : Snapshot) (status : ℕ) : Type 0 where
   pub sources : now.custody.sources.out ≡ before.custody.sources.out
   pub sinks : now.custody.sinks.out ≡ before.custody.sinks.out
+  pub disks : now.custody.disks.out ≡ before.custody.disks.out
   pub unmade : made_files parts last said ≡ [] → now.custody.sinks ≡ before.custody.sinks
   pub others : (name : List ℕ)
-      → (Contains (form_files parts last said ++ made_files parts last said) name → ⊥)
+      → (Contains (form_files parts last said ++ own_files parts last said) name → ⊥)
       → Stays (before.held name) (now.held name)
   pub stay : status ≢ 3 → status ≢ 7 → now.faults ≡ before.faults
   pub rise : (now.faults ≡ before.faults) ⊎ (now.faults ≡ one_more before.faults)

@@ -7,8 +7,8 @@ use Rattle.plant_file.specs.FaultText.{fault_text}
 use Rattle.plant_config.specs.Plant.{PlantData}
 use Rattle.plant_config.specs.Bench.{bench}
 use Rattle.plant_config.specs.PlantOfText.{plant_of_text}
-use Rattle.command_words.specs.Parts.{Part, Plant, Whole, Made, Store, Number, Last, NoMore, Wholes, Prefix, Said, SaidLast, AllSaid}
-use Rattle.command_rows.specs.End.{Stopped, NoMemory, FileMissing, FileFault, PlantRefused, PlantTooLong, TooLong}
+use Rattle.command_words.specs.Parts.{Part, Plant, Whole, Made, Store, Later, Number, Last, NoMore, Wholes, Prefix, Said, SaidLast, AllSaid}
+use Rattle.command_rows.specs.End.{Stopped, FileMissing, PlantRefused, PlantTooLong, TooLong}
 use Rattle.command_rows.specs.OpensPlant.{longest_plant, is_bench}
 use Rattle.command_rows.specs.Opener.{Given, GivenLast, AllGiven}
 use Rattle.command_rows.specs.OpenerLaws.{part_files}
@@ -57,6 +57,7 @@ Shows (Whole kind) name held opened =
     WholeShows kind.word kind.longest name (held name 0) opened
 Shows Made name held opened = opened ≡ Ok name
 Shows Store name held opened = opened ≡ Ok name
+Shows (Later kind) name held opened = opened ≡ Ok name
 Shows (Number low most) number held opened = opened ≡ Ok number
 
 -- The files of these names, read whole one after the other, lead to their lines, or the first of them that is missing, or with

@@ -20,7 +20,7 @@ use Rattle.command_rows.specs.MadeFile.{IsAsMade}
 use Rattle.command_rows.specs.Row.{RowRuns}
 use Rattle.command_rows.specs.Shown.{AllShow}
 use Rattle.command_rows.specs.RowLaws.{WasKept, WasWorked}
-use Rattle.command_rows.specs.Sound.{IsSoundEnd, LeavesSound, IsSound}
+use Rattle.command_rows.specs.Sound.{IsSoundEnd, LeavesSound, IsSound, IsSilent}
 use Rattle.command_rows.proofs.OpenerLemmas.{counts}
 use Rattle.command_rows.proofs.RowLawsLemmas.{have_cause, written_or}
 use Rattle.command_rows.proofs.AlwaysLemmas.{worked}
@@ -33,7 +33,7 @@ use Rattle.command_stream.specs.Laws.{ZeroHasStreamed, ThreeHasFault, FiveHasRef
 -- the statuses
 own_end : (plant : PlantData) (script made : List ℕ) (before now : Moment) (end : End) (status : ℕ) → StreamEnds plant script made before now end status → IsSoundEnd (0 ∷ 1 ∷ 3 ∷ 5 ∷ []) end
 own_end plant script made before now end status (inl (is, left)) =
-    subst (IsSoundEnd (0 ∷ 1 ∷ 3 ∷ 5 ∷ [])) (sym is) (record { known = inr (inl refl); few = omega arith; memory = λ one. refl; fault = λ so. absurd (false≢true so) })
+    subst (IsSoundEnd (0 ∷ 1 ∷ 3 ∷ 5 ∷ [])) (sym is) (record { known = inr (inl refl); few = omega arith; memory = λ one. record { front = []; tells = refl }; fault = λ so. absurd (false≢true so) })
 own_end plant script made before now end status (inr (inl (output, is, gives))) =
     subst (IsSoundEnd (0 ∷ 1 ∷ 3 ∷ 5 ∷ [])) (sym is) (record { known = inl refl; few = omega arith; memory = λ one. absurd (omega (arith, one)); fault = λ so. absurd (false≢true so) })
 own_end plant script made before now end status (inr (inr (inl (number, is, bad, gives)))) =
@@ -54,12 +54,13 @@ stays_over before between now first second opening = second opening ∙ first op
 only_made : (made name : List ℕ) → (Contains (made ∷ []) name → ⊥) → name ≢ made
 only_made made name other same = other (subst (Contains (made ∷ [])) (sym same) (Contains-push [] made))
 
-gives_sound : (made : List ℕ) (Shows : SinkEnd → Type 0) (end : End) (before now : Snapshot) (gives : GivesFile made Shows before now) → is_faulty gives.shown.faults ≡ end.is_file_fault → LeavesSound (made ∷ []) end before now
+gives_sound : (made : List ℕ) (Shows : SinkEnd → Type 0) (end : End) (before now : Snapshot) (gives : GivesFile made Shows before now) → is_faulty gives.shown.faults ≡ end.is_file_fault → LeavesSound (made ∷ []) (made ∷ []) end before now
 gives_sound made Shows end before now gives faulty =
     let lent : gives.made.custody.sinks.out ≡ before.custody.sinks.out + 1 = ap (λ (c : FilesCustody). c.sinks.out) gives.makes.custody in
     let back : now.custody.sinks.out ≡ gives.made.custody.sinks.out - 1 = ap (λ (c : FilesCustody). c.sinks.out) gives.takes.custody in
     record {
-      sources = ap (λ (c : FilesCustody). c.sources) gives.takes.custody ∙ ap (λ (c : FilesCustody). c.sources) gives.makes.custody;
+      sources = ap (λ (c : FilesCustody). c.sources.out) gives.takes.custody ∙ ap (λ (c : FilesCustody). c.sources.out) gives.makes.custody;
+      disks = ap (λ (c : FilesCustody). c.disks.out) gives.takes.custody ∙ ap (λ (c : FilesCustody). c.disks.out) gives.makes.custody;
       sinks = omega (arith, lent, back);
       unmade = λ none. absurd (cc);
       others = λ name other.
@@ -68,40 +69,42 @@ gives_sound made Shows end before now gives faulty =
       faults = gives.takes.faults ∙ ap (λ (b : Bool). count_after b gives.made.faults) faulty ∙ ap (count_after end.is_file_fault) gives.makes.faults;
     }
 
-unmade_sound : (made output : List ℕ) (before now : Snapshot) → IsUnmade made output before now → LeavesSound (made ∷ []) (behind output (file_failed made)) before now
+unmade_sound : (made output : List ℕ) (before now : Snapshot) → IsUnmade made output before now → LeavesSound (made ∷ []) (made ∷ []) (behind output (file_failed made)) before now
 unmade_sound made output before now unmade = record {
-  sources = ap (λ (c : FilesCustody). c.sources) unmade.fails.custody;
+  sources = ap (λ (c : FilesCustody). c.sources.out) unmade.fails.custody;
+  disks = ap (λ (c : FilesCustody). c.disks.out) unmade.fails.custody;
   sinks = ap (λ (c : FilesCustody). c.sinks.out) unmade.fails.custody;
   unmade = λ none. ap (λ (c : FilesCustody). c.sinks) unmade.fails.custody;
   others = λ name other. unmade.fails.others name (only_made made name other);
   faults = unmade.fails.faults;
 }
 
-same_sound : (made : List ℕ) (before now : Snapshot) → now ≡ before → LeavesSound (made ∷ []) out_of_memory before now
+same_sound : (made : List ℕ) (before now : Snapshot) → now ≡ before → LeavesSound (made ∷ []) (made ∷ []) out_of_memory before now
 same_sound made before now same = record {
-  sources = ap (λ (s : Snapshot). s.custody.sources) same;
+  sources = ap (λ (s : Snapshot). s.custody.sources.out) same;
+  disks = ap (λ (s : Snapshot). s.custody.disks.out) same;
   sinks = ap (λ (s : Snapshot). s.custody.sinks.out) same;
   unmade = λ none. ap (λ (s : Snapshot). s.custody.sinks) same;
   others = λ name other opening. ap (λ (s : Snapshot). s.held name opening) same;
   faults = ap (λ (s : Snapshot). s.faults) same;
 }
 
-own_leaves : (plant : PlantData) (script made : List ℕ) (before now : Moment) (end : End) (status : ℕ) → StreamEnds plant script made before now end status → LeavesSound (made ∷ []) end before.files now.files
+own_leaves : (plant : PlantData) (script made : List ℕ) (before now : Moment) (end : End) (status : ℕ) → StreamEnds plant script made before now end status → LeavesSound (made ∷ []) (made ∷ []) end before.files now.files
 own_leaves plant script made before now end status (inl (is, inl same)) =
-    subst (λ (e : End). LeavesSound (made ∷ []) e before.files now.files) (sym is) (same_sound made before.files now.files same)
+    subst (λ (e : End). LeavesSound (made ∷ []) (made ∷ []) e before.files now.files) (sym is) (same_sound made before.files now.files same)
 own_leaves plant script made before now end status (inl (is, inr gives)) =
-    subst (λ (e : End). LeavesSound (made ∷ []) e before.files now.files) (sym is)
+    subst (λ (e : End). LeavesSound (made ∷ []) (made ∷ []) e before.files now.files) (sym is)
     (gives_sound made (IsAsMade made) out_of_memory before.files now.files gives (ap is_faulty gives.shows.no_faults))
 own_leaves plant script made before now end status (inr (inl (output, is, gives))) =
-    subst (λ (e : End). LeavesSound (made ∷ []) e before.files now.files) (sym is)
+    subst (λ (e : End). LeavesSound (made ∷ []) (made ∷ []) e before.files now.files) (sym is)
     (gives_sound made (StreamDone plant script output status before.output.written now.output.written) (done output) before.files now.files gives (ap is_faulty gives.shows.no_faults))
 own_leaves plant script made before now end status (inr (inr (inl (number, is, bad, gives)))) =
-    subst (λ (e : End). LeavesSound (made ∷ []) e before.files now.files) (sym is)
+    subst (λ (e : End). LeavesSound (made ∷ []) (made ∷ []) e before.files now.files) (sym is)
     (gives_sound made (IsAsMade made) (ended 5 (line_refused number)) before.files now.files gives (ap is_faulty gives.shows.no_faults))
 own_leaves plant script made before now end status (inr (inr (inr (output, is, inl unmade)))) =
-    subst (λ (e : End). LeavesSound (made ∷ []) e before.files now.files) (sym is) (unmade_sound made output before.files now.files unmade)
+    subst (λ (e : End). LeavesSound (made ∷ []) (made ∷ []) e before.files now.files) (sym is) (unmade_sound made output before.files now.files unmade)
 own_leaves plant script made before now end status (inr (inr (inr (output, is, inr gives)))) =
-    subst (λ (e : End). LeavesSound (made ∷ []) e before.files now.files) (sym is)
+    subst (λ (e : End). LeavesSound (made ∷ []) (made ∷ []) e before.files now.files) (sym is)
     (gives_sound made (StreamBroke plant script output status before.output.written now.output.written) (behind output (file_failed made)) before.files now.files gives gives.shows.faults)
 
 pub sound : IsSound parts NoMore StreamRow (0 ∷ 1 ∷ 3 ∷ 5 ∷ [])
@@ -113,6 +116,12 @@ sound = record {
 -- what each status tells
 status_as : (end its : End) (status : ℕ) → status ≡ end.status → end ≡ its → status ≡ its.status
 status_as end its status at is = at ∙ ap (λ (e : End). e.status) is
+
+pub silent : IsSilent parts NoMore StreamRow
+silent given before now end status (inl (is, left)) one = is
+silent given before now end status (inr (inl (output, is, gives))) one = absurd (let h = status_as end (done output) 1 (sym one) is in omega (arith, h))
+silent given before now end status (inr (inr (inl (number, is, bad, gives)))) one = absurd (let h = status_as end (ended 5 (line_refused number)) 1 (sym one) is in omega (arith, h))
+silent given before now end status (inr (inr (inr (output, is, failed)))) one = absurd (let h = status_as end (behind output (file_failed given.1.1.0)) 1 (sym one) is in omega (arith, h))
 
 pub zero : ZeroHasStreamed
 zero said before now runs =

@@ -11,7 +11,7 @@ use Rattle.clap.specs.Walk.{Held, Step, Walk, after_step, arg_by_index, finished
 use Rattle.clap.specs.Takes.{bundle_passes, default_passes, flag_word_passes, is_valid, other_passes, settle_passes, step_passes, turn_passes, value_passes, walk_passes}
 use Rattle.line_text.specs.Decimal.{IsDigit}
 use Rattle.command_words.specs.Words.{IsFileName}
-use Rattle.command_words.specs.Parts.{AllSaid, AllSay, Last, NoMore, Number, Made, Part, Plant, Prefix, Said, Says, Store, Whole, Wholes, number_behind}
+use Rattle.command_words.specs.Parts.{AllSaid, AllSay, Last, NoMore, Number, Made, Part, Plant, Prefix, Said, Says, Store, Later, Whole, Wholes, number_behind}
 use Rattle.command_words.proofs.DashLemmas.{not_dashes, not_long, not_short, waits, no_subcommand, is_plain}
 
 -- ---- a word that does not begin with a dash is no flag
@@ -165,6 +165,7 @@ says_name before Plant word said says = says.1
 says_name before (Whole kind) word said says = says.1
 says_name before Made word said says = says.1
 says_name before Store word said says = says.1
+says_name before (Later kind) word said says = says.1
 says_name before (Number low most) [] said says = let none : 1 ≤ 0 = says.spells.some in absurd (omega (arith, none))
 says_name before (Number low most) (first ∷ rest) said says =
     let digit = All-head IsDigit first rest says.spells.each in

@@ -8,7 +8,7 @@ use Rattle.std.proofs.lemmas.Bool.{false≢true}
 use Rattle.std.proofs.lemmas.List.{drop-map, drop_all, length-drop, take_all}
 use Rattle.std.proofs.lemmas.List.Elements.{All-cons, All-head, All-nil}
 use Rattle.std.proofs.lemmas.Option.{get_or_from_slice_get, slice_get_within}
-use Rattle.command_words.specs.Parts.{FileKind, Low, Wholes, Prefix, Part, Plant, Whole, Made, Store, Number, Last, AllSay, Said, Says, least_of, number_behind}
+use Rattle.command_words.specs.Parts.{FileKind, Low, Wholes, Prefix, Part, Plant, Whole, Made, Store, Later, Number, Last, AllSay, Said, Says, least_of, number_behind}
 use Rattle.command_words.specs.ReadParts.{CanSay, CanSayLast, SayBehind}
 use Rattle.command_words.specs.Words.{IsFileName, NameTraces, SaysNumber, texts}
 
@@ -37,6 +37,7 @@ name_found before Plant word (Some n) named found = (word, (refl, found.1), foun
 name_found before (Whole kind) word (Some n) named found = (word, (refl, found.1), found.0)
 name_found before Made word (Some n) named found = (word, (refl, found.1), found.0)
 name_found before Store word (Some n) named found = (word, (refl, found.1), found.0)
+name_found before (Later kind) word (Some n) named found = (word, (refl, found.1), found.0)
 name_found before (Number low most) word (Some n) named found = absurd (false≢true named)
 
 -- ---- the first part, and those behind it

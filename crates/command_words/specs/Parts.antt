@@ -15,12 +15,14 @@ pub data Low : Type 0 where
   AsBefore : Low
 
 -- A part of a form, of which one word speaks: a plant's word; the name of a file that is read whole; that of a file that is
--- made; that of a store, of the plant before it; a number between a low one and this.
+-- made; that of a store, of the plant before it; that of a file that the command itself reads whole, behind what it opens before;
+-- a number between a low one and this.
 pub data Part : Type 0 where
   Plant : Part
   Whole : (kind : FileKind) → Part
   Made : Part
   Store : Part
+  Later : (kind : FileKind) → Part
   Number : (low : Low) (most : ℕ) → Part
 
 -- What stands behind the parts: nothing; the names of 1 to 200 files that are read whole, together no longer than their kind;
@@ -44,6 +46,7 @@ Said Plant = List ℕ
 Said (Whole kind) = List ℕ
 Said Made = List ℕ
 Said Store = List ℕ
+Said (Later kind) = List ℕ
 Said (Number low most) = ℕ
 
 -- what words say behind the parts
@@ -72,6 +75,7 @@ Says before Plant word said = IsNameOf word said
 Says before (Whole kind) word said = IsNameOf word said
 Says before Made word said = IsNameOf word said
 Says before Store word said = IsNameOf word said
+Says before (Later kind) word said = IsNameOf word said
 Says before (Number low most) word said = SaysNumber (least_of low before) most word said
 
 -- the number that stands before the next part, behind this one
@@ -80,6 +84,7 @@ number_behind before Plant said = before
 number_behind before (Whole kind) said = before
 number_behind before Made said = before
 number_behind before Store said = before
+number_behind before (Later kind) said = before
 number_behind before (Number low most) said = said
 
 -- Words say this behind the parts.

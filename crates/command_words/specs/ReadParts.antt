@@ -7,7 +7,7 @@ use Rattle.command_words.specs.declared.parts.Part as parts
 use Rattle.command_words.specs.declared.parts.Part.TheVariants as part
 use Rattle.command_words.specs.declared.parts.Last as lasts
 use Rattle.command_words.specs.declared.parts.Last.TheVariants as last
-use Rattle.command_words.specs.Parts.{FileKind, Low, AtLeast, AsBefore, Part, Plant, Whole, Made, Store, Number, Last, NoMore, Wholes, Prefix, AllSaid, AllSay, Said, SaidLast, SayLast, Says, number_behind}
+use Rattle.command_words.specs.Parts.{FileKind, Low, AtLeast, AsBefore, Part, Plant, Whole, Made, Store, Later, Number, Last, NoMore, Wholes, Prefix, AllSaid, AllSay, Said, SaidLast, SayLast, Says, number_behind}
 
 abbrev pub kind_as : kinds.FileKind → FileKind
 kind_as kind = record { word = kind.word.now; longest = kind.longest }
@@ -21,6 +21,7 @@ part_as part.Plant = Plant
 part_as (part.Whole kind) = Whole (kind_as kind)
 part_as part.Made = Made
 part_as part.Store = Store
+part_as (part.Later kind) = Later (kind_as kind)
 part_as (part.Number low most) = Number (low_as low) most
 
 abbrev pub last_as : lasts.Last → Last

@@ -47,6 +47,8 @@ pub enum Part {
     Made,
     /// A store, of the plant before it.
     Store,
+    /// A file that the command itself reads whole, behind what it opens before.
+    Later(FileKind),
     /// A number, and the most that it may be.
     Number(Low, u64),
 }
@@ -90,6 +92,7 @@ fn say_part(before: u64, part: Part, word: &str) -> Option<u64>
         Part::Whole(_) => say_name(before, word),
         Part::Made => say_name(before, word),
         Part::Store => say_name(before, word),
+        Part::Later(_) => say_name(before, word),
     }
 }
 

@@ -1,4 +1,4 @@
-use Rattle.std.proofs.Common.{◌+◌, ◌-◌, [], ◌∷◌, List, ℕ, sym, ◌∙◌, ap, subst, drop, arith}
+use Rattle.std.proofs.Common.{◌+◌, ◌-◌, List, ℕ, sym, ◌∙◌, ap, subst, drop, arith}
 use Rattle.std.proofs.lemmas.List.{drop_all}
 use Rattle.command_words.specs.Words.{texts}
 use Rattle.command_rows.specs.Kinds.{trace}

@@ -27,3 +27,7 @@ returns-in-Made-clause-found c =
 pub returns-in-Store-clause-found : goal.returns-in-Store-clause-found
 returns-in-Store-clause-found c =
     name_found c.args.before (part_as c.args.part) c.args.word.now c.say_name-in-Store.result (ap (λ p. is_named (part_as p)) c.in-Store.is) c.say_name-in-Store.ensures.found
+
+pub returns-in-Later-clause-found : goal.returns-in-Later-clause-found
+returns-in-Later-clause-found c =
+    name_found c.args.before (part_as c.args.part) c.args.word.now c.say_name-in-Later.result (ap (λ p. is_named (part_as p)) c.in-Later.is) c.say_name-in-Later.ensures.found
