@@ -34,3 +34,10 @@ pub mod ReplayerLemmas
 pub mod WorkLineLemmas
 pub mod WorkScriptLemmas
 pub mod ReplayScriptLemmas
+pub mod UnwrittenLemmas
+pub mod KeptWorks
+pub mod KeptLeft
+pub mod KeptStart
+pub mod KeptLine
+pub mod KeptSave
+pub mod KeptEnd

@@ -12,13 +12,13 @@ use Rattle.record_replay.proofs.WorkLineLemmas.{no_works}
 use Rattle.record_replay.proofs.SentLemmas.{sent_nothing, sent_one}
 
 -- Lines that spell works do so in two parts.
-record InParts (plant : PlantData) (front later : List (List ℕ)) (works : List Work) : Type 0 where
-  done : List Work
-  left : List Work
-  works_are : works ≡ done ++ left
-  count : length done ≡ length front
-  front_spelled : LinesSpell plant front done
-  later_spelled : LinesSpell plant later left
+pub record InParts (plant : PlantData) (front later : List (List ℕ)) (works : List Work) : Type 0 where
+  pub done : List Work
+  pub left : List Work
+  pub works_are : works ≡ done ++ left
+  pub count : length done ≡ length front
+  pub front_spelled : LinesSpell plant front done
+  pub later_spelled : LinesSpell plant later left
 
 in_parts : (plant : PlantData) (front later : List (List ℕ)) (works : List Work) → LinesSpell plant (front ++ later) works → InParts plant front later works
 in_parts plant [] later works spelled = record { done = []; left = works; works_are = refl; count = refl; front_spelled = tt; later_spelled = spelled }
@@ -35,7 +35,7 @@ in_parts plant (line ∷ front) later (work ∷ works) spelled =
     }
 
 -- The first line, and those behind it.
-first_line : (plant : PlantData) (rest line after : List ℕ) (left : List Work) → lines rest ≡ line ∷ lines after → LinesSpell plant (worked (lines rest)) left → InParts plant (worked (line ∷ [])) (worked (lines after)) left
+pub first_line : (plant : PlantData) (rest line after : List ℕ) (left : List Work) → lines rest ≡ line ∷ lines after → LinesSpell plant (worked (lines rest)) left → InParts plant (worked (line ∷ [])) (worked (lines after)) left
 first_line plant rest line after left is spelled =
     in_parts plant (worked (line ∷ [])) (worked (lines after)) left
     (subst (λ (all : List (List ℕ)). LinesSpell plant all left) (ap worked is ∙ worked-append (line ∷ []) (lines after)) spelled)
@@ -45,8 +45,16 @@ worked_few : (line : List ℕ) (skipped : Bool) → worked (line ∷ []) ≡ con
 worked_few line true is = let none : length (worked (line ∷ [])) ≡ 0 = ap (length {A = List ℕ}) is in omega (arith, none)
 worked_few line false is = let one : length (worked (line ∷ [])) ≡ 1 = ap (length {A = List ℕ}) is in omega (arith, one)
 
-one_at_most : (line : List ℕ) → length (worked (line ∷ [])) ≤ 1
+pub one_at_most : (line : List ℕ) → length (worked (line ∷ [])) ≤ 1
 one_at_most line = worked_few line (is_skipped line) (worked-cons line [])
+
+-- A line that has a work isn't skipped.
+worked_one : (line : List ℕ) (skipped : Bool) → worked (line ∷ []) ≡ cond (not skipped) (line ∷ []) [] → length (worked (line ∷ [])) ≡ 1 → worked (line ∷ []) ≡ line ∷ []
+worked_one line true is one = let none : length (worked (line ∷ [])) ≡ 0 = ap (length {A = List ℕ}) is in absurd (omega (arith, none, one))
+worked_one line false is one = is
+
+pub line_worked : (line : List ℕ) → length (worked (line ∷ [])) ≡ 1 → worked (line ∷ []) ≡ line ∷ []
+line_worked line one = worked_one line (is_skipped line) (worked-cons line []) one
 
 -- A script begins.
 pub begins : (plant : PlantData) (script : List ℕ) (replayer : Replayer) (IsPut : List ℕ → List ℕ → List (List ℕ) → Type 0) → IsPut [] [] [] → PlaysOn plant script script replayer replayer IsPut

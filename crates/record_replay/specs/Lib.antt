@@ -23,3 +23,5 @@ pub mod Monitor
 pub mod MonitorInside
 pub mod Answered
 pub mod ScriptLaws
+pub mod Kept
+pub mod KeptInside

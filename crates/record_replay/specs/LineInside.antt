@@ -7,7 +7,7 @@ use Rattle.record_replay.specs.declared.line.Line as code
 use Rattle.record_replay.specs.declared.line.Line.TheVariants as found
 use Rattle.swp08_messages.specs.declared.message.Message.{Message}
 use Rattle.record_replay.specs.Take.{message_frame}
-use Rattle.record_replay.specs.Script.{Work, Read, Leave, Show, space, tab, is_skipped, lines, worked, HasNo, NumberSpells, HexSpells, take_parts, AsksConnect, LineSpells, LinesSpell}
+use Rattle.record_replay.specs.Script.{Work, Read, Leave, Show, space, tab, is_skipped, HasNo, NumberSpells, HexSpells, take_parts, AsksConnect, LineSpells}
 
 -- A text spells no number.
 abbrev pub SpellsNoNumber : List ℕ → Type 0
@@ -83,10 +83,6 @@ pub record IsTake (plant : PlantData) (behind : List ℕ) (panel : ℕ) (piece :
 -- What a line has behind `take ` is a take of no panel.
 abbrev pub IsNoTake : PlantData → List ℕ → Type 0
 IsNoTake plant behind = (panel : ℕ) (piece : List ℕ) → IsTake plant behind panel piece → ⊥
-
--- Each line of a script that isn't skipped spells a piece of work.
-abbrev pub HasWorks : PlantData → List ℕ → Type 0
-HasWorks plant script = (works : List Work) × LinesSpell plant (worked (lines script)) works
 
 -- A line that isn't skipped spells no work.
 abbrev pub IsBad : PlantData → List ℕ → Type 0

@@ -112,6 +112,10 @@ LinesSpell plant (line ∷ others) (work ∷ works) =
 LinesSpell plant [] (work ∷ works) = ⊥
 LinesSpell plant (line ∷ others) [] = ⊥
 
+-- Each line of a script that isn't skipped spells a piece of work.
+abbrev pub HasWorks : PlantData → List ℕ → Type 0
+HasWorks plant script = (works : List Work) × LinesSpell plant (worked (lines script)) works
+
 -- The line of this number, counted from 1 with those that are skipped, is the first of the script that isn't skipped and
 -- spells no work.
 pub record IsFirstBad (plant : PlantData) (script : List ℕ) (number : ℕ) : Type 0 where

@@ -2,8 +2,8 @@
 
 ghost use Rattle.std.specs.Prelude.{◌≡◌, ◌<◌, length, MatchOption};
 ghost use Rattle.std.specs.Bool.{OnTrue, OnFalse};
-ghost use Rattle.record_replay.specs.Script.{IsFirstBad};
-ghost use Rattle.record_replay.specs.LineInside.{HasWorks, IsFormed, IsBad};
+ghost use Rattle.record_replay.specs.Script.{HasWorks, IsFirstBad};
+ghost use Rattle.record_replay.specs.LineInside.{IsFormed, IsBad};
 ghost use Rattle.record_replay.specs.FirstInside.{BeginsFormed, BeginsBad};
 
 use crate::digits::Digits;

@@ -6,6 +6,8 @@
 mod check;
 mod digits;
 mod first;
+mod in_memory;
+mod kept;
 mod laws;
 mod line;
 mod monitor;
@@ -19,7 +21,9 @@ mod script;
 mod show;
 mod streamed;
 mod take;
+mod unwritten;
 
+pub use kept::{KeptFault, replay_kept};
 pub use laws::{lines_answer_items, no_tie_carries_two_sources, one_history, one_item, one_replay};
 pub use monitor::{MonitorFault, monitor_stream};
 pub use replay::{ReplayFault, replay_script};

@@ -30,7 +30,7 @@ use std::alloc::{AllocError, Global};
 #[derive(Drop)]
 pub(crate) struct Replayer<'p> {
     plant: &'p Plant,
-    state: PlantState,
+    pub(crate) state: PlantState,
     sessions: Vec<Session<'p>>,
     // Where the plant answers what no session asks for: a leave, which has no answer, and a display poll.
     outbox: OutBox<Answer>,
@@ -101,7 +101,7 @@ impl<'p> Replayer<'p> {
 
     // Does the work of the first line of a text, and answers what is behind it, `None` if the port failed.
     #[inline]
-    fn work_first<'s, K: Drain, P: DisplayPort>(
+    pub(crate) fn work_first<'s, K: Drain, P: DisplayPort>(
         &mut self,
         text: &'s [u8],
         names: &Names,

@@ -3,8 +3,7 @@
 ghost use Rattle.std.specs.Prelude.{◌≡◌, ◌≢◌, Err, [], ℕ, OnOk, IsErrOf};
 ghost use Rattle.ctl_io.specs.Faults.{count_after};
 ghost use Rattle.record_replay.specs.declared.streamed.StreamedFault.TheVariants.{NoMemory};
-ghost use Rattle.record_replay.specs.Script.{IsFirstBad};
-ghost use Rattle.record_replay.specs.LineInside.{HasWorks};
+ghost use Rattle.record_replay.specs.Script.{HasWorks, IsFirstBad};
 ghost use Rattle.record_replay.specs.Replay.{begun};
 ghost use Rattle.record_replay.specs.ReplayerInside.{StandsAt};
 ghost use Rattle.record_replay.specs.Streamed.{HasStreamed, HasStreamedFront, HasStoppedAtPort};

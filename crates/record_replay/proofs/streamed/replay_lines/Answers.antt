@@ -1,6 +1,6 @@
 use Rattle.std.proofs.Common.{rules, sym, ◌∙◌, subst}
 use Rattle.plant_config.specs.Plant.{PlantData}
-use Rattle.record_replay.specs.LineInside.{HasWorks}
+use Rattle.record_replay.specs.Script.{HasWorks}
 use Rattle.record_replay.specs.Replay.{begun}
 use Rattle.record_replay.specs.ReplayerInside.{StandsAt}
 use Rattle.record_replay.specs.Streamed.{TakesLamps}
