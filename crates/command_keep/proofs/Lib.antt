@@ -1,0 +1,6 @@
+pub mod StoreLemmas
+pub mod EndLemmas
+pub mod LineLemmas
+pub mod SoundLemmas
+pub mod LawLemmas
+pub mod ShownLemmas
