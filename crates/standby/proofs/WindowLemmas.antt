@@ -114,3 +114,22 @@ count-set (place ∷ window) (suc offset) x e =
     count-first place (slice_set window offset (Some x))
     ∙ plus-more (cond (is_some place) 1 0) (count_by is_some (slice_set window offset (Some x))) (count_by is_some window) (count-set window offset x e)
     ∙ ap (λ n. n + 1) (sym (count-first place window))
+
+-- Where nothing is kept all places are empty,
+module _ {X : Type 0} where
+  empty_behind : (place : Option X) (window : List (Option X)) → count_by is_some (place ∷ window) ≡ 0 → (place ≡ None) × (count_by is_some window ≡ 0)
+  empty_behind None window e = (refl, sym (count-empty window) ∙ e)
+  empty_behind (Some x) window e = absurd (omega (arith, e, count-full x window))
+
+  empty_on : (window : List (Option X)) → count_by is_some window ≡ 0 → window ++ None ∷ [] ≡ None ∷ window
+  empty_on [] e = refl
+  empty_on (place ∷ window) e =
+      let both = empty_behind place window e in
+      ap (λ rest. place ∷ rest) (empty_on window both.1) ∙ ap (λ first. first ∷ None ∷ window) both.0 ∙ ap (λ second. None ∷ second ∷ window) (sym both.0)
+
+-- and a window that has moved on is the same one.
+pub moved_empty : {X : Type 0} (window : List (Option X)) → count_by is_some window ≡ 0 → slice_get window 0 ≡ Some None → drop 1 window ++ replicate 1 None ≡ window
+moved_empty [] e first = cc
+moved_empty (place ∷ window) e first =
+    let both = empty_behind place window e in
+    empty_on window both.1 ∙ ap (λ first. first ∷ window) (sym both.0)

@@ -85,9 +85,12 @@ impl Window {
         ensures window { self.new ≡ slice_set (moved_on 1 self.old) 0 None }
         ensures count { count_by is_some self.new + count_at result ≡ count_by is_some self.old }
     {
+        // Short way: where nothing is kept all places are empty, and stay so.
+        if self.kept == 0 {
+            return None;
+        }
         self.places.rotate_left(1);
-        let first = self.places[0];
-        self.places[0] = None;
+        let first = self.places[0].take();
         if first.is_some() {
             self.kept -= 1;
         }

@@ -1,0 +1,5 @@
+pub mod FollowLemmas
+pub mod TextLemmas
+pub mod EndLemmas
+pub mod OneLemmas
+pub mod LawLemmas
