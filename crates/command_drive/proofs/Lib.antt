@@ -1,0 +1,12 @@
+pub mod PutLemmas
+pub mod OutcomeLemmas
+pub mod RegularLemmas
+pub mod RunLemmas
+pub mod EndLemmas
+pub mod CountLemmas
+pub mod WayLemmas
+pub mod FrameLemmas
+pub mod BenchLemmas
+pub mod AskedLemmas
+pub mod RowLemmas
+pub mod LawLemmas

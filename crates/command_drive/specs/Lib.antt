@@ -1,0 +1,5 @@
+pub mod Drive
+pub mod DriveRow
+pub mod DriveLaws
+pub mod DriveInside
+pub mod Laws
