@@ -45,8 +45,7 @@ impl<V: Drop> Rows<V> {
         ensures { OnOk result (IsPut (row_at self.old) (row_at self.new) position first other) }
     {
         if position < self.table.capacity() as u64 {
-            lengthen(&mut self.table, position as usize);
-            put_in(&mut self.table, position as usize, first, other);
+            put_within(&mut self.table, position as usize, first, other);
             return Ok(());
         }
         put_at(&mut self.others, position, first, other)
@@ -61,6 +60,22 @@ fn value_at<V>(table: &[Option<V>], place: usize) -> Option<&V>
         Some(value) => value.as_ref(),
         None => None,
     }
+}
+
+// Puts a value at a place for which a table has room: the first one where none was there, else the other one.
+fn put_within<V: Drop>(table: &mut Vec<Option<V>>, place: usize, first: V, other: V)
+    requires { place < vec_capacity table.old }
+    ensures put { IsPut (row_of_table table.old.items) (row_of_table table.new.items)
+        place first other }
+    ensures room { vec_capacity table.new ≡ vec_capacity table.old }
+{
+    // Most positions come in order, each at the table's end.
+    if place == table.len() {
+        table.push_reserved(Some(first));
+        return;
+    }
+    lengthen(table, place);
+    put_in(table, place, first, other);
 }
 
 // Makes a table longer, if it must be, so that it has this place, for which there is room. No value changes.

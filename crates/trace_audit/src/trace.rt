@@ -60,11 +60,11 @@ fn read_lines<'t>(
 // How many lines a text has, or a few more, but no more than can tell entries. No clause holds it to that, since it is but how
 // many rows get room at once.
 fn count_lines(text: &[u8]) -> usize {
-    // So many lines end in less than 32 bytes at the most.
-    let mut count: usize = 3;
-    for i in 0..text.len() / 32 {
-        let ends = u8x32::from_slice(&text[32 * i..]).simd_eq(u8x32::splat(b'\n'));
+    // So many lines end in less than 64 bytes at the most.
+    let mut count: usize = 5;
+    for i in 0..text.len() / 64 {
+        let ends = u8x64::from_slice(&text[64 * i..]).simd_eq(u8x64::splat(b'\n'));
         count = count.wrapping_add(ends.to_bitmask().count_ones() as usize);
     }
-    count.min(text.len() / SHORTEST_LINE + 3)
+    count.min(text.len() / SHORTEST_LINE + 5)
 }
