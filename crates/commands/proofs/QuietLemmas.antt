@@ -120,6 +120,7 @@ pub leaves : QuietLeaves
 leaves words before now status (inl stop) = record {
   sources = ap (λ (s : Snapshot). s.custody.sources.out) stop.files;
   sinks = ap (λ (s : Snapshot). s.custody.sinks.out) stop.files;
+  disks = ap (λ (s : Snapshot). s.custody.disks.out) stop.files;
   unmade = λ none. ap (λ (s : Snapshot). s.custody.sinks) stop.files;
   others = λ name other opening. ap (λ (s : Snapshot). s.held name opening) stop.files;
   stay = λ not_3 not_7. ap (λ (s : Snapshot). s.faults) stop.files;
@@ -130,6 +131,7 @@ leaves words before now status (inr row) =
     record {
       sources = left.sources;
       sinks = left.sinks;
+      disks = left.disks;
       unmade = λ none. left.unmade (none row.verb row.said row.ask);
       others = λ name other. left.others name (λ one. other (row.verb, row.said, row.ask, one));
       stay = left.stay;

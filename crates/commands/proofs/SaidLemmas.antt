@@ -1,6 +1,6 @@
 -- Words say one thing of the parts of a form.
 use Rattle.std.proofs.Common.{◌≡◌, ℕ, List, [], ◌∷◌, Option, None, Some, refl, sym, ◌∙◌, ap, subst}
-use Rattle.command_words.specs.Parts.{Part, Plant, Whole, Made, Store, Number, Last, NoMore, Wholes, Prefix, Said, SaidLast, AllSaid, Says, SayLast, number_behind, AllSay}
+use Rattle.command_words.specs.Parts.{Part, Plant, Whole, Made, Store, Later, Number, Last, NoMore, Wholes, Prefix, Said, SaidLast, AllSaid, Says, SayLast, number_behind, AllSay}
 use Rattle.commands.specs.declared.rows.Verb.{Verb}
 use Rattle.commands.specs.Rows.{AskFor, SaidOf, row_of, line_of, table}
 use Rattle.commands.proofs.RowsLemmas.{same_verb}
@@ -10,6 +10,7 @@ part_once before Plant word one other a b = a.0 ∙ sym b.0
 part_once before (Whole kind) word one other a b = a.0 ∙ sym b.0
 part_once before Made word one other a b = a.0 ∙ sym b.0
 part_once before Store word one other a b = a.0 ∙ sym b.0
+part_once before (Later kind) word one other a b = a.0 ∙ sym b.0
 part_once before (Number low most) word one other a b = a.spells.number_is ∙ sym b.spells.number_is
 
 last_once : (last : Last) (words : List (List ℕ)) (one other : SaidLast last) → SayLast last words one → SayLast last words other → one ≡ other

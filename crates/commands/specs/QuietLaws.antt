@@ -11,12 +11,12 @@ use Rattle.command_rows.specs.Moment.{Snapshot, Moment, FilesStay}
 use Rattle.command_rows.specs.End.{out_of_memory, ComesTo}
 use Rattle.command_rows.specs.OpenerLaws.{form_files}
 use Rattle.command_rows.specs.Row.{Promise}
-use Rattle.command_rows.specs.RowLaws.{CouldNotWrite, RowStatusesAreKnown, WasWorked, made_files}
+use Rattle.command_rows.specs.RowLaws.{CouldNotWrite, OneIsSilent, RowStatusesAreKnown, WasWorked, made_files, own_files}
 use Rattle.command_rows.specs.Sound.{IsOneOf}
 use Rattle.command_rows.specs.Shown.{AllShow}
 use Rattle.command_replay.specs.Laws.{ShowsHistory}
 use Rattle.commands.specs.declared.rows.Verb.{Verb}
-use Rattle.commands.specs.declared.rows.Verb.TheVariants.{Replay}
+use Rattle.commands.specs.declared.rows.Verb.TheVariants.{Replay, Keep}
 use Rattle.commands.specs.Rows.{AskFor, SaidOf, row_of, promise_of, statuses_of, table}
 use Rattle.commands.specs.Quiet.{Runs, QuietEnds}
 
@@ -24,6 +24,11 @@ use Rattle.commands.specs.Quiet.{Runs, QuietEnds}
 abbrev pub OfEachRow : ((parts : List Part) (last : Last) → Promise parts last → Type 0) → Type 0
 OfEachRow Law =
     (verb : Verb) → Law (row_of verb).form.parts (row_of verb).form.last (promise_of verb)
+
+-- A run of a row that ends with 1 has written nothing else: `keep` alone writes as it goes.
+abbrev pub RowsAreSilent : Type 0
+RowsAreSilent = (verb : Verb) → verb ≢ Keep
+    → OneIsSilent (row_of verb).form.parts (row_of verb).form.last (promise_of verb)
 
 -- The own statuses of the row of each command are those of the table.
 abbrev pub RowsHaveTheirStatuses : Type 0
@@ -57,7 +62,7 @@ pub record WorkedRow (words : List (List ℕ)) (before now : Moment) (status : �
   pub worked : WasWorked (row_of verb).form.parts (row_of verb).form.last (promise_of verb)
       said before now status
 
--- A run that ends with 0 or with 6 has worked a row that has such a status of its own: 6 is that of an audit alone.
+-- A run that ends with 0 or with 6 has worked a row that has such a status of its own: 6 is of audits and standbys.
 abbrev pub WorkIsDone : Type 0
 WorkIsDone = (words : List (List ℕ)) (before now : Moment) (status : ℕ)
     → (status ≡ 0) ⊎ (status ≡ 6) → QuietEnds words before now status
@@ -98,24 +103,25 @@ ReplaysShowHistories =
     (Ok (plant, (script, tt)))
     → QuietEnds words before now 0 → ShowsHistory plant script before now
 
--- The words name this file: it is one that they ask for, or one that is to be made.
+-- The words name this file: it is one that they ask for, one that is to be made, or a store.
 abbrev pub NamesFile : List (List ℕ) → List ℕ → Type 0
 NamesFile words name = (verb : Verb) × (said : SaidOf verb) × AskFor words verb said
     × Contains (form_files (row_of verb).form.parts (row_of verb).form.last said
-    ++ made_files (row_of verb).form.parts (row_of verb).form.last said) name
+    ++ own_files (row_of verb).form.parts (row_of verb).form.last said) name
 
 -- The words ask for no file that is to be made.
 abbrev pub MakeNoFile : List (List ℕ) → Type 0
 MakeNoFile words = (verb : Verb) (said : SaidOf verb) → AskFor words verb said
     → made_files (row_of verb).form.parts (row_of verb).form.last said ≡ []
 
--- What a run leaves of the files: each source and each sink was given back, no sink was made but of a file that the words ask to
--- make, and what is held of names stays that they don't name. The files' count of faults stays, unless the status is 3 or 7, and
--- rises by one at most.
+-- What a run leaves of the files: each source, each sink and each disk was given back, no sink was made but of a file that the
+-- words ask to make, and what is held of names stays that they don't name. The files' count of faults stays, unless the status is
+-- 3 or 7, and rises by one at most.
 pub record LeavesFiles (words : List (List ℕ)) (before now : Snapshot) (status : ℕ)
     : Type 0 where
   pub sources : now.custody.sources.out ≡ before.custody.sources.out
   pub sinks : now.custody.sinks.out ≡ before.custody.sinks.out
+  pub disks : now.custody.disks.out ≡ before.custody.disks.out
   pub unmade : MakeNoFile words → now.custody.sinks ≡ before.custody.sinks
   pub others : (name : List ℕ) → (NamesFile words name → ⊥)
       → Stays (before.held name) (now.held name)

@@ -7,16 +7,16 @@ ghost use Rattle.command_rows.specs.RowLaws.{OneHasCause, RowsHaveCause, RowsLea
 ghost use Rattle.command_rows.specs.RowLaws.{RowsWriteAll, SevenHasCause, StopsAreTold};
 ghost use Rattle.commands.specs.QuietLaws.{AskedRuns, NoFormEndsWithTwo, OfEachRow};
 ghost use Rattle.commands.specs.QuietLaws.{QuietLeaves, QuietSevenHasCause, QuietWritesAll};
-ghost use Rattle.commands.specs.QuietLaws.{ReplaysShowHistories, RowsHaveTheirStatuses};
-ghost use Rattle.commands.specs.QuietLaws.{StatusesAreKnown};
+ghost use Rattle.commands.specs.QuietLaws.{ReplaysShowHistories, RowsAreSilent};
+ghost use Rattle.commands.specs.QuietLaws.{RowsHaveTheirStatuses, StatusesAreKnown};
 ghost use Rattle.commands.specs.QuietLaws.{TwoHasNoForm, TwoTellsUsage, WorkIsDone};
 
 use command_replay::replays;
 
 /// Of the row of each command, whatever its parts are. Its run ended at its inputs, with exactly the line of that, or as the row
-/// promises, with exactly the text of that, or a write failed. Status 1: nothing but the line that says so was appended, and
-/// memory ran out at a file that may be here, behind others that were read well, or behind all. Status 4: a plant's file has a
-/// fault or is too long; no file behind it was opened. Where the files show that opening is stopped, by a file that is missing, by
+/// promises, with exactly the text of that, or a write failed. Status 1: nothing but the line that says so was appended, by
+/// `keep` alone behind its output lines, and memory ran out at a file that may be here, behind others that were read well, or
+/// behind all. Status 4: a plant's file has a fault or is too long; no file behind it was opened. Where the files show that opening is stopped, by a file that is missing, by
 /// a plant that is refused, or by a length, the run always ends with the line of that, and where they show what is given, the row
 /// is always worked with that; unless memory runs out, the files fail or a write does. If the first file is shown to be missing,
 /// memory is no cause.
@@ -24,6 +24,7 @@ pub fn each_row()
     ensures cause { OfEachRow RowsHaveCause }
     ensures statuses { RowsHaveTheirStatuses }
     ensures memory { OfEachRow OneHasCause }
+    ensures silent { RowsAreSilent }
     ensures usage { OfEachRow NoRowTellsUsage }
     ensures plant { OfEachRow FourHasCause }
     ensures stops { OfEachRow StopsAreTold }
@@ -40,8 +41,8 @@ pub fn asked()
     ensures { AskedRuns }
 {}
 
-/// No other status is answered than 0 to 7. Of 0 and 6, a row was worked that has such a status of its own: 6 is that of an audit
-/// alone.
+/// No other status is answered than 0 to 7. Of 0 and 6, a row was worked that has such a status of its own: 6 is of audits and
+/// standbys alone.
 pub fn statuses()
     ensures known { StatusesAreKnown }
     ensures worked { WorkIsDone }

@@ -17,8 +17,10 @@ use std::alloc::Global;
 ///
 /// The words ask for a quiet command of the table: `check PLANT` says what a plant has, `replay PLANT SCRIPT` replays a script on
 /// it, `audit PLANT TRACE..` says whether the lines of 1 to 200 traces together are a history of it, `stream PLANT SCRIPT OUT`
-/// replays with a stream in OUT, and `monitor FILE` tells one. PLANT is the name of a plant file, or `bench`. Where one
-/// thing is wrong the run ends there, in this order: the words, what they name in its order, the lines of that.
+/// replays with a stream in OUT, `monitor FILE` tells one, `format PLANT STORE` makes a store that stands for the start, `keep PLANT
+/// STORE SCRIPT` goes on from a store with a script, `standby PLANT TRACE..` says what traces leave of a standby, and `drive NUMBER
+/// WANTS` drives a router in memory. PLANT is the name of a plant file, or `bench`. Where one thing is wrong the run ends there, in
+/// this order: the words, what they name in its order, the lines of that.
 pub fn run_quiet<F: Files, K: Sink>(
     alloc: Global,
     words: &[String],

@@ -11,9 +11,13 @@ ghost use Rattle.command_rows.specs.StopInside.{number_of};
 
 use command_audit::audit;
 use command_check::check;
+use command_drive::drive;
+use command_format::format;
+use command_keep::keep;
 use command_monitor::monitor;
 use command_replay::replay;
 use command_rows::Status;
+use command_standby::standby;
 use command_stream::stream;
 use command_words::{Asked, FileKind, Last, Line, Low, Part, read_quiet, read_waiting};
 use ctl_io::{Files, Sink};
@@ -29,6 +33,10 @@ pub enum Verb {
     Drill,
     Stream,
     Monitor,
+    Format,
+    Keep,
+    Standby,
+    Drive,
 }
 
 const SCRIPT: FileKind = FileKind {
@@ -108,6 +116,41 @@ const ROWS: &[Line<Verb>] = &[
         words: &["FILE"],
         is_quiet: true,
     },
+    Line {
+        verb: Verb::Format,
+        name: "format",
+        parts: &[Part::Plant, Part::Store],
+        last: Last::NoMore,
+        words: &["PLANT", "STORE"],
+        is_quiet: true,
+    },
+    Line {
+        verb: Verb::Keep,
+        name: "keep",
+        parts: &[Part::Plant, Part::Store, Part::Later(SCRIPT)],
+        last: Last::NoMore,
+        words: &["PLANT", "STORE", "SCRIPT"],
+        is_quiet: true,
+    },
+    Line {
+        verb: Verb::Standby,
+        name: "standby",
+        parts: &[Part::Plant],
+        last: Last::Wholes(TRACE),
+        words: &["PLANT", "TRACE.."],
+        is_quiet: true,
+    },
+    Line {
+        verb: Verb::Drive,
+        name: "drive",
+        parts: &[
+            Part::Number(Low::AtLeast(0), 4_294_967_295),
+            Part::Number(Low::AtLeast(1), 100_000),
+        ],
+        last: Last::NoMore,
+        words: &["NUMBER", "WANTS"],
+        is_quiet: true,
+    },
 ];
 
 /// The quiet command that words ask for, `None` if they ask for none. Memory runs out only if they ask for one.
@@ -136,7 +179,7 @@ pub fn waiting_command<'a>(words: &'a [String]) -> Option<Asked<'a, Verb>>
 pub fn usage() -> &'static [u8]
     ensures { result.now ≡ line_of_usage table }
 {
-    b"usage: plantctl check PLANT, replay PLANT SCRIPT, audit PLANT TRACE.., serve PLANT [PREFIX], drill NUMBER PANELS MESSAGES, stream PLANT SCRIPT OUT, monitor FILE\n"
+    b"usage: plantctl check PLANT, replay PLANT SCRIPT, audit PLANT TRACE.., serve PLANT [PREFIX], drill NUMBER PANELS MESSAGES, stream PLANT SCRIPT OUT, monitor FILE, format PLANT STORE, keep PLANT STORE SCRIPT, standby PLANT TRACE.., drive NUMBER WANTS\n"
 }
 
 // Runs the row of a quiet command, with these words behind its name.
@@ -161,6 +204,10 @@ pub(crate) fn run_row<F: Files, K: Sink>(
         Verb::Audit => audit(alloc, behind, files, out),
         Verb::Stream => stream(alloc, behind, files, out),
         Verb::Monitor => monitor(alloc, behind, files, out),
+        Verb::Format => format(alloc, behind, files, out),
+        Verb::Keep => keep(alloc, behind, files, out),
+        Verb::Standby => standby(alloc, behind, files, out),
+        Verb::Drive => drive(alloc, behind, out),
         Verb::Serve => unreachable!(),
         Verb::Drill => unreachable!(),
     }

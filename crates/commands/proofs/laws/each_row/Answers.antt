@@ -1,7 +1,7 @@
 use Rattle.command_rows.proofs.RowLawsLemmas.{have_cause, no_usage, write_all, four_cause}
 use Rattle.command_rows.proofs.AlwaysLemmas.{told, worked, missing_first}
-use Rattle.command_rows.proofs.SoundLemmas.{one_cause, known, seven_cause, leave_all}
-use Rattle.commands.specs.Rows.{row_of, promise_of, sound_of, statuses_of}
+use Rattle.command_rows.proofs.SoundLemmas.{one_cause, one_silent, known, seven_cause, leave_all}
+use Rattle.commands.specs.Rows.{row_of, promise_of, sound_of, silent_of, statuses_of}
 use Rattle.commands.proofs.laws.each_row.Goals as goal
 
 pub returns-clause-cause : goal.returns-clause-cause
@@ -12,6 +12,9 @@ returns-clause-statuses c = λ verb. known (row_of verb).form.parts (row_of verb
 
 pub returns-clause-memory : goal.returns-clause-memory
 returns-clause-memory c = λ verb. one_cause (row_of verb).form.parts (row_of verb).form.last (promise_of verb) (statuses_of verb) (sound_of verb)
+
+pub returns-clause-silent : goal.returns-clause-silent
+returns-clause-silent c = λ verb other. one_silent (row_of verb).form.parts (row_of verb).form.last (promise_of verb) (silent_of verb other)
 
 pub returns-clause-usage : goal.returns-clause-usage
 returns-clause-usage c = λ verb. no_usage (row_of verb).form.parts (row_of verb).form.last (promise_of verb)

@@ -18,3 +18,16 @@ returns-in-Stream g c = at_verb c.args.verb verbs.Stream (texts c.args.behind.no
 
 pub returns-in-Monitor : goal.returns-in-Monitor
 returns-in-Monitor g c = at_verb c.args.verb verbs.Monitor (texts c.args.behind.now) _ _ (number_of c.monitor.result) c.in-Monitor.is c.monitor.ensures
+
+pub returns-in-Format : goal.returns-in-Format
+returns-in-Format g c = at_verb c.args.verb verbs.Format (texts c.args.behind.now) _ _ (number_of c.format.result) c.in-Format.is c.format.ensures
+
+pub returns-in-Keep : goal.returns-in-Keep
+returns-in-Keep g c = at_verb c.args.verb verbs.Keep (texts c.args.behind.now) _ _ (number_of c.keep.result) c.in-Keep.is c.keep.ensures
+
+pub returns-in-Standby : goal.returns-in-Standby
+returns-in-Standby g c = at_verb c.args.verb verbs.Standby (texts c.args.behind.now) _ _ (number_of c.standby.result) c.in-Standby.is c.standby.ensures
+
+pub returns-in-Drive : goal.returns-in-Drive
+returns-in-Drive g c =
+    at_verb c.args.verb verbs.Drive (texts c.args.behind.now) _ _ (number_of c.drive.result) c.in-Drive.is (c.drive.ensures (g.F.Files.shows c.args.files.now))
