@@ -75,7 +75,7 @@ impl Bench {
         if roll.below(10) < losses {
             self.lose(roll);
         }
-        Ok(same && self.is_as_settled())
+        Ok(same && self.is_as_settled() && self.keeps_rounds())
     }
 
     fn want(&mut self, dest: u32, source: u32) -> Result<bool, AllocError>
@@ -134,6 +134,24 @@ impl Bench {
         }
     }
 
+    // Whether the messages on their ways, those to the driver first, are copies of one connect and its answer, or of one and
+    // then of the outstanding one.
+    fn keeps_rounds(&self) -> bool {
+        let mut last = None;
+        let mut is_second = false;
+        for message in self.back.iter().chain(self.forth.iter()) {
+            let now = crosspoint_of(message);
+            if last.is_some() && last != now {
+                if is_second {
+                    return false;
+                }
+                is_second = true;
+            }
+            last = now;
+        }
+        !is_second || last == self.plain.outstanding
+    }
+
     // Whether the driver says of each destination what the model says, and the frame has what is settled.
     fn is_as_settled(&self) -> bool {
         (0..4u16).all(|dest| {
@@ -143,6 +161,16 @@ impl Bench {
                 && settled.is_none_or(|source| self.carried.get(usize::from(dest)).copied()
                     == Some(source))
         })
+    }
+}
+
+// The crosspoint that a message on a way is about.
+fn crosspoint_of(message: &Message) -> Option<(u16, Option<u16>)> {
+    match *message {
+        Message::Connect { at, source } | Message::Connected { at, source } => {
+            Some((at.dest, source))
+        }
+        _ => None,
     }
 }
 
