@@ -42,6 +42,8 @@ enum Act {
     Reads(u8, u8),
     Dumps,
     IsPolled,
+    /// Polls screen 0.
+    PollsScreen,
     Leaves,
 }
 
@@ -75,6 +77,7 @@ fn request_of(panel: u32, at: Point, act: Act) -> Request {
                 turn: 3,
             };
         }
+        Act::PollsScreen => return displays::shows(false),
         Act::Leaves => return Request::Leave { panel },
         Act::Asks => Message::Interrogate { at },
         Act::Connects(source) => Message::Connect { at, source },

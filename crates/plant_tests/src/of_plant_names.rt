@@ -32,9 +32,10 @@ fn widest_names(alloc: Global) -> Result<Names, Fail> {
     Ok(Names::new(alloc, &Plant::from_toml(alloc, WIDEST.as_bytes())?)?)
 }
 
-// Whether the last name of the widest level is found, half a million times.
+// Whether the last name of the widest level is found, so often that to look through all names would take
+// longer than a test may.
 fn are_found(names: &Names) -> bool {
-    for _turn in 0..500_000_u32 {
+    for _turn in 0..200_000_u32 {
         if names.find_source(0, 0, b"S65534") != Some(SourceId::of(65_534)) {
             return false;
         }

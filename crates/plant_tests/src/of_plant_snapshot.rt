@@ -93,51 +93,106 @@ fn save_three<A: Abort, D: Disk>(rt: &A, rig: &mut Rig, store: Store<D>) -> (u16
     }
 }
 
-// The same on a new store: its disk, which fails at the call of this number.
+// The same on a new store.
+fn save_from_start<A: Abort, D: Disk>(
+    rt: &A,
+    alloc: Global,
+    plant: &Plant,
+    rig: &mut Rig,
+    disk: D,
+) -> (u16, D)
+    requires size { store_size plant.now ≤ D.size disk }
+    requires plant { rig.old.state.plant ≡ plant.now }
+{
+    match new_store(alloc, plant, disk) {
+        Ok(store) => save_three(rt, rig, store),
+        Err(disk) => (0, disk),
+    }
+}
+
+// The same on a disk that fails at the call of this number.
 fn run(
     rt: &impl Abort,
     alloc: Global,
     plant: &Plant,
     failing: u64,
-) -> Result<(u16, MemDisk), Fail> {
+) -> Result<(u16, MemDisk), AllocError> {
+    let disk = new_disk(alloc, plant, failing)?;
     let mut rig = Rig::of(alloc, plant)?;
-    match new_store(alloc, plant, new_disk(alloc, plant, failing)?) {
-        Ok(store) => Ok(save_three(rt, &mut rig, store)),
-        Err(disk) => Ok((0, disk)),
+    Ok(save_from_start(rt, alloc, plant, &mut rig, disk))
+}
+
+/// What comes of opening a disk.
+#[derive(Clone, Copy, PartialEq, Eq)]
+enum Opening {
+    /// A store, by the number of what it keeps, which is the source at destination 0.
+    Of(u64),
+    /// One that keeps a state with another source there.
+    Other,
+    WrongSize(u64, u64),
+    Damaged(u8, u64),
+    Stopped,
+}
+
+// A store of this number that keeps this state.
+fn kept_by(number: u64, state: &PlantState) -> Opening {
+    let source = match state.source_at(DestId::of(0)) {
+        Some(source) => u64::from(source.get()),
+        None => 0,
+    };
+    if source == number {
+        Opening::Of(number)
+    } else {
+        Opening::Other
     }
 }
 
-// A state is the one of this number.
-fn is_of(rt: &impl Abort, state: &PlantState, number: u64) {
-    let source = state.source_at(DestId::of(0));
-    assert!(rt; source.map_or(0, |source| source.get()) as u64 == number);
-}
-
-// The store on a disk stands for the last saved state, or for the next.
-fn stands(rt: &impl Abort, alloc: Global, plant: &Plant, disk: MemDisk, saved: u16) {
+// What comes of opening a disk.
+fn what_comes<D: Disk + Drop>(alloc: Global, plant: &Plant, disk: D) -> Opening {
     match open_saved(alloc, plant, disk) {
-        Ok((store, state)) => {
-            let number = store.number();
-            assert!(rt;
-                number == saved as u64 || number == saved as u64 + 1,
-                "{number}"
-            );
-            is_of(rt, &state, number);
-        }
-        Err(_) => panic!(rt; "not opened"),
+        Ok((store, state)) => kept_by(store.number(), &state),
+        Err(OpenFault::NoMemory(_) | OpenFault::Failed(_)) => Opening::Stopped,
+        Err(OpenFault::WrongSize { found, wanted, .. }) => Opening::WrongSize(found, wanted),
+        Err(OpenFault::Damaged { slot, place, .. }) => Opening::Damaged(slot, place),
     }
+}
+
+// After a crash that keeps so many writes the store stands for the last saved state, or for the next.
+fn stands(
+    rt: &impl Abort,
+    alloc: Global,
+    plant: &Plant,
+    disk: &MemDisk,
+    kept: u64,
+    saved: u16,
+) -> Result<(), AllocError> {
+    let opening = what_comes(alloc, plant, disk.crashed(alloc, kept)?);
+    let saved = u64::from(saved);
+    assert!(rt; opening == Opening::Of(saved) || opening == Opening::Of(saved + 1));
+    Ok(())
+}
+
+// So it is where the call of this number fails. A format makes two writes before it syncs, and all else one.
+fn stands_behind(
+    rt: &impl Abort,
+    alloc: Global,
+    plant: &Plant,
+    failing: u64,
+) -> Result<(), AllocError> {
+    let (saved, disk) = run(rt, alloc, plant, failing)?;
+    assert!(rt; (saved == 3) == (failing == CALLS));
+    let writes = if failing < 3 { 2 } else { 1 };
+    for kept in 0..writes + 1 {
+        stands(rt, alloc, plant, &disk, kept, saved)?;
+    }
+    Ok(())
 }
 
 #[test]
 fn a_store_stands_for_a_state_whenever_it_is_stopped(rt: HostRuntime) -> Result<(), Fail> {
     let plant = Plant::bench(rt.alloc())?;
     for failing in 0..=CALLS {
-        let (saved, disk) = run(&rt, rt.alloc(), &plant, failing)?;
-        assert!(rt; (saved == 3) == (failing == CALLS), "at {failing}");
-        for kept in 0..4 {
-            let crashed = disk.crashed(rt.alloc(), kept)?;
-            stands(&rt, rt.alloc(), &plant, crashed, saved);
-        }
+        stands_behind(&rt, rt.alloc(), &plant, failing)?;
     }
     Ok(())
 }
@@ -145,43 +200,32 @@ fn a_store_stands_for_a_state_whenever_it_is_stopped(rt: HostRuntime) -> Result<
 /// A place of a store's bytes, and the byte that is put there.
 type Change = (usize, u8);
 
-/// What comes of opening a disk.
-#[derive(Clone, Copy, Debug, PartialEq, Eq)]
-enum Opening {
-    /// A store, by the number of what it keeps.
-    Of(u64),
-    WrongSize(u64, u64),
-    Damaged(u8, u64),
-    Stopped,
-}
+/// Changes of a store's bytes, the call of their disk that fails, and what comes of opening it.
+type Row = (&'static [Change], u64, Opening);
 
-/// The bench plant's store after three saves: the first slot has number 3, the second number 2. Its changes, and what comes
-/// of opening it then.
-const OPENINGS: [(&[Change], Opening); 7] = [
-    (&[], Opening::Of(3)),
-    (&[(0, 2)], Opening::Of(2)),
-    (&[(0, 0), (262_811, 0)], Opening::Of(0)),
-    (&[(9, 33)], Opening::Damaged(0, 0)),
-    (&[(25, 77)], Opening::Damaged(0, 16)),
-    (&[(262_836, 77)], Opening::Of(3)),
-    (&[(0, 0), (262_836, 77)], Opening::Damaged(1, 16)),
+/// The bench plant's store after three saves: the first slot has number 3, the second number 2. It is opened by four calls.
+const OPENINGS: [Row; 11] = [
+    (&[], CALLS, Opening::Of(3)),
+    (&[(0, 2)], CALLS, Opening::Of(2)),
+    (&[(0, 0), (262_811, 0)], CALLS, Opening::Of(0)),
+    (&[(9, 33)], CALLS, Opening::Damaged(0, 0)),
+    (&[(25, 77)], CALLS, Opening::Damaged(0, 16)),
+    (&[(262_836, 77)], CALLS, Opening::Of(3)),
+    (&[(0, 0), (262_836, 77)], CALLS, Opening::Damaged(1, 16)),
+    (&[], 0, Opening::Stopped),
+    (&[], 1, Opening::Stopped),
+    (&[], 2, Opening::Stopped),
+    (&[], 3, Opening::Stopped),
 ];
 
-// What comes of opening a disk.
-fn what_comes(alloc: Global, plant: &Plant, disk: MemDisk) -> Opening {
-    match open_saved(alloc, plant, disk) {
-        Ok((store, _state)) => Opening::Of(store.number()),
-        Err(OpenFault::NoMemory(_) | OpenFault::Failed(_)) => Opening::Stopped,
-        Err(OpenFault::WrongSize { found, wanted, .. }) => Opening::WrongSize(found, wanted),
-        Err(OpenFault::Damaged { slot, place, .. }) => Opening::Damaged(slot, place),
-    }
-}
+/// A disk that is too short.
+const SHORT: Row = (&[], CALLS, Opening::WrongSize(10, 525_622));
 
 // A store whose number is 2^63 or more takes no state.
-fn is_full(rt: &impl Abort, alloc: Global, plant: &Plant, disk: MemDisk) -> bool {
+fn is_full<D: Disk + Drop>(alloc: Global, plant: &Plant, disk: D) -> bool {
     match open_saved(alloc, plant, disk) {
         Ok((store, state)) => matches!(store.save(&state), Err(SaveFault::Full(_))),
-        Err(_) => panic!(rt; "not opened"),
+        Err(_) => false,
     }
 }
 
@@ -201,25 +245,39 @@ fn changed(
     MemDisk::new(alloc, bytes, CALLS, 1_000_000, vec![in alloc; failing]?)
 }
 
+// A disk of these bytes is opened as its row says.
+fn is_opened(
+    rt: &impl Abort,
+    alloc: Global,
+    plant: &Plant,
+    bytes: &[u8],
+    row: &Row,
+) -> Result<(), AllocError> {
+    let (changes, failing, comes) = *row;
+    let disk = changed(rt, alloc, bytes, changes, failing)?;
+    assert!(rt; what_comes(alloc, plant, disk) == comes);
+    Ok(())
+}
+
+// So are all of these.
+fn are_opened(
+    rt: &impl Abort,
+    alloc: Global,
+    plant: &Plant,
+    bytes: &[u8],
+) -> Result<(), AllocError> {
+    is_opened(rt, alloc, plant, &[0; 10], &SHORT)?;
+    for row in &OPENINGS {
+        is_opened(rt, alloc, plant, bytes, row)?;
+    }
+    let last = changed(rt, alloc, bytes, &[(8, 128)], CALLS)?;
+    assert!(rt; is_full(alloc, plant, last));
+    Ok(())
+}
+
 #[test]
 fn a_disk_is_opened_as_what_it_is(rt: HostRuntime) -> Result<(), Fail> {
     let plant = Plant::bench(rt.alloc())?;
     let (_saved, disk) = run(&rt, rt.alloc(), &plant, CALLS)?;
-    for (changes, comes) in OPENINGS {
-        let disk = changed(&rt, rt.alloc(), disk.bytes(), changes, CALLS)?;
-        assert!(rt; what_comes(rt.alloc(), &plant, disk) == comes);
-    }
-
-    let short = changed(&rt, rt.alloc(), &[0; 10], &[], CALLS)?;
-    assert!(rt; what_comes(rt.alloc(), &plant, short) == Opening::WrongSize(10, 525_622));
-
-    let last = changed(&rt, rt.alloc(), disk.bytes(), &[(8, 128)], CALLS)?;
-    assert!(rt; is_full(&rt, rt.alloc(), &plant, last));
-
-    // It takes four calls, each of which may fail.
-    for failing in 0..4 {
-        let disk = changed(&rt, rt.alloc(), disk.bytes(), &[], failing)?;
-        assert!(rt; what_comes(rt.alloc(), &plant, disk) == Opening::Stopped);
-    }
-    Ok(())
+    Ok(are_opened(&rt, rt.alloc(), &plant, disk.bytes())?)
 }

@@ -1,13 +1,13 @@
 //! What no clause of `standby` says: that it works at the edges of its window, and over many orders.
 
 ghost use Rattle.std.specs.Prelude.{◌≤◌};
-ghost use Rattle.plant_core.specs.Answer.{room_of};
 
-use history_lock::{Machine, OutBox};
+use crate::of_plant_core::Rig;
+use history_lock::Machine;
 use plant_config::{DestId, PanelNo, Plant};
-use plant_core::{Answer, PlantState, Request};
+use plant_core::{PlantState, Request};
 use standby::{Standby, Took};
-use std::alloc::Global;
+use std::alloc::{AllocError, Global};
 use std::process::Abort;
 use std::test::Fail;
 use swp08_messages::{Message, Point};
@@ -63,35 +63,51 @@ const OF_MOST: [(u32, Took); 5] = [
     (65_537, Took::Beyond(65_537)),
 ];
 
-// A new standby with so many places answers these so.
-fn are_taken(rt: &impl Abort, alloc: Global, window: u32, row: &[(u32, Took)]) -> Result<(), Fail>
+// A standby answers these so.
+fn are_taken(rt: &impl Abort, standby: &mut Standby, row: &[(u32, Took)]) {
+    for (position, took) in row {
+        assert!(rt; take(rt, standby, *position) == *took);
+    }
+}
+
+// So does a new one with so many places.
+fn are_taken_first(
+    rt: &impl Abort,
+    alloc: Global,
+    plant: &Plant,
+    window: u32,
+    row: &[(u32, Took)],
+) -> Result<(), AllocError>
     requires some { 1 ≤ window }
     requires most { window ≤ 65536 }
 {
-    let plant = Plant::bench(alloc)?;
-    let mut standby = Standby::start(alloc, &plant, window)?;
-    for (position, took) in row {
-        assert!(rt; take(rt, &mut standby, *position) == *took, "at {position}");
-    }
+    let mut standby = Standby::start(alloc, plant, window)?;
+    are_taken(rt, &mut standby, row);
     Ok(())
 }
 
 #[test]
 fn windows_end_where_they_end(rt: HostRuntime) -> Result<(), Fail> {
-    are_taken(&rt, rt.alloc(), 1, &OF_ONE)?;
-    are_taken(&rt, rt.alloc(), 2, &OF_TWO)?;
-    are_taken(&rt, rt.alloc(), 65_536, &OF_MOST)
+    let plant = Plant::bench(rt.alloc())?;
+    are_taken_first(&rt, rt.alloc(), &plant, 1, &OF_ONE)?;
+    are_taken_first(&rt, rt.alloc(), &plant, 2, &OF_TWO)?;
+    Ok(are_taken_first(&rt, rt.alloc(), &plant, 65_536, &OF_MOST)?)
 }
 
 // Another request at a position that is kept, and the same at one that was applied.
-#[test]
-fn another_request_differs(rt: HostRuntime) -> Result<(), Fail> {
-    let mut standby = Standby::start(rt.alloc(), &Plant::bench(rt.alloc())?, 4)?;
+fn is_another(rt: &impl Abort, standby: &mut Standby) {
     let other = request_at(2);
-    assert!(rt; take(&rt, &mut standby, 1) == Took::Kept);
+    assert!(rt; take(rt, standby, 1) == Took::Kept);
     assert!(rt; standby.state().fits(&other));
     assert!(rt; standby.take(1, &other) == Took::Differs);
     assert!(rt; standby.kept() == 1 && standby.applied() == 0);
+}
+
+#[test]
+fn another_request_differs(rt: HostRuntime) -> Result<(), Fail> {
+    let plant = Plant::bench(rt.alloc())?;
+    let mut standby = Standby::start(rt.alloc(), &plant, 4)?;
+    is_another(&rt, &mut standby);
     Ok(())
 }
 
@@ -110,40 +126,64 @@ fn take_many(rt: &impl Abort, standby: &mut Standby, first: u64) {
     }
 }
 
+/// What the 8 destinations carry.
+type Sources = [Option<u32>; 8];
+
+// What they carry in a state.
+fn carried(state: &PlantState) -> Sources {
+    let mut sources = [None; 8];
+    for dest in 0..8_u32 {
+        if let Some(source) = state.source_at(DestId::of(dest)) {
+            sources[dest as usize] = Some(source.get());
+        }
+    }
+    sources
+}
+
+// How many requests a standby applied, and what its destinations carry.
+fn reached(standby: &Standby) -> (u32, Sources) {
+    (
+        standby.applied().min(1_000) as u32,
+        carried(standby.state()),
+    )
+}
+
+// What a new standby reaches to which the requests of one order come.
+fn follow(
+    rt: &impl Abort,
+    alloc: Global,
+    plant: &Plant,
+    number: u64,
+) -> Result<(u32, Sources), AllocError> {
+    let mut standby = Standby::start(alloc, plant, 10)?;
+    take_many(rt, &mut standby, number);
+    Ok(reached(&standby))
+}
+
 // A plant is stepped by the first so many requests.
-fn step_all(rt: &impl Abort, state: &mut PlantState, out: &mut OutBox<Answer>, count: u32)
-    requires { room_of state.old.plant ≤ out.old.places }
-{
+fn ask_all(rt: &impl Abort, rig: &mut Rig, count: u32) {
     for position in 0..count {
-        let request = request_at(position);
-        assert!(rt; state.fits(&request));
-        out.clear();
-        state.step(&request, out);
+        rig.ask(rt, &request_at(position));
     }
 }
 
-// It carries the same as a standby.
-fn carries_the_same(rt: &impl Abort, state: &PlantState, standby: &Standby) {
-    for dest in 0..8 {
-        let dest = DestId::of(dest);
-        assert!(rt; state.source_at(dest) == standby.state().source_at(dest));
-    }
+// What a plant carries after the first so many requests.
+fn step(rt: &impl Abort, alloc: Global, plant: &Plant, count: u32) -> Result<Sources, AllocError> {
+    let mut rig = Rig::of(alloc, plant)?;
+    ask_all(rt, &mut rig, count);
+    Ok(carried(&rig.state))
 }
 
 // One order.
-fn is_followed(rt: &impl Abort, alloc: Global, plant: &Plant, number: u64) -> Result<(), Fail> {
-    let mut out = OutBox::new(alloc, PlantState::room_of(plant))?;
-    let mut standby = Standby::start(alloc, plant, 10)?;
-    take_many(rt, &mut standby, number);
-    assert!(rt; standby.applied() > 20);
-    let mut state = PlantState::start(alloc, plant)?;
-    step_all(
-        rt,
-        &mut state,
-        &mut out,
-        standby.applied().min(1_000) as u32,
-    );
-    carries_the_same(rt, &state, &standby);
+fn is_followed(
+    rt: &impl Abort,
+    alloc: Global,
+    plant: &Plant,
+    number: u64,
+) -> Result<(), AllocError> {
+    let (applied, sources) = follow(rt, alloc, plant, number)?;
+    let stepped = step(rt, alloc, plant, applied)?;
+    assert!(rt; applied > 20 && stepped == sources);
     Ok(())
 }
 

@@ -1,5 +1,7 @@
 //! `crosspoint_state` in use.
 
+ghost use Rattle.crosspoint_state.specs.Taps.{ArePointsOf};
+
 use crosspoint_state::{Crosspoints, Spot};
 use plant_config::{Change, DestId, Plant, SourceId, TieNo};
 use std::alloc::{AllocError, Global};
@@ -7,9 +9,10 @@ use std::process::Abort;
 use std::test::Fail;
 
 // Two destinations are given a camera, and one of them is parked.
-fn are_carried(rt: &impl Abort, alloc: Global, plant: &Plant) -> Result<(), AllocError> {
+fn are_carried(rt: &impl Abort, plant: &Plant, crosspoints: &mut Crosspoints)
+    requires { ArePointsOf plant.now crosspoints.old }
+{
     assert!(rt; 7 < plant.destination_count());
-    let mut crosspoints = Crosspoints::new(alloc, plant)?;
     let (fourth, seventh) = (DestId::of(4), DestId::of(7));
     let camera = SourceId::of(20);
     assert!(rt; crosspoints.source_at(fourth) == None);
@@ -32,11 +35,16 @@ fn are_carried(rt: &impl Abort, alloc: Global, plant: &Plant) -> Result<(), Allo
     assert!(rt; crosspoints.source_at(seventh) == Some(camera));
     assert!(rt; crosspoints.taps().head_of(4) == None);
     assert!(rt; crosspoints.taps().head_of(7) == Some(20));
+}
+
+// So it is from the start on.
+fn are_carried_first(rt: &impl Abort, alloc: Global, plant: &Plant) -> Result<(), AllocError> {
+    are_carried(rt, plant, &mut Crosspoints::new(alloc, plant)?);
     Ok(())
 }
 
 #[test]
 fn a_destination_carries_what_it_was_given(rt: HostRuntime) -> Result<(), Fail> {
     let plant = Plant::bench(rt.alloc())?;
-    Ok(are_carried(&rt, rt.alloc(), &plant)?)
+    Ok(are_carried_first(&rt, rt.alloc(), &plant)?)
 }

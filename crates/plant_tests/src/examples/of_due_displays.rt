@@ -49,9 +49,11 @@ fn all(alloc: Global, plant: &Plant) -> Result<DueDisplays, AllocError>
 }
 
 // They are told, and those that watch destination 0 are due again.
-fn are_due(rt: &impl Abort, alloc: Global, plant: &Plant) -> Result<(), AllocError> {
+fn are_due(rt: &impl Abort, plant: &Plant, due: &mut DueDisplays)
+    requires plant { IsPlant plant.now }
+    requires due { AreDueOf plant.now due.old }
+{
     assert!(rt; plant.displays().len() == 3);
-    let mut due = all(alloc, plant)?;
     assert!(rt; due.first(3) == Some(0));
 
     due.remove(plant, DisplayId::of(1));
@@ -64,11 +66,18 @@ fn are_due(rt: &impl Abort, alloc: Global, plant: &Plant) -> Result<(), AllocErr
     assert!(rt; due.first(3) == Some(1));
     assert!(rt; due.first(4) == Some(0));
     assert!(rt; due.first(5) == None);
+}
+
+// So it is from the start on.
+fn are_due_first(rt: &impl Abort, alloc: Global, plant: &Plant) -> Result<(), AllocError>
+    requires { IsPlant plant.now }
+{
+    are_due(rt, plant, &mut all(alloc, plant)?);
     Ok(())
 }
 
 #[test]
 fn a_destination_leads_to_the_displays_that_watch_it(rt: HostRuntime) -> Result<(), Fail> {
     let plant = Plant::from_toml(rt.alloc(), MONITORS)?;
-    Ok(are_due(&rt, rt.alloc(), &plant)?)
+    Ok(are_due_first(&rt, rt.alloc(), &plant)?)
 }

@@ -4,7 +4,7 @@ ghost use Rattle.std.specs.Prelude.{◌≡◌, IfOk, length};
 ghost use Rattle.ctl_io.specs.MemDisk.{stored_by};
 ghost use Rattle.plant_snapshot.specs.StandsFor.{store_size};
 
-use ctl_io::MemDisk;
+use ctl_io::{Disk, MemDisk};
 use plant_config::Plant;
 use plant_snapshot::{format_store, open_saved, store_size};
 use std::alloc::{AllocError, Global};
@@ -19,27 +19,43 @@ fn new_disk(alloc: Global, plant: &Plant) -> Result<MemDisk, AllocError>
 }
 
 // Makes a disk a plant's store, and saves the state in it.
-fn save_once(alloc: Global, plant: &Plant, disk: MemDisk) -> Option<MemDisk>
-    requires { length (stored_by disk).present ≡ store_size plant.now }
+fn save_once<D: Disk + Drop>(alloc: Global, plant: &Plant, disk: D) -> Option<D>
+    requires { D.size disk ≡ store_size plant.now }
 {
-    let disk = format_store(plant, disk).ok()?;
-    let (store, state) = open_saved(alloc, plant, disk).ok()?;
-    let store = store.save(&state).ok()?;
-    Some(store.into_disk())
+    let Ok(disk) = format_store(plant, disk) else {
+        return None;
+    };
+    let Ok((store, state)) = open_saved(alloc, plant, disk) else {
+        return None;
+    };
+    match store.save(&state) {
+        Ok(store) => Some(store.into_disk()),
+        Err(_) => None,
+    }
 }
 
 // The number of the state that is kept on a disk.
-fn number_on(alloc: Global, plant: &Plant, disk: MemDisk) -> Option<u64> {
-    let (store, _state) = open_saved(alloc, plant, disk).ok()?;
-    Some(store.number())
+fn number_on<D: Disk + Drop>(alloc: Global, plant: &Plant, disk: D) -> Option<u64> {
+    match open_saved(alloc, plant, disk) {
+        Ok((store, _state)) => Some(store.number()),
+        Err(_) => None,
+    }
+}
+
+// The number of what is kept once a state was saved and a crash came.
+fn number_kept(alloc: Global, plant: &Plant) -> Result<Option<u64>, AllocError> {
+    let disk = new_disk(alloc, plant)?;
+    let Some(disk) = save_once(alloc, plant, disk) else {
+        return Ok(None);
+    };
+    let crashed = disk.crashed(alloc, 0)?;
+    Ok(number_on(alloc, plant, crashed))
 }
 
 #[test]
 fn a_saved_state_outlasts_a_crash(rt: HostRuntime) -> Result<(), Fail> {
     let plant = Plant::bench(rt.alloc())?;
-    let disk = new_disk(rt.alloc(), &plant)?;
-    let disk = save_once(rt.alloc(), &plant, disk).ok_or("not saved")?;
-    let crashed = disk.crashed(rt.alloc(), 0)?;
-    assert!(rt; number_on(rt.alloc(), &plant, crashed) == Some(1));
+    let number = number_kept(rt.alloc(), &plant)?;
+    assert!(rt; number == Some(1));
     Ok(())
 }

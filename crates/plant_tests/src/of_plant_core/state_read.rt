@@ -1,10 +1,12 @@
 //! A state is read from its text and from texts that differ from it in some bytes: what the rules say of each is worked
 //! out by hand.
 
-use super::Act::{Connects, Leaves, Protects, Stores};
-use super::displays::shows;
-use super::state_text::{Deed, are_done, text_of};
-use super::{Rig, plant_of};
+ghost use Rattle.std.specs.Prelude.{◌≡◌, length};
+ghost use Rattle.plant_core.specs.StateText.{state_size};
+
+use super::Act::{Connects, Leaves, PollsScreen, Protects, Stores};
+use super::plant_of;
+use super::state_text::{Deed, text_of, written};
 use plant_config::Plant;
 use plant_core::{PlantState, StateFault, state_size};
 use std::alloc::{AllocError, Global};
@@ -31,14 +33,14 @@ panel = [{ device = 1, port = 9001 }, { device = 2, port = 9002 }]
 
 /// Destinations 1 and 2 carry source 3, device 1 protects destination 1, group 1 has a change of destination 3, and panel 1
 /// has notices. Panel 0 leaves behind the poll of the display.
-const DEEDS: [Deed; 4] = [
+const DEEDS: [Deed; 6] = [
     (0, 0, Connects(Some(1))),
     (0, 1, Connects(Some(1))),
     (0, 0, Protects),
     (0, 2, Stores(Some(0), 1)),
+    (0, 0, PollsScreen),
+    (0, 0, Leaves),
 ];
-
-const LEAVING: [Deed; 1] = [(0, 0, Leaves)];
 
 /// A place of the text, the bytes that are put there in place of others, and the place of the first field that then breaks a
 /// rule.
@@ -127,11 +129,23 @@ fn changed(rt: &impl Abort, alloc: Global, text: &[u8], row: &Row) -> Result<Vec
     Ok(changed)
 }
 
-// The fault of a place.
-fn fault_at(place: Option<usize>) -> Option<StateFault> {
-    match place {
-        Some(place) => Some(StateFault::Damaged(place)),
-        None => None,
+// A text as it is read and written again.
+fn read_again(alloc: Global, plant: &Plant, text: &[u8]) -> Result<Vec<u8>, StateFault>
+    requires { length text.now ≡ state_size plant.now }
+{
+    let state = PlantState::read_state(alloc, plant, text)?;
+    match text_of(alloc, plant, &state) {
+        Ok(text) => Ok(text),
+        Err(_) => Err(StateFault::NoMemory),
+    }
+}
+
+// Whether a text is the same when it is read and written again, or refused at this place.
+fn is_told(again: &Result<Vec<u8>, StateFault>, text: &[u8], fault: Option<usize>) -> bool {
+    match (again, fault) {
+        (Ok(again), None) => again.as_slice() == text,
+        (Err(StateFault::Damaged(place)), Some(at)) => *place == at,
+        _ => false,
     }
 }
 
@@ -146,30 +160,14 @@ fn is_read(
     let (_, _, fault) = *row;
     let text = changed(rt, alloc, text, row)?;
     assert!(rt; text.len() == state_size(plant));
-    match PlantState::read_state(alloc, plant, &text) {
-        Ok(state) => {
-            assert!(rt; fault.is_none());
-            let again = text_of(alloc, plant, &state)?;
-            assert!(rt; again.as_slice() == text.as_slice());
-        }
-        Err(other) => assert!(rt; fault_at(fault) == Some(other)),
-    }
+    assert!(rt; is_told(&read_again(alloc, plant, &text), &text, fault));
     Ok(())
-}
-
-// The text of the plant after all deeds.
-fn written(rt: &impl Abort, alloc: Global, plant: &Plant) -> Result<Vec<u8>, AllocError> {
-    let mut rig = Rig::of(alloc, plant)?;
-    are_done(rt, &mut rig, 1, &DEEDS);
-    rig.ask(rt, &shows(false));
-    are_done(rt, &mut rig, 1, &LEAVING);
-    text_of(alloc, plant, &rig.state)
 }
 
 #[test]
 fn a_text_is_read_as_its_state(rt: HostRuntime) -> Result<(), Fail> {
     let plant = plant_of(rt.alloc(), Some(PLACES))?;
-    let text = written(&rt, rt.alloc(), &plant)?;
+    let text = written(&rt, rt.alloc(), &plant, 1, &DEEDS)?;
     for row in &ROWS {
         is_read(&rt, rt.alloc(), &plant, &text, row)?;
     }

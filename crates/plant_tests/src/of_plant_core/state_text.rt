@@ -45,7 +45,7 @@ const TIES_PARTS: [Part; 2] = [
 ];
 
 // What is done, one after the other.
-pub(super) fn are_done(rt: &impl Abort, rig: &mut Rig, matrix: u8, deeds: &[Deed])
+fn are_done(rt: &impl Abort, rig: &mut Rig, matrix: u8, deeds: &[Deed])
     ensures { rig.new.state.plant ≡ rig.old.state.plant }
 {
     for (panel, dest, act) in deeds {
@@ -71,11 +71,31 @@ pub(super) fn text_of(
     Ok(text)
 }
 
+// The text of a plant after these deeds.
+pub(super) fn written(
+    rt: &impl Abort,
+    alloc: Global,
+    plant: &Plant,
+    matrix: u8,
+    deeds: &[Deed],
+) -> Result<Vec<u8>, AllocError> {
+    let mut rig = Rig::of(alloc, plant)?;
+    are_done(rt, &mut rig, matrix, deeds);
+    text_of(alloc, plant, &rig.state)
+}
+
 // The text has these bytes at their place.
 fn has(rt: &impl Abort, text: &[u8], part: &Part) {
     let (place, bytes) = *part;
     assert!(rt; place <= text.len());
     assert!(rt; text[place..].starts_with(bytes));
+}
+
+// The text has these parts.
+fn has_parts(rt: &impl Abort, text: &[u8], parts: &[Part]) {
+    for part in parts {
+        has(rt, text, part);
+    }
 }
 
 // After these deeds on a plant the text has these parts.
@@ -87,13 +107,9 @@ fn is_written(
     deeds: &[Deed],
     parts: &[Part],
 ) -> Result<(), AllocError> {
-    let mut rig = Rig::of(alloc, plant)?;
-    are_done(rt, &mut rig, matrix, deeds);
-    let text = text_of(alloc, plant, &rig.state)?;
+    let text = written(rt, alloc, plant, matrix, deeds)?;
     assert!(rt; text.len() == state_size(plant));
-    for part in parts {
-        has(rt, &text, part);
-    }
+    has_parts(rt, &text, parts);
     Ok(())
 }
 
