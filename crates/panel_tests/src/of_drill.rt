@@ -1,13 +1,24 @@
-//! Drills.
+//! Drills, and a standby that follows the trace of one.
+
+ghost use Rattle.std.specs.Prelude.{◌≤◌};
+ghost use Rattle.plant_core.specs.Answer.{room_of};
 
 use crate::examples::of_drill::drill_of_two;
 use crate::holding_gate::HoldingGate;
 use ctl_net::OpenGate;
+use drill::run_drill;
+use history_lock::{Machine, OutBox};
+use line_text::split_line;
+use plant_config::{DestId, Plant};
+use plant_core::{Answer, PlantState, Request};
+use standby::{Standby, Took};
 use std::alloc::{AllocError, Global};
+use std::process::Abort;
 use std::sync::Wait;
 use std::test::Fail;
 use std::thread::Threads;
 use trace_audit::{Verdict, audit};
+use trace_lines::trace_request;
 
 #[test]
 fn the_trace_of_a_drill_is_confirmed(rt: HostRuntime) -> Result<(), Fail> {
@@ -34,5 +45,82 @@ fn is_done<R: Threads + Wait + Sync>(
 fn sessions_run_at_the_same_time(rt: HostRuntime) -> Result<(), Fail> {
     assert!(rt; is_done(&rt, rt.alloc(), 0, 1)?);
     assert!(rt; is_done(&rt, rt.alloc(), 1, 0)?);
+    Ok(())
+}
+
+// What a line of a trace tells: a request, and its position.
+type Told = (u64, Request);
+
+// What the lines of a trace tell, in the order in which they stand.
+fn told_by(alloc: Global, plant: &Plant, trace: &[u8]) -> Result<Vec<Told>, AllocError> {
+    let mut all = Vec::new(alloc);
+    let mut rest = trace;
+    for _line in 0..trace.len() {
+        if rest.is_empty() {
+            return Ok(all);
+        }
+        let (line, after) = split_line(rest);
+        if let Some(told) = trace_request(plant, line) {
+            all.push(told)?;
+        }
+        rest = after;
+    }
+    Ok(all)
+}
+
+// A block comes to a standby from its end to its start: each is kept or applied.
+fn take_back(rt: &impl Abort, standby: &mut Standby, block: &[Told]) {
+    for (position, request) in block.iter().rev() {
+        assert!(rt; *position < 1 << 62 && standby.state().fits(request));
+        let took = standby.take(*position, request);
+        assert!(rt; matches!(took, Took::Kept | Took::Applied(_)));
+    }
+}
+
+// A plant is stepped by each, in their order.
+fn step_all(rt: &impl Abort, state: &mut PlantState, out: &mut OutBox<Answer>, all: &[Told])
+    requires { room_of state.old.plant ≤ out.old.places }
+{
+    for (_position, request) in all {
+        assert!(rt; state.fits(request));
+        out.clear();
+        state.step(request, out);
+    }
+}
+
+// What a plant carries by them in the order of their positions.
+fn stepped(
+    rt: &impl Abort,
+    alloc: Global,
+    plant: &Plant,
+    all: &[Told],
+) -> Result<PlantState, Fail> {
+    let mut out = OutBox::new(alloc, PlantState::room_of(plant))?;
+    let mut state = PlantState::start(alloc, plant)?;
+    step_all(rt, &mut state, &mut out, all);
+    Ok(state)
+}
+
+// A standby has the same at each destination.
+fn carries_the_same(rt: &impl Abort, plant: &Plant, state: &PlantState, standby: &Standby) {
+    for dest in 0..plant.destination_count() {
+        let dest = DestId::of(dest);
+        assert!(rt; state.source_at(dest) == standby.state().source_at(dest));
+    }
+}
+
+#[test]
+fn blocks_may_come_backwards(rt: HostRuntime) -> Result<(), Fail> {
+    let drilled = run_drill(&rt, rt.alloc(), &OpenGate, 7, 2, 2000)?;
+    let mut all = told_by(rt.alloc(), &drilled.plant, drilled.trace.as_slice())?;
+    let mut standby = Standby::start(rt.alloc(), &drilled.plant, 65_536)?;
+    for block in all.chunks(100) {
+        take_back(&rt, &mut standby, block);
+    }
+    assert!(rt; standby.applied() == all.len() as u64 && standby.kept() == 0);
+
+    all.sort_unstable_by_key(|told| told.0);
+    let state = stepped(&rt, rt.alloc(), &drilled.plant, &all)?;
+    carries_the_same(&rt, &drilled.plant, &state, &standby);
     Ok(())
 }

@@ -1,5 +1,6 @@
 //! Scripts, and what they give.
 
+mod kept;
 mod notices;
 mod streams;
 

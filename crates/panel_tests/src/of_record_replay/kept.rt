@@ -1,0 +1,115 @@
+//! A replay that keeps its states, stopped at each call of its disk.
+
+ghost use Rattle.std.specs.Prelude.{◌≡◌, ◌≤◌, IfOk, length};
+ghost use Rattle.ctl_io.specs.MemDisk.{stored_by};
+ghost use Rattle.plant_snapshot.specs.StandsFor.{store_size};
+
+use ctl_io::{Disk, MemDisk, MemSink};
+use plant_config::{DestId, Plant};
+use plant_names::Names;
+use plant_snapshot::{OpenFault, SaveFault, format_store, open_saved, store_size};
+use record_replay::{KeptFault, replay_kept};
+use std::alloc::{AllocError, Global};
+use std::process::Abort;
+use std::test::Fail;
+
+// The work of this number, from 1, connects destination 5 to the source of this number.
+const SCRIPT: &[u8] = b"> 0 10 02 02 00 00 05 01 05 F3 10 03\n\n\
+> 0 10 02 02 00 00 05 02 05 F2 10 03\n> 0 10 02 02 00 00 05 03 05 F1 10 03\n";
+
+const TOLD: &[u8] = b"< 0 10061002040000050105F11003\n\
+< 0 10061002040000050205F01003\n< 0 10061002040000050305EF1003\n";
+
+// How many bytes a line of it has.
+const LINE: usize = 31;
+
+// How many calls format a disk, open it and save three states: 3, 3, 4, 4 and 6.
+const CALLS: u64 = 20;
+
+// A disk of the size of a plant's store, whose call of this number fails.
+fn new_disk(alloc: Global, plant: &Plant, failing: u64) -> Result<MemDisk, AllocError>
+    ensures { IfOk result (λ disk. length (stored_by disk).present ≡ store_size plant.now) }
+{
+    let bytes = vec![in alloc; 0; store_size(plant) as usize]?;
+    MemDisk::new(alloc, bytes, CALLS, 1_000_000, vec![in alloc; failing]?)
+}
+
+// Keeps the script on a disk that is made a store first. The disk, however far that came.
+fn keep<D: Disk>(alloc: Global, plant: &Plant, names: &Names, disk: D, out: &mut MemSink) -> D
+    requires names { names.now ≡ plant.now }
+    requires size { store_size plant.now ≤ D.size disk }
+{
+    let disk = match format_store(plant, disk) {
+        Ok(disk) => disk,
+        Err(SaveFault::Failed(disk)) => return disk,
+        Err(SaveFault::Full(store)) => return store.into_disk(),
+    };
+    let (store, state) = match open_saved(alloc, plant, disk) {
+        Ok(opened) => opened,
+        Err(OpenFault::NoMemory(disk) | OpenFault::Failed(disk)) => return disk,
+        Err(OpenFault::WrongSize { disk, .. } | OpenFault::Damaged { disk, .. }) => return disk,
+    };
+    let mut state = state;
+    match replay_kept(alloc, plant, names, &mut state, store, SCRIPT, out) {
+        Ok(store) | Err(KeptFault::OutputFault(store)) => store.into_disk(),
+        Err(KeptFault::NoMemory(store) | KeptFault::BadLine(_, store)) => store.into_disk(),
+        Err(KeptFault::Full(store)) => store.into_disk(),
+        Err(KeptFault::Failed(disk)) => disk,
+    }
+}
+
+// The same on a new disk, whose call of this number fails.
+fn run(
+    alloc: Global,
+    plant: &Plant,
+    failing: u64,
+    out: &mut MemSink,
+) -> Result<MemDisk, AllocError> {
+    let names = Names::new(alloc, plant)?;
+    let disk = new_disk(alloc, plant, failing)?;
+    Ok(keep(alloc, plant, &names, disk, out))
+}
+
+// A disk's store stands for the state behind so many works, or behind one more.
+fn stands(rt: &impl Abort, alloc: Global, plant: &Plant, disk: MemDisk, works: u64) {
+    match open_saved(alloc, plant, disk) {
+        Ok((store, state)) => {
+            let number = store.number();
+            assert!(rt;
+                number == works || number.checked_sub(1) == Some(works),
+                "{number}"
+            );
+            let source = state.source_at(DestId::of(5));
+            assert!(rt; source.map_or(0, |source| source.get()) as u64 == number);
+        }
+        Err(_) => panic!(rt; "not opened"),
+    }
+}
+
+// Whatever a crash leaves of a disk's last writes, it stands so.
+fn outlasts_crashes(
+    rt: &impl Abort,
+    alloc: Global,
+    plant: &Plant,
+    disk: &MemDisk,
+    works: u64,
+) -> Result<(), AllocError> {
+    for kept in 0..4 {
+        stands(rt, alloc, plant, disk.crashed(alloc, kept)?, works);
+    }
+    Ok(())
+}
+
+#[test]
+fn a_line_is_written_behind_its_save(rt: HostRuntime) -> Result<(), Fail> {
+    let plant = Plant::bench(rt.alloc())?;
+    for failing in 0..=CALLS {
+        let mut out = MemSink::new(rt.alloc(), 100, Vec::new(rt.alloc()))?;
+        let disk = run(rt.alloc(), &plant, failing, &mut out)?;
+        assert!(rt; TOLD.starts_with(out.written()), "at {failing}");
+        let lines = out.written().len() / LINE;
+        assert!(rt; (lines == 3) == (failing == CALLS), "at {failing}");
+        outlasts_crashes(&rt, rt.alloc(), &plant, &disk, lines as u64)?;
+    }
+    Ok(())
+}
