@@ -185,7 +185,7 @@ const COUNTS: [(usize, u8, &str); 2] = [
     (
         201,
         2,
-        "usage: plantctl check PLANT, replay PLANT SCRIPT, audit PLANT TRACE.., serve PLANT [PREFIX], drill NUMBER PANELS MESSAGES, stream PLANT SCRIPT OUT, monitor FILE\n",
+        "usage: plantctl check PLANT, replay PLANT SCRIPT, audit PLANT TRACE.., serve PLANT [PREFIX], drill NUMBER PANELS MESSAGES, stream PLANT SCRIPT OUT, monitor FILE, format PLANT STORE, keep PLANT STORE SCRIPT, standby PLANT TRACE.., drive NUMBER WANTS\n",
     ),
 ];
 

@@ -4,7 +4,7 @@ use super::{NOTHING, Run, ends_so, first_wrong};
 use std::test::Fail;
 
 const USAGE: &str =
-    "usage: plantctl check PLANT, replay PLANT SCRIPT, audit PLANT TRACE.., serve PLANT [PREFIX], drill NUMBER PANELS MESSAGES, stream PLANT SCRIPT OUT, monitor FILE\n";
+    "usage: plantctl check PLANT, replay PLANT SCRIPT, audit PLANT TRACE.., serve PLANT [PREFIX], drill NUMBER PANELS MESSAGES, stream PLANT SCRIPT OUT, monitor FILE, format PLANT STORE, keep PLANT STORE SCRIPT, standby PLANT TRACE.., drive NUMBER WANTS\n";
 
 // Words with a form, and what a run over no files comes to.
 const FORMED: [Run; 7] = [
@@ -28,7 +28,7 @@ const FORMED: [Run; 7] = [
 ];
 
 // Words without one.
-const UNFORMED: [&[&str]; 44] = [
+const UNFORMED: [&[&str]; 53] = [
     &[],
     &["help"],
     &["--version"],
@@ -74,6 +74,15 @@ const UNFORMED: [&[&str]; 44] = [
     &["stream", "bench", "script", ""],
     &["stream", "bench", "script", "-made"],
     &["stream", "bench", "script", "made", "made"],
+    &["standby"],
+    &["standby", "bench"],
+    &["standby", "bench", ""],
+    &["drive"],
+    &["drive", "0"],
+    &["drive", "0", "0"],
+    &["drive", "0", "100001"],
+    &["drive", "4294967296", "1"],
+    &["drive", "0", "32", "1"],
 ];
 
 #[test]
