@@ -50,6 +50,8 @@ impl Framer {
     /// Takes the next piece of the stream up to the end of the first item that ends in it. It answers how many bytes it
     /// used, and that item, whose DATA are lent until the framer is used again. The item is None where none ends in the
     /// piece, and then all of it was used. It refuses nothing and takes no memory.
+    // It has several callers, and a session asks it of each piece: so it is made part of each of them.
+    #[inline(always)]
     pub fn feed(&mut self, piece: &[u8]) -> (usize, Option<Item<&[u8]>>)
         ensures* stands { sem 𝓛 (EndsOver self.entry (take result.0 piece.now)) }
         ensures within { result.0 ≤ length piece.now }
