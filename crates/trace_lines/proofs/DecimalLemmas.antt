@@ -21,7 +21,7 @@ own = numerals_by_value AreDigits (record {
   more = λ byte more digit each. All-cons IsDigit byte more digit each;
 })
 
--- A number of a trace has few digits.
+-- A number of a trace is one of 64 bits.
 small : (number : ℕ) → number ≤ trace_limit → number < 2 ^ 64
 small number most = omega arith
 
@@ -30,16 +30,9 @@ number_found text number digits plain most =
     let fits : digits_value 10 text < 2 ^ 64 = omega (arith, digits.number_is) in
     record { text_is = sym (ap decimal digits.number_is ∙ decimal-digits_value own text digits.each digits.some plain fits); most = most }
 
--- Digits spell one number.
-pub number_once : (text : List ℕ) (number other : ℕ) → SpellsDecimal text number → IsNumber text other → number ≡ other
-number_once text number other digits is =
-    digits.number_is ∙ ap (digits_value 10) is.text_is ∙ digits_value-decimal own other (small other is.most)
-
-pub no_number-long : (text : List ℕ) → 19 < length text → (number : ℕ) → IsNumber text number → ⊥
-no_number-long text many number is =
-    let few : length (decimal number) ≤ 19 = length-decimal-le 19 number (omega arith) (omega (arith, is.most)) (small number is.most) in
-    let same = ap length is.text_is in
-    absurd (omega (arith, few, same))
+-- A number of a trace has few digits.
+pub few_of_number : (number : ℕ) → number ≤ trace_limit → length (decimal number) ≤ 19
+few_of_number number most = length-decimal-le 19 number (omega arith) (omega (arith, most)) (small number most)
 
 pub no_number-zero : (text : List ℕ) → get_or text 0 0 ≡ 48 → 1 < length text → (number : ℕ) → IsNumber text number → ⊥
 no_number-zero text zero more number is =
@@ -59,9 +52,6 @@ spelled text number is =
       each = subst AreDigits (sym is.text_is) (digits_decimal own number (small number is.most));
       number_is = sym (ap (digits_value 10) is.text_is ∙ digits_value-decimal own number (small number is.most));
     }
-
-pub no_number-large : (text : List ℕ) (found : ℕ) → SpellsDecimal text found → trace_limit < found → (number : ℕ) → IsNumber text number → ⊥
-no_number-large text found digits large number is = let same = number_once text found number digits is in absurd (omega (arith, same, is.most))
 
 -- the digits of a number of a trace
 pub digits_of_number : (number : ℕ) → number ≤ trace_limit → AreDigits (decimal number)

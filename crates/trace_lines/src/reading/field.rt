@@ -5,9 +5,9 @@ ghost use Rattle.std.specs.Option.{IsSomeAnd};
 ghost use Rattle.swp08_messages.specs.declared.message.Message.{Message};
 ghost use Rattle.trace_lines.specs.LineInside.{BeginsWithNumber, BeginsWithMessage};
 
-use crate::reading::hexadecimal::message_of;
-use crate::reading::number::number_of;
-use line_text::{SPACE, split_at};
+use crate::reading::hexadecimal::{hex_at, message_of};
+use crate::reading::number::{digits_at, number_of};
+use line_text::SPACE;
 use swp08_messages::Message;
 
 // What stands behind this front of a text, `None` where the text has another front.
@@ -25,9 +25,15 @@ pub(crate) fn read_number(text: &[u8]) -> Option<(u64, &[u8])>
     ensures only { (number : ℕ) (behind : List ℕ) → BeginsWithNumber text.now number behind
         → IsSomeAnd result (λ found. (found.0 ≡ number) × (found.1.now ≡ behind)) }
 {
-    let (digits, behind) = split_at(SPACE, text)?;
-    let number = number_of(digits)?;
-    Some((number, behind))
+    let (end, value) = digits_at(text);
+    if end >= text.len() {
+        return None;
+    }
+    if text[end] != SPACE {
+        return None;
+    }
+    let number = number_of(&text[..end], value)?;
+    Some((number, &text[end + 1..]))
 }
 
 // The message for the plant that a text begins with, and what stands behind the space there.
@@ -37,7 +43,13 @@ pub(crate) fn read_message(text: &[u8]) -> Option<(Message, &[u8])>
         → BeginsWithMessage text.now message behind
         → IsSomeAnd result (λ found. (found.0 ≡ message) × (found.1.now ≡ behind)) }
 {
-    let (digits, behind) = split_at(SPACE, text)?;
-    let message = message_of(digits)?;
-    Some((message, behind))
+    let end = hex_at(text);
+    if end >= text.len() {
+        return None;
+    }
+    if text[end] != SPACE {
+        return None;
+    }
+    let message = message_of(&text[..end])?;
+    Some((message, &text[end + 1..]))
 }

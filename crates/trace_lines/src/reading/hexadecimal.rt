@@ -1,11 +1,12 @@
 //! Hexadecimal in upper case, two digits a byte.
 
-ghost use Rattle.std.specs.Prelude.{◌≡◌, ◌≢◌, ◌*◌, ◌<◌, ℕ, List, All, length, Some, IfSome};
+ghost use Rattle.std.specs.Prelude.{◌≡◌, ◌≢◌, ◌*◌, ◌<◌, ◌≤◌, ℕ, List, All, length, take};
+ghost use Rattle.std.specs.Prelude.{slice_index_or, Some, IfSome};
 ghost use Rattle.std.specs.Bool.{OnTrue, OnFalse};
 ghost use Rattle.hex.specs.Hex.{encode_upper};
 ghost use Rattle.swp08_messages.specs.declared.message.Message.{Message};
 ghost use Rattle.trace_lines.specs.Trace.{IsReplyText};
-ghost use Rattle.trace_lines.specs.LineInside.{IsHex, IsMessageText};
+ghost use Rattle.trace_lines.specs.LineInside.{IsUpperDigit, IsHex, IsMessageText};
 ghost use Rattle.trace_lines.specs.LineInside.{hex_value};
 
 use swp08_messages::{Message, MessageKind};
@@ -57,8 +58,24 @@ fn is_word(word: &[u8], text: &[u8]) -> bool
     text == word
 }
 
-// The message for the plant whose canonical DATA a text is in hexadecimal.
+// How many digits a text has in front.
+pub(crate) fn hex_at(text: &[u8]) -> usize
+    ensures digits { All IsUpperDigit (take result text.now) }
+    ensures within { result ≤ length text.now }
+    ensures other { result < length text.now
+        → IsUpperDigit (slice_index_or text.now result 0) → ⊥ }
+{
+    for end in 0..text.len() {
+        if value_of(text[end]) >= 16 {
+            return end;
+        }
+    }
+    text.len()
+}
+
+// The message for the plant whose canonical DATA digits are in hexadecimal.
 pub(crate) fn message_of(digits: &[u8]) -> Option<Message>
+    requires { All IsUpperDigit digits.now }
     ensures found { IfSome result (IsMessageText digits.now) }
     ensures only { (message : Message) → IsMessageText digits.now message
         → result ≡ Some message }
@@ -66,7 +83,7 @@ pub(crate) fn message_of(digits: &[u8]) -> Option<Message>
     if digits.len() > MAX_DIGITS {
         return None;
     }
-    if !is_hex(digits) {
+    if digits.len() % 2 == 1 {
         return None;
     }
     let mut room = [0u8; Message::MAX_LEN];
