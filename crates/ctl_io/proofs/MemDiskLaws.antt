@@ -6,10 +6,10 @@ use Rattle.ctl_io.specs.Disk.{did_fail, Torn}
 use Rattle.ctl_io.specs.Crash.{Follows, LeavesNoMore, LeavesShown, Elapses}
 use Rattle.ctl_io.specs.declared.disk.Did.{Did}
 use Rattle.ctl_io.specs.declared.disk.Did.TheVariants.{Done, Failed}
-use Rattle.ctl_io.specs.DiskPast.{DiskWrite, DiskEvent, WasRead, WasWritten, WasSynced, Stored, written_to, WritesReach, MayLeave, LeftSince}
+use Rattle.ctl_io.specs.DiskPast.{DiskWrite, DiskEvent, WasRead, WasWritten, WasSynced, Stored, written_to, WritesReach, MayLeave, LeftSince, ShownSince}
 use Rattle.ctl_io.specs.MemDisk.{DiskState, stored_by, has_room, fails_when, recorded_when, disk_answer, after_disk_read, after_disk_write, after_disk_sync}
 use Rattle.ctl_io.proofs.DiskLemmas.{torn_overlaid, torn_same}
-use Rattle.ctl_io.proofs.MemDiskLemmas.{reaches_push, elapses_event, elapses_same}
+use Rattle.ctl_io.proofs.MemDiskLemmas.{reaches_push, elapses_event, elapses_same, shows_event, shows_same}
 
 -- what is answered
 abbrev did_when : (listed room : Bool) → Did
@@ -30,6 +30,11 @@ pub elapses_when : (listed room : Bool) (e : DiskEvent) (n : ℕ) (d : DiskState
     (LeftSince d.start d.events) (LeftSince (recorded_when listed room e n d).start (recorded_when listed room e n d).events) (MayLeave (stored_by (recorded_when listed room e n d)))
 elapses_when listed true e n d = elapses_event d.start e d.events
 elapses_when listed false e n d = elapses_same d.start d.events
+
+pub shows_when : (listed room : Bool) (e : DiskEvent) (n : ℕ) (d : DiskState) → Elapses (length d.events) (length (recorded_when listed room e n d).events)
+    (ShownSince d.start d.events) (ShownSince (recorded_when listed room e n d).start (recorded_when listed room e n d).events) (λ c. Some (stored_by (recorded_when listed room e n d)).present ≡ Some c)
+shows_when listed true e n d = shows_event d.start e d.events
+shows_when listed false e n d = shows_same d.start d.events
 
 -- a read changes nothing
 read_when : (listed room : Bool) (n : ℕ) (d : DiskState) → stored_by (recorded_when listed room WasRead n d) ≡ stored_by d

@@ -1,10 +1,10 @@
 -- Disks in memory: what their records say.
-use Rattle.std.proofs.Common.{◌≡◌, ◌⊎◌, inl, inr, ℕ, zero, suc, ◌+◌, ◌<◌, ◌≤◌, min, Bool, true, false, List, [], ◌∷◌, ◌++◌, length, take, drop, map, replicate, refl, sym, ◌∙◌, ap, subst, arith, length-append, length-take-le, length-drop, take-append-drop}
+use Rattle.std.proofs.Common.{◌≡◌, ◌⊎◌, inl, inr, ℕ, zero, suc, ◌+◌, ◌<◌, ◌≤◌, min, Bool, true, false, List, [], ◌∷◌, ◌++◌, length, take, drop, map, replicate, refl, sym, ◌∙◌, ap, subst, arith, length-append, length-take-le, length-drop, take-append-drop, Some}
 use Rattle.std.proofs.lemmas.List.{take_all, take_min, take-map, drop_at, drop-append-le, take-append-le, map-append, length-replicate}
 use Rattle.std.specs.List.{AllByRecursion}
 use Rattle.ctl_io.specs.Disk.{overlaid, Torn}
 use Rattle.ctl_io.specs.Crash.{Elapses}
-use Rattle.ctl_io.specs.DiskPast.{DiskWrite, DiskEvent, WasRead, WasWritten, WasSynced, Stored, written_to, after_pending, after_sync, stored_after, WritesReach, MayLeave, LeftSince}
+use Rattle.ctl_io.specs.DiskPast.{DiskWrite, DiskEvent, WasRead, WasWritten, WasSynced, Stored, written_to, after_pending, after_sync, stored_after, WritesReach, MayLeave, LeftSince, ShownSince}
 use Rattle.ctl_io.specs.MemDisk.{torn_last, crashed_at}
 use Rattle.ctl_io.specs.MemDiskInside.{write_of, event_of, events_on, IsBelow, CallIsBelow, IsSpan, Agrees}
 use Rattle.ctl_io.specs.declared.memory.disk_call.WriteSpan.{WriteSpan}
@@ -188,6 +188,21 @@ elapses_event start event events = record {
 
 pub elapses_same : (start : List ℕ) (events : List DiskEvent) → Elapses (length events) (length events) (LeftSince start events) (LeftSince start events) (MayLeave (stored_after start events))
 elapses_same start events = record { later = omega arith; nothing_else = λ t c le left. inl left; keeps = λ t c le left. left }
+
+-- and so it does for what a read might have given
+pub shows_event : (start : List ℕ) (event : DiskEvent) (events : List DiskEvent) → Elapses (length events) (suc (length events)) (ShownSince start events) (ShownSince start (event ∷ events)) (λ c. Some (stored_after start (event ∷ events)).present ≡ Some c)
+shows_event start event events = record {
+  later = omega arith;
+  nothing_else = λ t c le shown. swapped t c shown;
+  keeps = λ t c le shown. inr (le, shown);
+}
+  where
+    swapped : (t : ℕ) (c : List ℕ) → ShownSince start (event ∷ events) t c → ShownSince start events t c ⊎ (Some (stored_after start (event ∷ events)).present ≡ Some c)
+    swapped t c (inl now) = inr (ap (λ (all : List ℕ). Some all) (sym now))
+    swapped t c (inr past) = inl past.1
+
+pub shows_same : (start : List ℕ) (events : List DiskEvent) → Elapses (length events) (length events) (ShownSince start events) (ShownSince start events) (λ c. Some (stored_after start events).present ≡ Some c)
+shows_same start events = record { later = omega arith; nothing_else = λ t c le shown. inl shown; keeps = λ t c le shown. shown }
 
 -- the last of some writes is torn, and each before it is made
 pub torn_one : (w : List ℕ) (span : WriteSpan) (spans : List WriteSpan) (all : List ℕ) → IsBelow (length w) span → length spans ≡ 0 → torn_last (map (write_of w) (span ∷ spans)) all ≡ overlaid span.at (replicate span.len 165) all

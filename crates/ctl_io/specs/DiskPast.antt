@@ -1,6 +1,6 @@
 -- What a disk holds, and what a crash leaves of it, from the bytes that it began with and the calls that were made of it.
 use Rattle.std.specs.Prelude.{◌≡◌, ◌⊎◌, ℕ, ◌≤◌, Bool, true, false, List, [], ◌∷◌, ◌++◌, length, Option, Some, None, if◌then◌else◌}
-use Rattle.std.proofs.Common.{inl, inr, arith}
+use Rattle.std.proofs.Common.{inl, inr, refl, sym, ap, arith}
 use Rattle.ctl_io.specs.Disk.{overlaid, Torn}
 
 -- a write: its place and its bytes
@@ -66,6 +66,14 @@ LeftSince start (event ∷ earlier) t c =
     MayLeave (stored_after start (event ∷ earlier)) c
     ⊎ ((t ≤ length earlier) × LeftSince start earlier t c)
 
+-- A read behind one of these calls, of which the newest comes first, might have given this: behind all of them, or earlier, though not
+-- before t of them were made.
+abbrev pub ShownSince : List ℕ → List DiskEvent → ℕ → List ℕ → Type 0
+ShownSince start [] t c = c ≡ start
+ShownSince start (event ∷ earlier) t c =
+    (c ≡ (stored_after start (event ∷ earlier)).present)
+    ⊎ ((t ≤ length earlier) × ShownSince start earlier t c)
+
 -- the laws of a disk's clock, for a disk in memory
 pub now_counts : (start : List ℕ) (events : List DiskEvent) (t : ℕ) (c : List ℕ)
     → MayLeave (stored_after start events) c → LeftSince start events t c
@@ -77,6 +85,25 @@ pub now_alone : (start : List ℕ) (events : List DiskEvent) (c : List ℕ)
 now_alone start [] c left = left
 now_alone start (event ∷ earlier) c (inl now) = now
 now_alone start (event ∷ earlier) c (inr past) = absurd (omega (arith, past.0))
+
+pub shows_now : (start : List ℕ) (events : List DiskEvent) (t : ℕ)
+    → ShownSince start events t (stored_after start events).present
+shows_now start [] t = refl
+shows_now start (event ∷ earlier) t = inl refl
+
+pub shows_alone : (start : List ℕ) (events : List DiskEvent) (c : List ℕ)
+    → ShownSince start events (length events) c
+    → Some (stored_after start events).present ≡ Some c
+shows_alone start [] c is = ap (λ (all : List ℕ). Some all) (sym is)
+shows_alone start (event ∷ earlier) c (inl is) = ap (λ (all : List ℕ). Some all) (sym is)
+shows_alone start (event ∷ earlier) c (inr past) = absurd (omega (arith, past.0))
+
+pub shown_left : (start : List ℕ) (events : List DiskEvent) (t : ℕ) (c : List ℕ)
+    → ShownSince start events t c → LeftSince start events t c
+shown_left start [] t c is = inl is
+shown_left start (event ∷ earlier) t c (inl is) = inl (inl is)
+shown_left start (event ∷ earlier) t c (inr past) =
+    inr (past.0, shown_left start earlier t c past.1)
 
 -- A disk's past: the bytes that it began with, and the calls that were made of it, the newest first.
 pub record DiskPast : Type 0 where
@@ -105,3 +132,14 @@ abbrev pub IsMadeBy : Option DiskPast → Option (List ℕ) → (List ℕ → Ty
 IsMadeBy None contents may_leave moment left_since = contents ≡ None
 IsMadeBy (Some past) contents may_leave moment left_since =
     IsMade past contents may_leave moment left_since
+
+-- What reads might have given since a moment is what the past makes of it.
+pub record IsShownBy (past : DiskPast) (shown_since : ℕ → List ℕ → Type 0) : Type 0 where
+  pub shown : (t : ℕ) (c : List ℕ) → shown_since t c → ShownSince past.start past.events t c
+  pub no_less : (t : ℕ) (c : List ℕ) → ShownSince past.start past.events t c
+      → shown_since t c
+
+-- Where a disk shows its past, that makes what reads might have given.
+abbrev pub IsShownSo : Option DiskPast → (ℕ → List ℕ → Type 0) → Type 0
+IsShownSo None shown_since = Unit {0}
+IsShownSo (Some past) shown_since = IsShownBy past shown_since

@@ -1,9 +1,9 @@
 //! Disks: bytes at places outside, and what a crash leaves of them.
 
-ghost use Rattle.std.specs.Prelude.{◌≡◌, ◌+◌, ◌≤◌, ℕ, List, Option, None, IfSome, length};
+ghost use Rattle.std.specs.Prelude.{◌≡◌, ◌+◌, ◌≤◌, ℕ, List, Option, Some, None, IfSome, length};
 ghost use Rattle.ctl_io.specs.Faults.{count_after};
 ghost use Rattle.ctl_io.specs.Disk.{did_fail, shown_with, AreAt, Torn, ShowsTorn};
-ghost use Rattle.ctl_io.specs.DiskPast.{DiskPast, IsMadeBy};
+ghost use Rattle.ctl_io.specs.DiskPast.{DiskPast, IsMadeBy, IsShownSo};
 ghost use Rattle.ctl_io.specs.Crash.{Follows, LeavesNoMore, LeavesShown, Elapses};
 
 /// What a call of a disk answers.
@@ -32,6 +32,10 @@ pub trait Disk {
     /// The contents that a crash at some moment from that one on might have left, in a call or between two.
     ghost left_since: { Self → ℕ → List ℕ → Type 0 };
 
+    /// The contents that a read at some moment from that one on might have given, between two calls: what is left where
+    /// the program was stopped then, and the disk wasn't.
+    ghost shown_since: { Self → ℕ → List ℕ → Type 0 };
+
     /// Its past, from which follows all of this but its size, where the disk shows it.
     ghost past: { Self → Option DiskPast };
 
@@ -53,6 +57,8 @@ pub trait Disk {
         ensures crash { LeavesNoMore (may_leave self.old) (may_leave self.new) }
         ensures time { Elapses (moment self.old) (moment self.new)
             (left_since self.old) (left_since self.new) (may_leave self.new) }
+        ensures shown { Elapses (moment self.old) (moment self.new)
+            (shown_since self.old) (shown_since self.new) (λ c. contents self.new ≡ Some c) }
         ensures size { size self.new ≡ size self.old }
         ensures name { name self.new ≡ name self.old }
         ensures count { faults self.new ≡ count_after (did_fail result) (faults self.old) };
@@ -68,6 +74,8 @@ pub trait Disk {
             (may_leave self.old) (may_leave self.new) }
         ensures time { Elapses (moment self.old) (moment self.new)
             (left_since self.old) (left_since self.new) (may_leave self.new) }
+        ensures shown { Elapses (moment self.old) (moment self.new)
+            (shown_since self.old) (shown_since self.new) (λ c. contents self.new ≡ Some c) }
         ensures size { size self.new ≡ size self.old }
         ensures name { name self.new ≡ name self.old }
         ensures count { faults self.new ≡ count_after (did_fail result) (faults self.old) };
@@ -80,6 +88,8 @@ pub trait Disk {
         ensures crash { LeavesNoMore (may_leave self.old) (may_leave self.new) }
         ensures time { Elapses (moment self.old) (moment self.new)
             (left_since self.old) (left_since self.new) (may_leave self.new) }
+        ensures shown { Elapses (moment self.old) (moment self.new)
+            (shown_since self.old) (shown_since self.new) (λ c. contents self.new ≡ Some c) }
         ensures size { size self.new ≡ size self.old }
         ensures name { name self.new ≡ name self.old }
         ensures count { faults self.new ≡ count_after (did_fail result) (faults self.old) };
@@ -94,6 +104,9 @@ pub trait Disk {
     ghost made: { (disk : Self) → IsMadeBy (past disk) (contents disk) (may_leave disk)
         (moment disk) (left_since disk) };
 
+    /// So it is with what reads might have given.
+    ghost made_shown: { (disk : Self) → IsShownSo (past disk) (shown_since disk) };
+
     /// This moment is one of those since an earlier one.
     ghost counts_now: { (disk : Self) (t : ℕ) (c : List ℕ) → t ≤ moment disk
         → may_leave disk c → left_since disk t c };
@@ -101,4 +114,16 @@ pub trait Disk {
     /// Since this moment there is no other.
     ghost only_now: { (disk : Self) (c : List ℕ) → left_since disk (moment disk) c
         → may_leave disk c };
+
+    /// What a read gives now is among what one might have given since an earlier moment.
+    ghost shows_now: { (disk : Self) (t : ℕ) → t ≤ moment disk
+        → IfSome (contents disk) (shown_since disk t) };
+
+    /// And since this moment it is all.
+    ghost shows_alone: { (disk : Self) (c : List ℕ) → shown_since disk (moment disk) c
+        → contents disk ≡ Some c };
+
+    /// What a read might have given, a crash might have left.
+    ghost shown_left: { (disk : Self) (t : ℕ) (c : List ℕ) → shown_since disk t c
+        → left_since disk t c };
 }

@@ -6,8 +6,9 @@ ghost use Rattle.std.specs.List.{AllByRecursion};
 ghost use Rattle.ctl_io.specs.Disk.{overlaid, AreAt};
 ghost use Rattle.ctl_io.specs.MemDisk.{unused, stored_by, disk_answer, crash_copy};
 ghost use Rattle.ctl_io.specs.MemDisk.{after_disk_read, after_disk_write, after_disk_sync};
-ghost use Rattle.ctl_io.specs.DiskPast.{MayLeave};
-ghost use Rattle.ctl_io.specs.MemDisk.{fails_when, torn_last};
+ghost use Rattle.ctl_io.specs.DiskPast.{MayLeave, LeftSince, ShownSince, now_counts, now_alone};
+ghost use Rattle.ctl_io.specs.DiskPast.{shows_now, shows_alone, shown_left};
+ghost use Rattle.ctl_io.specs.MemDisk.{fails_when, torn_last, past_of};
 ghost use Rattle.ctl_io.specs.MemDiskInside.{write_of, IsSpan};
 
 use crate::memory::calls::CallCount;
@@ -95,8 +96,7 @@ impl MemDisk {
         Did::Done
     }
 
-    /// Writes the bytes over those from the place `at` on, or fails where the call's number is listed or there isn't
-    /// room for it.
+    /// Writes the bytes from the place `at` on, or fails where the call's number is listed or there isn't room for it.
     pub fn take(&mut self, at: u64, bytes: &[u8]) -> Did
         requires { at + length bytes.now ≤ length (stored_by self.old).present }
         ensures answer { result ≡ disk_answer (length bytes.now) self.old }
@@ -193,8 +193,6 @@ impl MemDisk {
 
 impl Disk for MemDisk {
     ghost use Rattle.std.proofs.Common.{inl, refl};
-    ghost use Rattle.ctl_io.specs.DiskPast.{LeftSince, now_counts, now_alone};
-    ghost use Rattle.ctl_io.specs.MemDisk.{past_of};
 
     ghost size = { λ d. length (stored_by d).present };
 
@@ -205,6 +203,8 @@ impl Disk for MemDisk {
     ghost moment = { λ d. length d.events };
 
     ghost left_since = { λ d. LeftSince d.start d.events };
+
+    ghost shown_since = { λ d. ShownSince d.start d.events };
 
     ghost past = { λ d. Some (past_of d) };
 
@@ -223,9 +223,17 @@ impl Disk for MemDisk {
       no_less_left = λ t c left. left;
     } };
 
+    ghost made_shown = { λ d. record { shown = λ t c is. is; no_less = λ t c is. is } };
+
     ghost counts_now = { λ d t c le left. now_counts d.start d.events t c left };
 
     ghost only_now = { λ d c left. now_alone d.start d.events c left };
+
+    ghost shows_now = { λ d t le. shows_now d.start d.events t };
+
+    ghost shows_alone = { λ d c shown. shows_alone d.start d.events c shown };
+
+    ghost shown_left = { λ d t c shown. shown_left d.start d.events t c shown };
 
     fn size(&self) -> u64 {
         self.present.len() as u64

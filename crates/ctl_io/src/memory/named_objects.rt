@@ -2,7 +2,8 @@
 
 ghost use Rattle.std.specs.Prelude.{Some, length};
 ghost use Rattle.ctl_io.specs.MemDisk.{past_of, stored_by};
-ghost use Rattle.ctl_io.specs.DiskPast.{MayLeave, LeftSince, now_counts, now_alone};
+ghost use Rattle.ctl_io.specs.DiskPast.{MayLeave, LeftSince, ShownSince, now_counts, now_alone};
+ghost use Rattle.ctl_io.specs.DiskPast.{shows_now, shows_alone, shown_left};
 
 use crate::memory::named::Named;
 use crate::{Bytes, Did, Disk, MemDisk, MemSink, MemSource, Read, Sink, Source, Write};
@@ -93,6 +94,8 @@ impl Disk for NamedDisk {
 
     ghost left_since = { λ entry. LeftSince entry.disk.start entry.disk.events };
 
+    ghost shown_since = { λ entry. ShownSince entry.disk.start entry.disk.events };
+
     ghost past = { λ entry. Some (past_of entry.disk) };
 
     ghost faults = { λ entry. entry.disk.calls.faults };
@@ -112,10 +115,21 @@ impl Disk for NamedDisk {
       no_less_left = λ t c left. left;
     } };
 
+    ghost made_shown = { λ entry.
+        record { shown = λ t c since. since; no_less = λ t c since. since } };
+
     ghost counts_now = { λ entry t c le left.
         now_counts entry.disk.start entry.disk.events t c left };
 
     ghost only_now = { λ entry c left. now_alone entry.disk.start entry.disk.events c left };
+
+    ghost shows_now = { λ entry t le. shows_now entry.disk.start entry.disk.events t };
+
+    ghost shows_alone = { λ entry c shown.
+        shows_alone entry.disk.start entry.disk.events c shown };
+
+    ghost shown_left = { λ entry t c shown.
+        shown_left entry.disk.start entry.disk.events t c shown };
 
     fn size(&self) -> u64 {
         self.disk.size()

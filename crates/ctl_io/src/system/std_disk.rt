@@ -50,6 +50,8 @@ impl<F: FileExt + OpenFile> Disk for StdDisk<F> {
 
     ghost left_since = { λ _ _ _. ⊥ };
 
+    ghost shown_since = { λ _ _ _. ⊥ };
+
     ghost past = { λ _. None };
 
     ghost faults = { λ d. d.faults };
@@ -60,9 +62,17 @@ impl<F: FileExt + OpenFile> Disk for StdDisk<F> {
 
     ghost made = { λ _. refl };
 
+    ghost made_shown = { λ _. tt };
+
     ghost counts_now = { λ _ _ _ _ left. left };
 
     ghost only_now = { λ _ _ left. left };
+
+    ghost shows_now = { λ _ _ _. tt };
+
+    ghost shows_alone = { λ _ _ shown. absurd shown };
+
+    ghost shown_left = { λ _ _ _ shown. shown };
 
     fn size(&self) -> u64 {
         self.size

@@ -1,9 +1,9 @@
 use Rattle.std.proofs.Common.{◌≡◌, not, ap, sym, subst, List, length, Some}
 use Rattle.ctl_io.specs.Calls.{next_fails}
 use Rattle.ctl_io.specs.Crash.{LeavesNoMore, LeavesShown, Elapses}
-use Rattle.ctl_io.specs.DiskPast.{WasSynced, MayLeave, LeftSince}
+use Rattle.ctl_io.specs.DiskPast.{WasSynced, MayLeave, LeftSince, ShownSince}
 use Rattle.ctl_io.specs.MemDisk.{DiskState, stored_by, has_room}
-use Rattle.ctl_io.proofs.MemDiskLaws.{counts, elapses_when, syncs, durable, sync_crash}
+use Rattle.ctl_io.proofs.MemDiskLaws.{counts, elapses_when, shows_when, syncs, durable, sync_crash}
 use Rattle.ctl_io.proofs.memory.mem_disk.MemDiskDisk.sync.Goals as goal
 
 pub returns-clause-durable : goal.returns-clause-durable
@@ -31,6 +31,12 @@ returns-clause-time c =
     let d = c.args.self.now in
     subst (λ (s : DiskState). Elapses (length d.events) (length s.events) (LeftSince d.start d.events) (LeftSince s.start s.events) (MayLeave (stored_by s))) (sym c.settle.ensures.after)
     (elapses_when (next_fails d.calls) (has_room 0 d) (WasSynced (not (next_fails d.calls))) 0 d)
+
+pub returns-clause-shown : goal.returns-clause-shown
+returns-clause-shown c =
+    let d = c.args.self.now in
+    subst (λ (s : DiskState). Elapses (length d.events) (length s.events) (ShownSince d.start d.events) (ShownSince s.start s.events) (λ all. Some (stored_by s).present ≡ Some all)) (sym c.settle.ensures.after)
+    (shows_when (next_fails d.calls) (has_room 0 d) (WasSynced (not (next_fails d.calls))) 0 d)
 
 pub returns-clause-count : goal.returns-clause-count
 returns-clause-count c = counts c.args.self.now _ 0 _ _ c.settle.ensures.after c.settle.ensures.answer

@@ -1,10 +1,10 @@
-use Rattle.std.proofs.Common.{not, ap, sym, subst, ◌∙◌, List, length, Some}
+use Rattle.std.proofs.Common.{◌≡◌, not, ap, sym, subst, ◌∙◌, List, length, Some}
 use Rattle.ctl_io.specs.Calls.{next_fails}
 use Rattle.ctl_io.specs.Disk.{Torn}
 use Rattle.ctl_io.specs.Crash.{Follows, Elapses}
-use Rattle.ctl_io.specs.DiskPast.{DiskWrite, WasWritten, MayLeave, LeftSince}
+use Rattle.ctl_io.specs.DiskPast.{DiskWrite, WasWritten, MayLeave, LeftSince, ShownSince}
 use Rattle.ctl_io.specs.MemDisk.{DiskState, stored_by, has_room}
-use Rattle.ctl_io.proofs.MemDiskLaws.{counts, elapses_when, writes, tears, write_crash}
+use Rattle.ctl_io.proofs.MemDiskLaws.{counts, elapses_when, shows_when, writes, tears, write_crash}
 use Rattle.ctl_io.proofs.memory.mem_disk.MemDiskDisk.write.Goals as goal
 use Rattle.ctl_io.proofs.memory.mem_disk.MemDiskDisk.write.Goals.{After-take}
 
@@ -38,6 +38,12 @@ returns-clause-time c =
     let d = c.args.self.now in
     subst (λ (s : DiskState). Elapses (length d.events) (length s.events) (LeftSince d.start d.events) (LeftSince s.start s.events) (MayLeave (stored_by s))) (sym c.take.ensures.after)
     (elapses_when (next_fails d.calls) (has_room (length c.args.bytes.now) d) (WasWritten (not (next_fails d.calls)) (made c)) (length c.args.bytes.now) d)
+
+pub returns-clause-shown : goal.returns-clause-shown
+returns-clause-shown c =
+    let d = c.args.self.now in
+    subst (λ (s : DiskState). Elapses (length d.events) (length s.events) (ShownSince d.start d.events) (ShownSince s.start s.events) (λ all. Some (stored_by s).present ≡ Some all)) (sym c.take.ensures.after)
+    (shows_when (next_fails d.calls) (has_room (length c.args.bytes.now) d) (WasWritten (not (next_fails d.calls)) (made c)) (length c.args.bytes.now) d)
 
 pub returns-clause-count : goal.returns-clause-count
 returns-clause-count c = counts c.args.self.now _ (length c.args.bytes.now) _ _ c.take.ensures.after c.take.ensures.answer
