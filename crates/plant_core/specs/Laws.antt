@@ -19,6 +19,7 @@ use Rattle.tie_pools.specs.Reserve.{are_enough_for}
 use Rattle.plant_core.specs.State.{State, IsValid, IsChangeOf, Fits, start, device_of, is_master, owner_at}
 use Rattle.plant_core.specs.Wide.{is_wide_at, asks_source, asks_change, tells_source, tells_change}
 use Rattle.plant_core.specs.Short.{StaysShort}
+use Rattle.plant_core.specs.Begins.{Begins}
 use Rattle.plant_core.specs.Connects.{change_of}
 use Rattle.plant_core.specs.Step.{step}
 use Rattle.plant_core.specs.Answer.{IsSayable, IsAnswerCount, room_of}
@@ -141,6 +142,10 @@ abbrev pub StepsStayShort : Type 0
 StepsStayShort = (state : State) (request : Request)
     → IsValid state → StaysShort state → Fits state request
     → StaysShort (step state request).state
+
+-- a history of a plant may begin at its start
+abbrev pub StartsBegin : Type 0
+StartsBegin = (plant : PlantData) → IsPlant plant → Begins plant (start plant)
 
 -- no step changes the plant
 abbrev pub StepsKeepThePlant : Type 0

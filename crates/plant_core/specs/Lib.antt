@@ -22,6 +22,7 @@ pub mod WriteInside
 pub mod ReadInside
 pub mod ReadParts
 pub mod Short
+pub mod Begins
 pub mod Answer
 pub mod Noticed
 pub mod Connects

@@ -2,7 +2,7 @@
 
 ghost use Rattle.plant_core.specs.Laws.{StartsAreValid, StepsStayValid};
 ghost use Rattle.plant_core.specs.Laws.{StartsAreShort, StepsStayShort};
-ghost use Rattle.plant_core.specs.Laws.{StepsKeepThePlant, ChangesStayValid};
+ghost use Rattle.plant_core.specs.Laws.{StepsKeepThePlant, ChangesStayValid, StartsBegin};
 ghost use Rattle.plant_core.specs.Laws.{ConnectablesAreMade, OthersAreNotMade, ConnectsStand};
 ghost use Rattle.plant_core.specs.Laws.{QuestionsChangeNothing, StartsAnswerParked};
 ghost use Rattle.plant_core.specs.Laws.{OutsidersAnswerParked};
@@ -13,7 +13,7 @@ ghost use Rattle.plant_core.specs.Laws.{ItemsHaveNoEffect, PollNumbersHaveNoEffe
 
 /// The state at the start is valid, every step leaves a valid state, and no step changes the plant. A list of changes for
 /// which the ties are enough leaves a valid state too. At the start, and after each request that fits, the commands that
-/// aren't extended can tell what they alone can reach.
+/// aren't extended can tell what they alone can reach. So histories of a plant may begin at its start.
 pub fn states_stay_valid()
     ensures first { StartsAreValid }
     ensures stays { StepsStayValid }
@@ -21,6 +21,7 @@ pub fn states_stay_valid()
     ensures short { StepsStayShort }
     ensures plant { StepsKeepThePlant }
     ensures changes { ChangesStayValid }
+    ensures begins { StartsBegin }
 {}
 
 /// A connect is made exactly where its place is in the plant, its source is parked or in that level, no device but the

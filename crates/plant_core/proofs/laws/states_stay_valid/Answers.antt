@@ -1,3 +1,4 @@
+use Rattle.std.proofs.Common.{refl}
 use Rattle.plant_core.proofs.Validity.{IsValid-start, IsValid-applied}
 use Rattle.plant_core.proofs.StepValidity.{IsValid-step}
 use Rattle.plant_core.proofs.StepLeaves.{plant-step}
@@ -21,3 +22,10 @@ returns-clause-plant c = plant-step
 
 pub returns-clause-changes : goal.returns-clause-changes
 returns-clause-changes c = IsValid-applied
+
+pub returns-clause-begins : goal.returns-clause-begins
+returns-clause-begins c = λ plant is. record {
+  plant_is = refl;
+  valid = IsValid-start plant is;
+  short = StaysShort-start plant;
+}
