@@ -36,6 +36,7 @@ pub mod BusyLemmas
 pub mod StateTextLemmas
 pub mod FieldLemmas
 pub mod FaultLemmas
+pub mod NoticesFaultLemmas
 pub mod FirstDestLemmas
 pub mod FirstTieLemmas
 pub mod HoldLemmas

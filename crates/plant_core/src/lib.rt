@@ -21,6 +21,7 @@ mod laws;
 mod machine;
 mod moved;
 mod notice_laws;
+mod notices_fault;
 mod notify;
 mod place;
 mod protect;

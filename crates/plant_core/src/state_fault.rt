@@ -1,15 +1,13 @@
 //! The first field of a state's text that breaks a rule, part by part.
 
-ghost use Rattle.std.specs.Prelude.{◌≡◌, ◌+◌, ◌<◌, ◌≤◌, ◌==◌, if◌then◌else◌};
+ghost use Rattle.std.specs.Prelude.{◌≡◌, ◌+◌, ◌<◌};
 ghost use Rattle.std.specs.Prelude.{length, None, Ok, IfOk};
 ghost use Rattle.plant_config.specs.Plant.{destinations_of};
 ghost use Rattle.salvo_groups.specs.Limits.{salvo_limit, group_limit};
 ghost use Rattle.plant_core.specs.StateText.{state_size};
 ghost use Rattle.plant_core.specs.StateFault.{first_broken, fields_of_each, count_fields};
 ghost use Rattle.plant_core.specs.StateFault.{dest_fields, entry_fields, group_fields};
-ghost use Rattle.plant_core.specs.StateFault.{notices_fields, panel_fields};
-ghost use Rattle.plant_core.specs.StateFields.{place_of_notices};
-ghost use Rattle.plant_core.specs.StateFault.{first_fault, most_notices};
+ghost use Rattle.plant_core.specs.StateFault.{panel_fields, first_fault};
 ghost use Rattle.plant_core.specs.FirstTies.{AreFirstsOf, HoldBelow};
 
 use crate::dest_fields::{owner_holds, source_holds, tie_holds};
@@ -17,10 +15,10 @@ use crate::display_fault::displays_fault;
 use crate::first_ties::FirstDests;
 use crate::group_fields::{count_in, entry_dest_holds, entry_source_holds};
 use crate::in_place::dests_fault_in_place;
+use crate::notices_fault::all_notices_fault;
 use crate::read_fields::{
     byte_at, four_at, place_of_dest, place_of_entry, place_of_group, place_of_panel,
 };
-use crate::shown_fields::notices_hold;
 use plant_config::{DestId, Plant};
 use salvo_groups::{GROUPS, MAX_ENTRIES};
 use std::alloc::{AllocError, Global};
@@ -214,56 +212,4 @@ fn panel_fault(plant: &Plant, bytes: &[u8], panel: usize) -> Option<usize>
         return Some(place);
     }
     all_notices_fault(plant, bytes, panel)
-}
-
-// Of a panel's notices of all destinations.
-fn all_notices_fault(plant: &Plant, bytes: &[u8], panel: usize) -> Option<usize>
-    requires size { length bytes.now ≡ state_size plant.now }
-    requires panel { panel < length plant.now.panels }
-    ensures { result ≡ first_broken (fields_of_each (destinations_of plant.now)
-        (notices_fields plant.now bytes.now panel)) }
-{
-    let start = place_of_panel(plant, panel);
-    let few = few_notices(byte_at(bytes, start));
-    for number in 0..plant.destination_count() {
-        let place = start + 1 + number as usize;
-        let dest = DestId::of(number);
-        if let Some(place) = notices_fault(plant, bytes, panel, dest, place, few) {
-            return Some(place);
-        }
-    }
-    None
-}
-
-// So many notices every destination may have: none where the panel has left.
-fn few_notices(left: u8) -> u8
-    ensures { result ≡ (if left == 1 then 0 else 1) }
-{
-    if left == 1 { 0 } else { 1 }
-}
-
-// Of a panel's notices of a destination, at this place.
-fn notices_fault(
-    plant: &Plant,
-    bytes: &[u8],
-    panel: usize,
-    dest: DestId,
-    place: usize,
-    few: u8,
-) -> Option<usize>
-    requires size { length bytes.now ≡ state_size plant.now }
-    requires panel { panel < length plant.now.panels }
-    requires dest { dest < destinations_of plant.now }
-    requires place { place ≡ place_of_notices plant.now panel dest }
-    requires few { few ≤ most_notices plant.now bytes.now panel dest }
-    ensures { result ≡ first_broken (notices_fields plant.now bytes.now panel dest) }
-{
-    if byte_at(bytes, place) <= few {
-        return None;
-    }
-    if notices_hold(plant, bytes, panel, dest) {
-        None
-    } else {
-        Some(place)
-    }
 }

@@ -3,7 +3,7 @@ use Rattle.plant_config.specs.Plant.{destinations_of}
 use Rattle.plant_core.specs.StateFields.{byte_at}
 use Rattle.plant_core.proofs.StateTextLemmas.{room_for_one}
 use Rattle.plant_core.proofs.FaultLemmas.{notices_few, notices_kept, notices_broken}
-use Rattle.plant_core.proofs.state_fault.notices_fault.Goals as goal
+use Rattle.plant_core.proofs.notices_fault.notices_fault.Goals as goal
 
 pub byte_at-requires : goal.byte_at-requires
 byte_at-requires c = omega (arith, c.requires.size, c.requires.place, room_for_one c.args.panel (length c.args.plant.now.panels) (1 + destinations_of c.args.plant.now) c.requires.panel)
