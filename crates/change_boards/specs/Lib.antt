@@ -3,6 +3,7 @@ pub use Rattle.number_tables.specs.Numbers
 pub mod Destinations
 pub mod Board
 pub mod Notices
+pub mod Words
 pub mod Screens
 pub mod ScreensInside
 pub mod Shown

@@ -1,10 +1,11 @@
 //! The notices of all panels.
 
-ghost use Rattle.std.specs.Prelude.{◌≡◌, ◌<◌, ◌↔◌, length, All, IsTrue, IsNone, IfOk};
+ghost use Rattle.std.specs.Prelude.{◌≡◌, ◌<◌, ◌↔◌, false, length, All, IsTrue, IsNone, IfOk};
 ghost use Rattle.number_tables.specs.Numbers.{word_limit, HasBitsOf};
 ghost use Rattle.change_boards.specs.Board.{IsEmpty, dests_of, next};
 ghost use Rattle.change_boards.specs.Notices.{board_of, has, has_left, start_boards, with_mark};
 ghost use Rattle.change_boards.specs.Notices.{with_removal, with_leave};
+ghost use Rattle.change_boards.specs.Words.{HasNone, PutsWord};
 
 use crate::panel_board::PanelBoard;
 use crate::sort::Sort;
@@ -84,6 +85,19 @@ impl Notices {
     {
         let board = &self.boards[panel.get() as usize];
         board.word(place, sort)
+    }
+
+    /// Gives a panel that hasn't left this notice of 64 neighbouring destinations of which it has none yet, from 64 times
+    /// `place` on, which is 0 to 1,023: of those whose bits are set.
+    pub fn put_word(&mut self, panel: PanelNo, place: u32, sort: Sort, word: u64)
+        requires panel { panel < length self.old }
+        requires place { place < word_limit }
+        requires stays { has_left self.old panel ≡ false }
+        requires none { HasNone self.old panel place sort }
+        ensures { PutsWord self.old self.new panel place sort word }
+    {
+        let board = &mut self.boards[panel.get() as usize];
+        board.put_word(place, sort, word);
     }
 
     /// Whether a panel has no notice.

@@ -1,6 +1,7 @@
 //! The notices of one panel.
 
-ghost use Rattle.std.specs.Prelude.{◌≡◌, ◌<◌, ◌↔◌, IsNone, IsTrue, IfOk, IfSome};
+ghost use Rattle.std.specs.Prelude.{◌≡◌, ◌≢◌, ℕ, ◌/◌, ◌<◌, ◌↔◌, false};
+ghost use Rattle.std.specs.Prelude.{IsNone, IsTrue, IfOk, IfSome};
 ghost use Rattle.change_boards.specs.Board.{IsEmpty, abandoned, blank, has_notice};
 ghost use Rattle.change_boards.specs.Board.{dests_of, marked, next, without_next};
 ghost use Rattle.number_tables.specs.Numbers.{word_limit, HasBitsOf};
@@ -100,6 +101,24 @@ impl PanelBoard {
         match sort {
             Sort::Source => self.source.insert(dest.get()),
             Sort::Protect => self.protect.insert(dest.get()),
+        }
+    }
+
+    /// Gives the panel, which hasn't left, this notice of 64 neighbouring destinations of which it has none yet.
+    pub(crate) fn put_word(&mut self, place: u32, sort: Sort, word: u64)
+        requires place { place < word_limit }
+        requires none { (dest : ℕ) → dest / 64 ≡ place
+            → has_notice self.old dest sort ≡ false }
+        ensures bits { HasBitsOf (dests_of self.new sort) place word }
+        ensures others { (dest : ℕ) → dest / 64 ≢ place
+            → has_notice self.new dest sort ≡ has_notice self.old dest sort }
+        ensures sorts { (other : Sort) → other ≢ sort
+            → dests_of self.new other ≡ dests_of self.old other }
+        ensures left { self.new.left ≡ self.old.left }
+    {
+        match sort {
+            Sort::Source => self.source.put_word(place, word),
+            Sort::Protect => self.protect.put_word(place, word),
         }
     }
 

@@ -1,5 +1,5 @@
 -- The set that words stand for has the numbers whose bits are set.
-use Rattle.std.proofs.Common.{◌≡◌, ℕ, ◌+◌, ◌*◌, ◌/◌, ◌%◌, ◌<◌, ◌≤◌, ◌==◌, nat_eq, List, length, Bool, true, false, not, ◌&&◌, ◌||◌, suc, zero, inl, inr, refl, sym, ap, ◌∙◌, arith, eq-eqb, eqb-true}
+use Rattle.std.proofs.Common.{◌≡◌, ◌≢◌, ℕ, ◌+◌, ◌*◌, ◌/◌, ◌%◌, ◌<◌, ◌≤◌, ◌==◌, nat_eq, List, length, Bool, true, false, not, ◌&&◌, ◌||◌, suc, zero, inl, inr, refl, sym, ap, subst, ◌∙◌, arith, eq-eqb, eqb-true}
 use Rattle.std.proofs.lemmas.Bool.{cases_eq, or_left, or_right}
 use Rattle.std.proofs.lemmas.Map.Views.{any-filter_same}
 use Rattle.std.specs.Prelude.{slice_index}
@@ -9,7 +9,7 @@ use Rattle.std.specs.Cmp.{nat_cmp_total, unsigned_tied}
 use Rattle.std.specs.FinSet.{empty, contains, insert, remove, contains-empty, contains-insert, contains-remove, contains-from_list_nat, same_set, nat_cmp-IsAntisymmetric}
 use Rattle.std.specs.Ordering.{nat_cmp}
 use Rattle.number_tables.specs.Numbers.{Numbers, HasBitsOf}
-use Rattle.number_tables.specs.SetInside.{has_bit, members, IsZero, SetsBit, ClearsBit}
+use Rattle.number_tables.specs.SetInside.{has_bit, members, IsZero, SetsBit, ClearsBit, PutsWord}
 use Rattle.number_tables.proofs.SummaryLemmas.{bit_within, no_bit}
 
 pub in_range : (from count n : ℕ) → from ≤ n → n < from + count → list_any (λ y. nat_eq y n) (range_with_len from count) ≡ true
@@ -62,3 +62,13 @@ members-set words new number sets = same_members _ _ (λ n.
 pub members-cleared : (words new : List ℕ) (number : ℕ) → ClearsBit words new number → members new ≡ remove (members words) number
 members-cleared words new number clears = same_members _ _ (λ n.
     contains-members new n ∙ clears.bits n ∙ ap (λ b. not (n == number) && b) (sym (contains-members words n)) ∙ sym (contains_removed (members words) number n))
+
+-- a word that was put has the bits of its numbers, and the other numbers are members as before
+pub bits_put : (words new : List ℕ) (place word : ℕ) → PutsWord words new place word → HasBitsOf (members new) place word
+bits_put words new place word puts = subst (λ (value : ℕ). HasBitsOf (members new) place value) puts.here (bits_of_word new place)
+
+pub others_put : (words new : List ℕ) (place word number : ℕ) → PutsWord words new place word → number / 64 ≢ place → contains (members new) number ≡ contains (members words) number
+others_put words new place word number puts other =
+    contains-members new number
+    ∙ ap (λ (value : ℕ). bit_at value (number % 64) == 1) (puts.others (number / 64) other)
+    ∙ sym (contains-members words number)

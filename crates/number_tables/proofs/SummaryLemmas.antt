@@ -4,7 +4,7 @@ use Rattle.std.proofs.lemmas.Bool.{cases_eq, cases_lt, ne_eqb, ltb-false}
 use Rattle.std.proofs.lemmas.List.{get_or_past}
 use Rattle.std.proofs.lemmas.Nat.Bits.{bit_at-zero}
 use Rattle.std.specs.Int.{bit_at}
-use Rattle.number_tables.specs.SetInside.{has_bit, IsZero, SetsBit, ClearsBit, IsSummary, IsSummed, ZeroesGroup, ZeroesBelow}
+use Rattle.number_tables.specs.SetInside.{has_bit, IsZero, SetsBit, ClearsBit, PutsWord, IsSummary, IsSummed, ZeroesGroup, ZeroesBelow}
 
 -- a word in which a bit is set isn't 0
 pub word_of_bit : (words : List ℕ) (n : ℕ) → has_bit words n ≡ true → 0 < get_or words (n / 64) 0
@@ -41,6 +41,14 @@ IsSummary-set words new summary news number is sets summed word =
       | inr other ↦ summed.bits word ∙ rw (ne_eqb word (number / 64) other, sets.others word other) (is word)
     ]
 
+-- a word that isn't 0 was put in the place of another
+pub IsSummary-put : (words new summary news : List ℕ) (place word : ℕ) → IsSummary words summary → PutsWord words new place word → 0 < word → SetsBit summary news place → IsSummary new news
+IsSummary-put words new summary news place word is puts some summed at =
+    elim (cases_eq at place) [
+      | inl here ↦ summed.bits at ∙ rw (here, eq-eqb place place refl, lt-ltb 0 (get_or new place 0) (omega (arith, puts.here, some))) refl
+      | inr other ↦ summed.bits at ∙ rw (ne_eqb at place other, puts.others at other) (is at)
+    ]
+
 -- the last bit of a word was cleared, and with it the word's bit
 pub IsSummary-emptied : (words new summary news : List ℕ) (number : ℕ) → IsSummary words summary → ClearsBit words new number → get_or new (number / 64) 0 ≡ 0 → ClearsBit summary news (number / 64) → IsSummary new news
 IsSummary-emptied words new summary news number is clears empty summed word =
@@ -72,6 +80,16 @@ IsSummed-zero words groups top words_length groups_length top_length no_words no
   top_length = top_length;
   of_words = IsSummary-zero words groups no_words no_groups;
   of_groups = IsSummary-zero groups top no_groups no_top;
+}
+
+pub IsSummed-put : (words groups top new_words new_groups new_top : List ℕ) (place word : ℕ) → IsSummed words groups top → PutsWord words new_words place word → 0 < word → SetsBit groups new_groups place → SetsBit top new_top (place / 64) →
+    IsSummed new_words new_groups new_top
+IsSummed-put words groups top new_words new_groups new_top place word is puts some sets_group sets_top = record {
+  words_length = puts.length_kept ∙ is.words_length;
+  groups_length = sets_group.length_kept ∙ is.groups_length;
+  top_length = sets_top.length_kept ∙ is.top_length;
+  of_words = IsSummary-put words new_words groups new_groups place word is.of_words puts some sets_group;
+  of_groups = IsSummary-set groups new_groups top new_top place is.of_groups sets_group sets_top;
 }
 
 module _ (words groups top : List ℕ) (number : ℕ) (is : IsSummed words groups top) where

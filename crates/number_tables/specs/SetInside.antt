@@ -35,6 +35,12 @@ pub record ClearsBit (old new : List ℕ) (number : ℕ) : Type 0 where
   pub others : SameWordsBut old new (number / 64)
   pub less : slice_index new (number / 64) ≤ slice_index old (number / 64)
 
+-- A word was put in the place of another. No other word changed.
+pub record PutsWord (old new : List ℕ) (place word : ℕ) : Type 0 where
+  pub length_kept : length new ≡ length old
+  pub here : slice_index new place ≡ word
+  pub others : SameWordsBut old new place
+
 -- The 64 words of a group are 0, and no other word changed.
 pub record ZeroesGroup (old new : List ℕ) (group : ℕ) : Type 0 where
   pub zero : (word : ℕ) → word / 64 ≡ group → slice_index new word ≡ 0

@@ -1,10 +1,12 @@
 //! A set of numbers.
 
-ghost use Rattle.std.specs.Prelude.{◌≡◌, ◌<◌, ◌↔◌, IsTrue, IfOk, IfSome};
+ghost use Rattle.std.specs.Prelude.{◌≡◌, ◌≢◌, ℕ, ◌/◌, ◌<◌, ◌↔◌, false, IsTrue, IfOk, IfSome};
 ghost use Rattle.std.specs.FinSet.{empty, contains, insert, remove};
 ghost use Rattle.number_tables.specs.Numbers.{lowest, number_limit, word_limit, HasBitsOf};
 
-use crate::words::{clear_bit, has_bit, lowest_bit, set_bit, word_at, zero, zero_summed, zeroed};
+use crate::words::{
+    clear_bit, has_bit, lowest_bit, put_word, set_bit, word_at, zero, zero_summed, zeroed,
+};
 use std::alloc::{AllocError, Global};
 use std::marker::Model;
 
@@ -71,6 +73,24 @@ impl NumberSet {
         ensures { HasBitsOf self.now place result }
     {
         word_at(&self.words, place)
+    }
+
+    /// Adds those of 64 neighbouring numbers whose bits are set, from 64 times `place` on, which is 0 to 1,023. None of the 64
+    /// is a member yet.
+    pub fn put_word(&mut self, place: u32, word: u64)
+        requires place { place < word_limit }
+        requires none { (number : ℕ) → number / 64 ≡ place
+            → contains self.old number ≡ false }
+        ensures bits { HasBitsOf self.new place word }
+        ensures others { (number : ℕ) → number / 64 ≢ place
+            → contains self.new number ≡ contains self.old number }
+    {
+        if word == 0 {
+            return;
+        }
+        put_word(&mut self.words, place, word);
+        set_bit(&mut self.groups, place);
+        set_bit(&mut self.top, place / 64);
     }
 
     /// Adds a number, 0 to 65,535.

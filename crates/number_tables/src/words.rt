@@ -2,6 +2,7 @@
 
 ghost use Rattle.std.specs.Prelude.{◌≡◌, ◌+◌, ◌*◌, ◌/◌, ◌<◌, ◌≤◌, ◌==◌, length, slice_index, IfOk};
 ghost use Rattle.number_tables.specs.SetInside.{has_bit, IsZero, SetsBit, ClearsBit, IsLowestBit};
+ghost use Rattle.number_tables.specs.SetInside.{PutsWord};
 ghost use Rattle.number_tables.specs.SetInside.{IsSummary, ZeroesGroup};
 
 use std::alloc::{AllocError, Global};
@@ -58,6 +59,14 @@ pub(crate) fn word_at(words: &[u64], place: u32) -> u64
     ensures { result ≡ slice_index words.now place }
 {
     words[place as usize]
+}
+
+/// Puts a word in the place of another.
+pub(crate) fn put_word(words: &mut [u64], place: u32, word: u64)
+    requires { place < length words.old }
+    ensures { PutsWord words.old words.new place word }
+{
+    words[place as usize] = word;
 }
 
 /// Sets a bit.
