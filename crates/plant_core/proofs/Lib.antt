@@ -43,6 +43,7 @@ pub mod HoldLemmas
 pub mod PartLemmas
 pub mod LevelLemmas
 pub mod PanelPartLemmas
+pub mod PlaceLemmas
 pub mod BoardPartLemmas
 pub mod GroupPartLemmas
 pub mod ShownPartLemmas
@@ -52,6 +53,7 @@ pub mod BroughtLemmas
 pub mod StateRead
 pub mod TextLengths
 pub mod NoticeTextLemmas
+pub mod MarkLemmas
 pub mod TextFields
 pub mod OneText
 pub mod TextParts

@@ -15,11 +15,11 @@ use Rattle.plant_core.specs.StateText.{bit, notices_of}
 use Rattle.plant_core.specs.WriteInside.{spread, notices_by, four_notices}
 
 -- whether two functions agree below a number
-unfoldable agree_below : (ℕ → ℕ) → (ℕ → ℕ) → ℕ → Bool
+unfoldable pub agree_below : (ℕ → ℕ) → (ℕ → ℕ) → ℕ → Bool
 agree_below f g zero = true
 agree_below f g (suc n) = f n == g n && agree_below f g n
 
-agree_at : (f g : ℕ → ℕ) (n : ℕ) → agree_below f g n ≡ true → (at : ℕ) → at < n → f at ≡ g at
+pub agree_at : (f g : ℕ → ℕ) (n : ℕ) → agree_below f g n ≡ true → (at : ℕ) → at < n → f at ≡ g at
 unfolding agree_below
 agree_at f g zero all at below = absurd (omega arith)
 agree_at f g (suc n) all at below =

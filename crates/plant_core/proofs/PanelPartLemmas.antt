@@ -19,7 +19,7 @@ use Rattle.plant_core.specs.StateText.{bit, notices_of, panel_text}
 use Rattle.plant_core.specs.StateFields.{byte_at, place_of_panel, place_of_notices}
 use Rattle.plant_core.specs.StateFault.{has_short_number, most_notices, first_fault}
 use Rattle.plant_core.specs.ReadInside.{part, AreBoardsIn}
-use Rattle.plant_core.specs.ReadParts.{IsBoardIn, SameBoardsBut, with_marks_by}
+use Rattle.plant_core.specs.ReadParts.{IsBoardIn, IsReadTo, SameBoardsBut, with_marks_by}
 use Rattle.plant_core.proofs.HoldLemmas.{left_held, notices_held}
 use Rattle.plant_core.proofs.LevelLemmas.{short_dest}
 use Rattle.plant_core.proofs.StateTextLemmas.{room_for_one}
@@ -43,7 +43,7 @@ record Marks (old new : Board) (dest byte : ℕ) : Type 0 where
   pub here : notices_of new dest ≡ byte
   pub others : (d : ℕ) → d ≢ dest → notices_of new d ≡ notices_of old d
 
-notices_same : (old new : Board) (d : ℕ) → has_notice new d Source ≡ has_notice old d Source → has_notice new d Protect ≡ has_notice old d Protect → notices_of new d ≡ notices_of old d
+pub notices_same : (old new : Board) (d : ℕ) → has_notice new d Source ≡ has_notice old d Source → has_notice new d Protect ≡ has_notice old d Protect → notices_of new d ≡ notices_of old d
 notices_same old new d source protect =
     ap (λ (is : Bool). bit is + 2 * bit (has_notice new d Protect)) source ∙ ap (λ (is : Bool). bit (has_notice old d Source) + 2 * bit is) protect
 
@@ -57,7 +57,7 @@ zero_by true false is = absurd (omega (arith, is))
 zero_by false true is = absurd (omega (arith, is))
 zero_by true true is = absurd (omega (arith, is))
 
-none_there : (board : Board) (d : ℕ) → notices_of board d ≡ 0 → (has_notice board d Source ≡ false) × (has_notice board d Protect ≡ false)
+pub none_there : (board : Board) (d : ℕ) → notices_of board d ≡ 0 → (has_notice board d Source ≡ false) × (has_notice board d Protect ≡ false)
 none_there board d none = zero_by (has_notice board d Source) (has_notice board d Protect) none
 
 other_dest : (d dest : ℕ) (s sort : Sort) → d ≢ dest → (let notice : ℕ × Sort = (d, s) in notice ≢ (dest, sort))
@@ -166,12 +166,6 @@ are_by boards panels destinations panel dest false false below are = are
 pub are_marked : (boards : List Board) (panels destinations panel dest byte : ℕ) → dest < destinations → AreBoards boards panels destinations → AreBoards (with_marks_by boards panel dest byte) panels destinations
 are_marked boards panels destinations panel dest byte below are = are_by boards panels destinations panel dest (byte == 1 || byte == 3) (nat_lt 1 byte) below are
 
--- A board is read up to a destination: it has the notices of the destinations below, and none above.
-pub record IsReadTo (plant : PlantData) (bytes : List ℕ) (panel : ℕ) (board : Board) (count : ℕ) : Type 0 where
-  pub left : board.left ≡ false
-  pub below : (dest : ℕ) → dest < count → notices_of board dest ≡ byte_at bytes (place_of_notices plant panel dest)
-  pub above : (dest : ℕ) → count ≤ dest → notices_of board dest ≡ 0
-
 blank_has : (dest : ℕ) → notices_of blank dest ≡ 0
 blank_has dest = notices_are blank dest false false (contains-empty nat_cmp dest) (contains-empty nat_cmp dest)
 
@@ -200,7 +194,7 @@ few_notices true short = omega arith
 few_notices false true = omega arith
 few_notices false false = omega arith
 
-most_few : (plant : PlantData) (bytes : List ℕ) (panel dest : ℕ) → most_notices plant bytes panel dest ≤ 3
+pub most_few : (plant : PlantData) (bytes : List ℕ) (panel dest : ℕ) → most_notices plant bytes panel dest ≤ 3
 unfolding most_notices
 most_few plant bytes panel dest = few_notices (byte_at bytes (place_of_panel plant panel) == 1) (has_short_number plant dest)
 

@@ -21,6 +21,7 @@ pub mod FirstTies
 pub mod WriteInside
 pub mod ReadInside
 pub mod ReadParts
+pub mod MarksInside
 pub mod Short
 pub mod Begins
 pub mod Answer

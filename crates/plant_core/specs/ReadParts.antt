@@ -1,5 +1,5 @@
 -- What a text without a fault says of a group, of a panel and of a display.
-use Rattle.std.specs.Prelude.{◌≡◌, ◌≢◌, ℕ, ◌+◌, ◌<◌, ◌==◌, nat_lt, ◌||◌, if◌then◌else◌, List, map, Option, Some, None}
+use Rattle.std.specs.Prelude.{◌≡◌, ◌≢◌, ℕ, ◌+◌, ◌<◌, ◌≤◌, ◌==◌, nat_lt, false, ◌||◌, if◌then◌else◌, List, map, Option, Some, None}
 use Rattle.std.specs.List.{range_with_len}
 use Rattle.plant_config.specs.Plant.{PlantData, destinations_of}
 use Rattle.plant_config.specs.declared.records.Change.{Change}
@@ -28,6 +28,14 @@ pub record IsBoardIn (plant : PlantData) (bytes : List ℕ) (panel : ℕ) (board
   pub left : bit board.left ≡ byte_at bytes (place_of_panel plant panel)
   pub notices : (dest : ℕ) → dest < destinations_of plant
       → notices_of board dest ≡ byte_at bytes (place_of_notices plant panel dest)
+
+-- A board is read up to a destination: it has the notices of the destinations below, and none above.
+pub record IsReadTo (plant : PlantData) (bytes : List ℕ) (panel : ℕ) (board : Board) (count : ℕ)
+    : Type 0 where
+  pub left : board.left ≡ false
+  pub below : (dest : ℕ) → dest < count
+      → notices_of board dest ≡ byte_at bytes (place_of_notices plant panel dest)
+  pub above : (dest : ℕ) → count ≤ dest → notices_of board dest ≡ 0
 
 -- All boards but one are the same.
 abbrev pub SameBoardsBut : List Board → List Board → ℕ → Type 0

@@ -19,6 +19,7 @@ mod history_laws;
 mod in_place;
 mod laws;
 mod machine;
+mod marks;
 mod moved;
 mod notice_laws;
 mod notices_fault;

@@ -1,4 +1,4 @@
-use Rattle.std.proofs.Common.{ℕ, ap, ◌∙◌, arith}
+use Rattle.std.proofs.Common.{ap, ◌∙◌, arith}
 use Rattle.plant_core.specs.StateFault.{notices_fields, first_broken}
 use Rattle.plant_core.proofs.FaultLemmas.{none_unless, none_more, found_at, few_may}
 use Rattle.plant_core.proofs.notices_fault.fault_below.Goals as goal

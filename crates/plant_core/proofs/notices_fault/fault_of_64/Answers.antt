@@ -1,4 +1,4 @@
-use Rattle.std.proofs.Common.{sym, subst, IsTrue, arith}
+use Rattle.std.proofs.Common.{sym, arith}
 use Rattle.plant_core.specs.StateFault.{notices_fields}
 use Rattle.plant_core.proofs.NoticesFaultLemmas.{none_many}
 use Rattle.plant_core.proofs.notices_fault.fault_of_64.Goals as goal

@@ -2,9 +2,8 @@ use Rattle.std.proofs.Common.{length}
 use Rattle.plant_config.specs.Plant.{destinations_of}
 use Rattle.change_boards.specs.Notices.{board_of}
 use Rattle.change_boards.specs.Laws.{AreBoards}
-use Rattle.plant_core.specs.ReadParts.{SameBoardsBut}
-use Rattle.plant_core.proofs.PanelPartLemmas.{IsReadTo}
-use Rattle.plant_core.proofs.read_notices.read_marks.Given as goal
+use Rattle.plant_core.specs.ReadParts.{SameBoardsBut, IsReadTo}
+use Rattle.plant_core.proofs.read_notices.read_rest.Given as goal
 
 abbrev pub invariant-loop-number : goal.invariant-loop-number
 invariant-loop-number l = record {
