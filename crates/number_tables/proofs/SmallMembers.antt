@@ -1,9 +1,9 @@
 -- The bits of a small set, whose words have one summary.
-use Rattle.std.proofs.Common.{◌≡◌, ℕ, ◌/◌, List, get_or, replicate, zero, suc, inl, inr, refl, sym, ◌∙◌, arith}
+use Rattle.std.proofs.Common.{◌≡◌, ℕ, ◌/◌, ◌<◌, List, get_or, replicate, zero, suc, inl, inr, refl, sym, ◌∙◌, arith}
 use Rattle.std.proofs.lemmas.Bool.{cases_eq, ltb-false}
 use Rattle.std.proofs.lemmas.List.{get_or_past}
 use Rattle.number_tables.specs.SetInside.{members, IsZero, SetsBit, ClearsBit, IsSmallSummed, IsLowestBit}
-use Rattle.number_tables.proofs.SummaryLemmas.{bit_within, no_bit, IsSummary-set, IsSummary-emptied, summary_bit}
+use Rattle.number_tables.proofs.SummaryLemmas.{bit_within, no_bit, IsSummary-set, IsSummary-more, IsSummary-emptied, summary_bit}
 use Rattle.number_tables.proofs.Members.{contains-members}
 use Rattle.number_tables.proofs.LowestLemmas.{IsLowest}
 
@@ -18,6 +18,14 @@ module _ (words summary : List ℕ) (number : ℕ) (is : IsSmallSummed words sum
     words_length = sets.length_kept ∙ is.words_length;
     summary_length = sets_summary.length_kept ∙ is.summary_length;
     of_words = IsSummary-set words new_words summary new_summary number is.of_words sets sets_summary;
+  }
+
+  -- its word had bits
+  pub IsSmallSummed-more : (new_words : List ℕ) → SetsBit words new_words number → 0 < get_or words (number / 64) 0 → IsSmallSummed new_words summary
+  IsSmallSummed-more new_words sets some = record {
+    words_length = sets.length_kept ∙ is.words_length;
+    summary_length = is.summary_length;
+    of_words = IsSummary-more words new_words summary number is.of_words sets some;
   }
 
   -- its word has no other bit

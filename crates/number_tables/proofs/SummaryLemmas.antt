@@ -49,6 +49,16 @@ IsSummary-put words new summary news place word is puts some summed at =
       | inr other ↦ summed.bits at ∙ rw (ne_eqb at place other, puts.others at other) (is at)
     ]
 
+-- a bit was set in a word that had one
+pub IsSummary-more : (words new summary : List ℕ) (number : ℕ) → IsSummary words summary → SetsBit words new number → 0 < get_or words (number / 64) 0 → IsSummary new summary
+IsSummary-more words new summary number is sets some word =
+    elim (cases_eq word (number / 64)) [
+      | inl here ↦
+          let has : has_bit new number ≡ true = sets.bits number ∙ rw (eq-eqb number number refl) refl in
+          is word ∙ rw (here, lt-ltb 0 (get_or words (number / 64) 0) some, lt-ltb 0 (get_or new (number / 64) 0) (word_of_bit new number has)) refl
+      | inr other ↦ is word ∙ rw (sets.others word other) refl
+    ]
+
 -- the last bit of a word was cleared, and with it the word's bit
 pub IsSummary-emptied : (words new summary news : List ℕ) (number : ℕ) → IsSummary words summary → ClearsBit words new number → get_or new (number / 64) 0 ≡ 0 → ClearsBit summary news (number / 64) → IsSummary new news
 IsSummary-emptied words new summary news number is clears empty summed word =
@@ -101,6 +111,26 @@ module _ (words groups top : List ℕ) (number : ℕ) (is : IsSummed words group
     top_length = sets_top.length_kept ∙ is.top_length;
     of_words = IsSummary-set words new_words groups new_groups number is.of_words sets sets_group;
     of_groups = IsSummary-set groups new_groups top new_top (number / 64) is.of_groups sets_group sets_top;
+  }
+
+  -- its word had bits
+  pub IsSummed-more : (new_words : List ℕ) → SetsBit words new_words number → 0 < get_or words (number / 64) 0 → IsSummed new_words groups top
+  IsSummed-more new_words sets some = record {
+    words_length = sets.length_kept ∙ is.words_length;
+    groups_length = is.groups_length;
+    top_length = is.top_length;
+    of_words = IsSummary-more words new_words groups number is.of_words sets some;
+    of_groups = is.of_groups;
+  }
+
+  -- its word had no bits, but its group did
+  pub IsSummed-more_group : (new_words new_groups : List ℕ) → SetsBit words new_words number → SetsBit groups new_groups (number / 64) → 0 < get_or groups (number / 64 / 64) 0 → IsSummed new_words new_groups top
+  IsSummed-more_group new_words new_groups sets sets_group some = record {
+    words_length = sets.length_kept ∙ is.words_length;
+    groups_length = sets_group.length_kept ∙ is.groups_length;
+    top_length = is.top_length;
+    of_words = IsSummary-set words new_words groups new_groups number is.of_words sets sets_group;
+    of_groups = IsSummary-more groups new_groups top (number / 64) is.of_groups sets_group some;
   }
 
   -- its word has other bits

@@ -94,12 +94,17 @@ impl NumberSet {
     }
 
     /// Adds a number, 0 to 65,535.
+    #[inline]
     pub fn insert(&mut self, number: u32)
         requires { number < number_limit }
         ensures { self.new ≡ insert self.old number }
     {
-        set_bit(&mut self.words, number);
-        set_bit(&mut self.groups, number / 64);
+        if set_bit(&mut self.words, number) {
+            return;
+        }
+        if set_bit(&mut self.groups, number / 64) {
+            return;
+        }
         set_bit(&mut self.top, number / 64 / 64);
     }
 

@@ -47,7 +47,9 @@ impl SmallSet {
         requires { number < small_limit }
         ensures { self.new ≡ insert self.old number }
     {
-        set_bit(&mut self.words, number);
+        if set_bit(&mut self.words, number) {
+            return;
+        }
         set_bit(&mut self.summary, number / 64);
     }
 

@@ -1,6 +1,6 @@
 //! Bits in rows of 64-bit words, numbered from the lowest bit of the first word.
 
-ghost use Rattle.std.specs.Prelude.{◌≡◌, ◌+◌, ◌*◌, ◌/◌, ◌<◌, ◌≤◌, ◌==◌, length, slice_index, IfOk};
+ghost use Rattle.std.specs.Prelude.{◌≡◌, ◌+◌, ◌*◌, ◌/◌, ◌<◌, ◌≤◌, ◌==◌, nat_lt, length, slice_index, IfOk};
 ghost use Rattle.number_tables.specs.SetInside.{has_bit, IsZero, SetsBit, ClearsBit, IsLowestBit};
 ghost use Rattle.number_tables.specs.SetInside.{PutsWord};
 ghost use Rattle.number_tables.specs.SetInside.{IsSummary, ZeroesGroup};
@@ -69,12 +69,16 @@ pub(crate) fn put_word(words: &mut [u64], place: u32, word: u64)
     words[place as usize] = word;
 }
 
-/// Sets a bit.
-pub(crate) fn set_bit(words: &mut [u64], number: u32)
+/// Sets a bit, and says whether a bit of its word was set before.
+pub(crate) fn set_bit(words: &mut [u64], number: u32) -> bool
     requires { number < 64 * length words.old }
-    ensures { SetsBit words.old words.new number }
+    ensures sets { SetsBit words.old words.new number }
+    ensures some { result ≡ nat_lt 0 (slice_index words.old (number / 64)) }
 {
-    words[(number / 64) as usize] |= 1 << (number % 64);
+    let word = (number / 64) as usize;
+    let before = words[word];
+    words[word] = before | 1 << (number % 64);
+    before > 0
 }
 
 /// Clears a bit, and says whether no bit of its word is set any more.
