@@ -5,3 +5,4 @@ pub mod MemAcceptorLemmas
 pub mod MemLinkLemmas
 pub mod MemNetLemmas
 pub mod MemPortLemmas
+pub mod TcpLinkLemmas

@@ -6,6 +6,7 @@ pub mod MemPort
 pub mod MemPortInside
 pub mod Link
 pub mod LinkEvents
+pub mod TcpLink
 pub mod MemLink
 pub mod InputInside
 pub mod Acceptor

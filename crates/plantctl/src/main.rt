@@ -13,7 +13,7 @@ use std::{env, io};
 fn main(rt: HostRuntime) -> ExitCode {
     let alloc = rt.alloc();
     let mut files = StdFiles::new(&rt);
-    let mut net = StdNet::new(&rt);
+    let mut net = StdNet::new(alloc, &rt);
     let mut out = StdOut::new(&rt);
     let status = match arguments(&rt) {
         Ok(words) => run(

@@ -4,14 +4,20 @@ ghost use Rattle.std.specs.Prelude.{◌≡◌, ◌≤◌, None, IfOk, length};
 
 use crate::{Address, Net, Opening, TcpAcceptor, UdpPort};
 use ctl_io::{FaultCount, call_again};
+use std::alloc::Global;
 use std::io::{self, ErrorKind};
 use std::net::{self, Ipv4Addr, Ipv6Addr, SocketAddr, TcpListener, ToSocketAddrs, UdpSocket};
 use std::time::{Clock, Duration};
 
-/// The sockets of a runtime. It shows no openings, and keeps nothing of what is given back.
+/// So many bytes of answers are kept until they are sent as one.
+const ROOM: usize = 65_536;
+
+/// The sockets of a runtime. It shows no openings, and keeps nothing of what is given back. It takes memory for each
+/// acceptor, and where there is none the acceptor's links send all at once.
 #[derive(Drop)]
 pub struct StdNet<R> {
     rt: R,
+    alloc: Global,
     acceptors_out: u64,
     ports_out: u64,
     open_faults: FaultCount,
@@ -20,7 +26,7 @@ pub struct StdNet<R> {
 
 impl<R: net::Net> StdNet<R> {
     /// Nothing was handed out and nothing has failed.
-    pub fn new(rt: R) -> StdNet<R>
+    pub fn new(alloc: Global, rt: R) -> StdNet<R>
         ensures acceptors { result.acceptors_out ≡ 0 }
         ensures ports { result.ports_out ≡ 0 }
         ensures open_faults { result.open_faults ≡ 0 }
@@ -28,6 +34,7 @@ impl<R: net::Net> StdNet<R> {
     {
         StdNet {
             rt,
+            alloc,
             acceptors_out: 0,
             ports_out: 0,
             open_faults: FaultCount::new(),
@@ -94,7 +101,12 @@ where
                     sessions,
                     idle_ms,
                 };
-                Some(TcpAcceptor::new(listener, sessions, timeout, Some(opening)))
+                let room = match Vec::with_capacity(self.alloc, ROOM) {
+                    Ok(room) => room,
+                    Err(_) => Vec::new(self.alloc),
+                };
+                let acceptor = TcpAcceptor::new(listener, sessions, timeout, room, Some(opening));
+                Some(acceptor)
             }
             Err(_) => {
                 self.open_faults.raise();

@@ -1,10 +1,11 @@
 //! The adapter over a listener.
 
-ghost use Rattle.std.specs.Prelude.{◌≡◌, IfOk};
+ghost use Rattle.std.specs.Prelude.{◌≡◌};
 
 use crate::{Acceptor, Next, Opening, TcpLink};
 use ctl_io::{FaultCount, call_again};
 use std::io::{self, ErrorKind};
+use std::mem::replace;
 use std::net::{OpenListener, OpenStream};
 use std::time::Duration;
 
@@ -17,17 +18,21 @@ pub struct TcpAcceptor<T> {
     sessions: u32,
     // A read of a link waits at most so long.
     timeout: Duration,
+    // The room of the next link.
+    room: Vec<u8>,
     out: u64,
     next_faults: FaultCount,
     done_faults: FaultCount,
 }
 
 impl<T: OpenListener> TcpAcceptor<T> {
-    /// An acceptor for so many sessions, with links of which a read waits at most `timeout`. It shows this opening.
+    /// An acceptor for so many sessions, with links of which a read waits at most `timeout`, and which have the room of
+    /// this vector one after another; one that is handed out while another has it has none. It shows this opening.
     pub fn new(
         listener: T,
         sessions: u32,
         timeout: Duration,
+        room: Vec<u8>,
         opening: Option<Opening>,
     ) -> TcpAcceptor<T>
         ensures opening { result.opening ≡ opening }
@@ -41,6 +46,7 @@ impl<T: OpenListener> TcpAcceptor<T> {
             listener,
             sessions,
             timeout,
+            room,
             out: 0,
             next_faults: FaultCount::new(),
             done_faults: FaultCount::new(),
@@ -87,10 +93,11 @@ where
             return Next::Failed;
         }
         match accept(&self.listener, self.timeout) {
-            Ok(link) => {
+            Ok(stream) => {
                 self.sessions -= 1;
                 self.out += 1;
-                Next::One(link)
+                let none = Vec::new(*self.room.allocator());
+                Next::One(TcpLink::over(stream, replace(&mut self.room, none)))
             }
             Err(_) => {
                 self.next_faults.raise();
@@ -99,26 +106,27 @@ where
         }
     }
 
-    fn done(&mut self, link: TcpLink<T::Stream>) {
+    // What can't be sent by now is lost, and no fault more.
+    fn done(&mut self, mut link: TcpLink<T::Stream>) {
         self.out -= 1;
         if link.write_faults() > 0 || link.read_faults() > 0 {
             self.done_faults.raise();
         }
+        link.send();
+        self.room = link.into_room();
     }
 }
 
-// The link over the next connection. A frame is sent at once and waits for no other; where the system can't be asked for
-// that, it is no fault.
-fn accept<T: OpenListener>(listener: &T, timeout: Duration) -> io::Result<TcpLink<T::Stream>>
+// The next connection, of which a read waits at most so long. A frame is sent at once and waits for no other; where the
+// system can't be asked for that, it is no fault.
+fn accept<T: OpenListener>(listener: &T, timeout: Duration) -> io::Result<T::Stream>
 where
     T::Stream: io::Read + io::Write + OpenStream,
-    ensures read_faults { IfOk result (λ link. link.read_faults ≡ 0) }
-    ensures write_faults { IfOk result (λ link. link.write_faults ≡ 0) }
-    ensures idles { IfOk result (λ link. link.idles ≡ 0) }
 {
     let stream = next_connection(listener)?;
     let _ = stream.set_nodelay(true);
-    TcpLink::new(stream, timeout)
+    stream.set_read_timeout(Some(timeout))?;
+    Ok(stream)
 }
 
 // The next connection. One that its peer gave up before it was taken is no fault, and is passed over.

@@ -62,7 +62,8 @@ fn links_are_handed_out_in_their_order(rt: HostRuntime) -> Result<(), Fail> {
 fn a_listener_serves_so_many_sessions(rt: HostRuntime) -> Result<(), Fail> {
     let listener = TcpListener::bind(&rt, "127.0.0.1:0")?;
     let at = listener.local_addr()?;
-    let mut acceptor = TcpAcceptor::new(listener, 1, Duration::from_millis(20), None);
+    let timeout = Duration::from_millis(20);
+    let mut acceptor = TcpAcceptor::new(listener, 1, timeout, Vec::new(rt.alloc()), None);
     let panel = TcpStream::connect(&rt, at)?;
     give(&rt, &mut acceptor, &[Some(LinkRead::Idle), None]);
     drop(panel);

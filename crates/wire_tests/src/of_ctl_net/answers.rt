@@ -4,7 +4,9 @@ ghost use Rattle.std.specs.Prelude.{◌≤◌, IfOk};
 
 use ctl_io::{Sink, Write};
 use ctl_net::{Link, LinkRead, TcpLink};
+use std::alloc::{AllocError, Global};
 use std::io::{self, ErrorKind};
+use std::test::Fail;
 
 // A connection with these answers to its reads and writes, each a count of bytes or an error, and an end after them.
 #[derive(Drop)]
@@ -44,14 +46,32 @@ impl io::Write for Answering<'_> {
 }
 
 // What a link answers to a read, and to a write, where the system interrupts it first.
-fn read_of(answer: Result<usize, ErrorKind>) -> LinkRead {
+fn read_of(alloc: Global, answer: Result<usize, ErrorKind>) -> LinkRead {
     let answers = [Err(ErrorKind::Interrupted), answer];
-    TcpLink::over(Answering { answers: &answers }).read(&mut [0; 4])
+    over(alloc, &answers).read(&mut [0; 4])
 }
 
-fn written_of(answer: Result<usize, ErrorKind>) -> Write {
+fn written_of(alloc: Global, answer: Result<usize, ErrorKind>) -> Write {
     let answers = [Err(ErrorKind::Interrupted), answer];
-    TcpLink::over(Answering { answers: &answers }).write(b"abc")
+    over(alloc, &answers).write(b"abc")
+}
+
+// A link without room, which sends at once.
+fn over(alloc: Global, answers: &[Result<usize, ErrorKind>]) -> TcpLink<Answering<'_>> {
+    TcpLink::over(Answering { answers }, Vec::new(alloc))
+}
+
+// What a link with room for 4 bytes answers to a read behind a write of 3, where the system answers so to what is sent first,
+// and its count of failed reads.
+fn read_behind(
+    alloc: Global,
+    answers: &[Result<usize, ErrorKind>],
+) -> Result<(LinkRead, u64), AllocError> {
+    let room = Vec::with_capacity(alloc, 4)?;
+    let mut link = TcpLink::over(Answering { answers }, room);
+    link.write(b"abc");
+    let read = link.read(&mut [0; 4]);
+    Ok((read, link.read_faults()))
 }
 
 const READS: [(Result<usize, ErrorKind>, LinkRead); 5] = [
@@ -71,13 +91,22 @@ const WRITES: [(Result<usize, ErrorKind>, Write); 3] = [
 #[test]
 fn a_read_is_answered_by_its_kind(rt: HostRuntime) {
     for (answer, read) in READS {
-        assert!(rt; read_of(answer) == read);
+        assert!(rt; read_of(rt.alloc(), answer) == read);
     }
 }
 
 #[test]
 fn a_write_is_answered_by_its_kind(rt: HostRuntime) {
     for (answer, written) in WRITES {
-        assert!(rt; written_of(answer) == written);
+        assert!(rt; written_of(rt.alloc(), answer) == written);
     }
+}
+
+#[test]
+fn a_failed_send_is_a_failed_read(rt: HostRuntime) -> Result<(), Fail> {
+    let sent = read_behind(rt.alloc(), &[Ok(2), Ok(1), Ok(2)])?;
+    let failed = read_behind(rt.alloc(), &[Ok(2), Err(ErrorKind::BrokenPipe), Ok(2)])?;
+    assert!(rt; sent == (LinkRead::Got(2), 0));
+    assert!(rt; failed == (LinkRead::Failed, 1));
+    Ok(())
 }

@@ -119,7 +119,7 @@ fn free_port(rt: &HostRuntime) -> io::Result<u16> {
 #[test]
 fn a_net_over_sockets_opens_each_port_once(rt: HostRuntime) -> Result<(), Fail> {
     let free = free_port(&rt)?;
-    let mut net = StdNet::new(rt.clone()?);
+    let mut net = StdNet::new(rt.alloc(), rt.clone()?);
     assert!(rt; display_is_sent(&rt, &mut net, free)?);
     assert!(rt; one_is_accepted(&rt, &mut net, free));
     assert!(rt; net.open_faults() == 1 && net.close_faults() == 0);
