@@ -11,8 +11,8 @@ given_to contents stream unsent = append_known (contents stream) unsent
 
 -- A connection was read once all that it was given had been sent: it stood so (`at`), with just these bytes given to it, and the
 -- read took what it gave from what was left there.
-pub record ReadsBehind {S : Type 0} (contents remaining : S → Option (List ℕ)) (before : Option (List ℕ)) (now : S)
-    (answer : LinkRead) (into : List ℕ) : Type 0 where
+pub record ReadsBehind {S : Type 0} (contents remaining : S → Option (List ℕ))
+    (before : Option (List ℕ)) (now : S) (answer : LinkRead) (into : List ℕ) : Type 0 where
   pub at : S
   pub sent : Keeps before (contents at)
   pub gave : Consumes (remaining at) (remaining now) (take (given answer) into)

@@ -1,6 +1,7 @@
 //! Bits in rows of 64-bit words, numbered from the lowest bit of the first word.
 
-ghost use Rattle.std.specs.Prelude.{◌≡◌, ◌+◌, ◌*◌, ◌/◌, ◌<◌, ◌≤◌, ◌==◌, nat_lt, length, slice_index, IfOk};
+ghost use Rattle.std.specs.Prelude.{◌≡◌, ◌+◌, ◌*◌, ◌/◌, ◌<◌, ◌≤◌, ◌==◌, nat_lt};
+ghost use Rattle.std.specs.Prelude.{length, slice_index, IfOk};
 ghost use Rattle.number_tables.specs.SetInside.{has_bit, IsZero, SetsBit, ClearsBit, IsLowestBit};
 ghost use Rattle.number_tables.specs.SetInside.{PutsWord};
 ghost use Rattle.number_tables.specs.SetInside.{IsSummary, ZeroesGroup};

@@ -55,7 +55,8 @@ impl<S: io::Read + io::Write> TcpLink<S> {
         requires { 0 < length into.old }
         ensures within { GivesWithin result (length into.old) }
         ensures gave { result ≢ LinkRead.Failed → ReadsBehind S.contents S.remaining
-            (given_to S.contents self.old.stream self.old.unsent.items) self.new.stream result into.new }
+            (given_to S.contents self.old.stream self.old.unsent.items) self.new.stream
+            result into.new }
         ensures sent { result ≢ LinkRead.Failed → self.new.unsent.items ≡ [] }
         ensures count { self.new.read_faults
             ≡ count_after (link_read_failed result) self.old.read_faults }
