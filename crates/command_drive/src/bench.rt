@@ -125,6 +125,7 @@ impl Bench {
     }
 
     // A source is wanted of a destination, by the place of the want.
+    #[inline]
     fn want(&mut self, number: u64, place: u64)
         requires number { number ≤ 4294967295 }
         requires place { place < 100000 }
@@ -163,6 +164,7 @@ impl Bench {
     }
 
     // An event comes to the driver, and its answer is put on the way to the frame.
+    #[inline(always)]
     fn come(&mut self, event: &DriverEvent)
         requires level { self.old.driver.level ≡ bench_level }
         requires may { MayCome bench_level event.now }

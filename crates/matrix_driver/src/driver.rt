@@ -108,6 +108,7 @@ impl Driver {
     }
 
     /// The message to send now, `None` where none is. It takes no memory.
+    #[inline(always)]
     #[tactic(auto, using(crate::proofs::DriverLemmas::happens_level))]
     pub fn event(&mut self, event: &DriverEvent) -> Option<Message>
         requires { MayCome self.old.level event.now }
@@ -124,6 +125,7 @@ impl Driver {
     }
 
     // A source is wanted of a destination.
+    #[inline]
     fn want(&mut self, crosspoint: &Crosspoint) -> Option<Message>
         requires { IsOf self.old.level crosspoint.now }
         ensures driver { self.new ≡ (wants self.old crosspoint.now).driver }

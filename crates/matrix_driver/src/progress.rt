@@ -83,6 +83,7 @@ impl Progress {
     }
 
     /// A source is wanted of a destination.
+    #[inline]
     pub(crate) fn note(&mut self, crosspoint: &Crosspoint)
         requires { crosspoint.now.dest < self.old.room }
         ensures { self.new ≡ noted self.old crosspoint.now }
