@@ -9,6 +9,7 @@ mod plain;
 use bench::{Bench, Roll};
 use matrix_driver::{Driver, DriverEvent};
 use std::alloc::{AllocError, Global};
+use std::process::Abort;
 use std::test::Fail;
 use swp08_messages::{Message, PARKED, Point};
 
@@ -36,88 +37,99 @@ fn connected(dest: u16, source: Option<u16>) -> Message {
     }
 }
 
-#[test]
-fn one_connect_is_outstanding_at_a_time(rt: HostRuntime) -> Result<(), Fail> {
-    let mut driver = Driver::new(rt.alloc(), 0, 0, 2)?;
+// What a driver sends as connects are wanted, overdue and answered, and what it says at the end.
+fn sends_one_at_a_time(rt: &impl Abort, driver: &mut Driver)
+    requires { driver.old.level ≡ short_level 0 0 2 }
+{
     let (first, second) = (Some(3), Some(4));
-
-    assert!(rt; driver.event(&DriverEvent::Timeout) == None);
-    assert!(rt;
+    // Neither a tally nor the answer of another source is what is waited for.
+    let tally = Message::Tally {
+        at: at(0),
+        source: first,
+    };
+    let sent = [
+        driver.event(&DriverEvent::Timeout),
         driver.event(&DriverEvent::Want {
             dest: 0,
-            source: first
-        }) == Some(connect(0, first))
-    );
-    assert!(rt;
+            source: first,
+        }),
         driver.event(&DriverEvent::Want {
             dest: 1,
-            source: second
-        }) == None
-    );
-    assert!(rt; driver.event(&DriverEvent::Timeout) == Some(connect(0, first)));
-    // Neither a tally nor the answer of another source is what is waited for.
-    assert!(rt; driver.event(&DriverEvent::Heard(connected(0, second))) == None);
+            source: second,
+        }),
+        driver.event(&DriverEvent::Timeout),
+        driver.event(&DriverEvent::Heard(connected(0, second))),
+        driver.event(&DriverEvent::Heard(tally)),
+        driver.event(&DriverEvent::Heard(connected(0, first))),
+        driver.event(&DriverEvent::Heard(connected(0, first))),
+        driver.outstanding(),
+    ];
+    let (connect_0, connect_1) = (Some(connect(0, first)), Some(connect(1, second)));
     assert!(rt;
-        driver.event(&DriverEvent::Heard(Message::Tally {
-            at: at(0),
-            source: first
-        })) == None
+        sent == [
+            None, connect_0, None, connect_0, None, None, connect_1, None, connect_1,
+        ]
     );
-    assert!(rt; driver.event(&DriverEvent::Heard(connected(0, first))) == Some(connect(1, second)));
-    assert!(rt; driver.event(&DriverEvent::Heard(connected(0, first))) == None);
-    assert!(rt; driver.outstanding() == Some(connect(1, second)));
-    assert!(rt;
-        driver.wanted(1) == Some(second)
-            && driver.settled(1) == None
-            && driver.settled(0) == Some(first)
-    );
+    let known = (driver.wanted(1), driver.settled(1), driver.settled(0));
+    assert!(rt; known == (Some(second), None, Some(first)));
+}
+
+#[test]
+fn one_connect_is_outstanding_at_a_time(rt: HostRuntime) -> Result<(), Fail> {
+    sends_one_at_a_time(&rt, &mut Driver::new(rt.alloc(), 0, 0, 2)?);
     Ok(())
+}
+
+// An extended connect, and the answer to it.
+fn ext_connect(dest: u16, source: Option<u16>) -> Message {
+    Message::ExtConnect {
+        at: at(dest),
+        source,
+    }
+}
+
+fn ext_connected(dest: u16, source: Option<u16>) -> Message {
+    Message::ExtConnected {
+        at: at(dest),
+        source,
+    }
+}
+
+// What a driver sends of the last destination and source of the short commands, of the first that need the extended ones,
+// and of the same destination with a source that only these have.
+fn sends_extended(rt: &impl Abort, driver: &mut Driver)
+    requires { driver.old.level ≡ wide_level 0 0 65536 }
+{
+    let first = [
+        driver.event(&DriverEvent::Want {
+            dest: 1023,
+            source: Some(1022),
+        }),
+        driver.event(&DriverEvent::Want {
+            dest: 1024,
+            source: None,
+        }),
+        driver.event(&DriverEvent::Heard(connected(1023, Some(1022)))),
+        driver.event(&DriverEvent::Heard(connected(1024, None))),
+    ];
+    let (short, wide) = (connect(1023, Some(1022)), ext_connect(1024, None));
+    assert!(rt; first == [Some(short), None, Some(wide), None]);
+    assert!(rt; driver.settled(1024) == None);
+
+    let then = [
+        driver.event(&DriverEvent::Want {
+            dest: 65_535,
+            source: Some(65_534),
+        }),
+        driver.event(&DriverEvent::Heard(ext_connected(1024, None))),
+    ];
+    assert!(rt; then == [None, Some(ext_connect(65_535, Some(65_534)))]);
+    assert!(rt; driver.settled(1024) == Some(None));
 }
 
 #[test]
 fn extended_commands_are_sent_where_short_ones_have_no_room(rt: HostRuntime) -> Result<(), Fail> {
-    let mut driver = Driver::new_wide(rt.alloc(), 0, 0, 65_536)?;
-
-    // The last destination and source of the short commands, and the first that need the extended ones.
-    assert!(rt;
-        driver.event(&DriverEvent::Want {
-            dest: 1023,
-            source: Some(1022)
-        }) == Some(connect(1023, Some(1022)))
-    );
-    assert!(rt;
-        driver.event(&DriverEvent::Want {
-            dest: 1024,
-            source: None
-        }) == None
-    );
-    let wide = Message::ExtConnect {
-        at: at(1024),
-        source: None,
-    };
-    assert!(rt; driver.event(&DriverEvent::Heard(connected(1023, Some(1022)))) == Some(wide));
-    assert!(rt;
-        driver.event(&DriverEvent::Heard(connected(1024, None))) == None
-            && driver.settled(1024) == None
-    );
-
-    // The same destination with a source that only the extended commands have.
-    assert!(rt;
-        driver.event(&DriverEvent::Want {
-            dest: 65_535,
-            source: Some(65_534)
-        }) == None
-    );
-    let last = Message::ExtConnect {
-        at: at(65_535),
-        source: Some(65_534),
-    };
-    let told = Message::ExtConnected {
-        at: at(1024),
-        source: None,
-    };
-    assert!(rt; driver.event(&DriverEvent::Heard(told)) == Some(last));
-    assert!(rt; driver.settled(1024) == Some(None));
+    sends_extended(&rt, &mut Driver::new_wide(rt.alloc(), 0, 0, 65_536)?);
     Ok(())
 }
 
