@@ -77,6 +77,14 @@ fn take_back(rt: &impl Abort, standby: &mut Standby, block: &[Told]) {
     }
 }
 
+// They come so in blocks of a hundred, after which all are applied and none is kept.
+fn come_back(rt: &impl Abort, standby: &mut Standby, all: &[Told]) {
+    for block in all.chunks(100) {
+        take_back(rt, standby, block);
+    }
+    assert!(rt; standby.applied() == all.len() as u64 && standby.kept() == 0);
+}
+
 // A plant is stepped by each, in their order.
 fn step_all(rt: &impl Abort, state: &mut PlantState, out: &mut OutBox<Answer>, all: &[Told])
     requires { room_of state.old.plant ≤ out.old.places }
@@ -88,19 +96,6 @@ fn step_all(rt: &impl Abort, state: &mut PlantState, out: &mut OutBox<Answer>, a
     }
 }
 
-// What a plant carries by them in the order of their positions.
-fn stepped(
-    rt: &impl Abort,
-    alloc: Global,
-    plant: &Plant,
-    all: &[Told],
-) -> Result<PlantState, Fail> {
-    let mut out = OutBox::new(alloc, PlantState::room_of(plant))?;
-    let mut state = PlantState::start(alloc, plant)?;
-    step_all(rt, &mut state, &mut out, all);
-    Ok(state)
-}
-
 // A standby has the same at each destination.
 fn carries_the_same(rt: &impl Abort, plant: &Plant, state: &PlantState, standby: &Standby) {
     for dest in 0..plant.destination_count() {
@@ -109,18 +104,53 @@ fn carries_the_same(rt: &impl Abort, plant: &Plant, state: &PlantState, standby:
     }
 }
 
+// A plant that is stepped by each, in their order, has the same at each destination as a standby.
+fn steps_to(
+    rt: &impl Abort,
+    alloc: Global,
+    plant: &Plant,
+    all: &[Told],
+    standby: &Standby,
+) -> Result<(), AllocError> {
+    let mut out = OutBox::new(alloc, PlantState::room_of(plant))?;
+    let mut state = PlantState::start(alloc, plant)?;
+    step_all(rt, &mut state, &mut out, all);
+    carries_the_same(rt, plant, &state, standby);
+    Ok(())
+}
+
+// Puts them in the order of their positions.
+fn put_in_order(all: &mut [Told]) {
+    all.sort_unstable_by_key(|told| told.0);
+}
+
+// A new standby to which they come backwards is where a plant is that they step in the order of their positions.
+fn is_followed(
+    rt: &impl Abort,
+    alloc: Global,
+    plant: &Plant,
+    all: &mut [Told],
+) -> Result<(), AllocError> {
+    let mut standby = Standby::start(alloc, plant, 65_536)?;
+    come_back(rt, &mut standby, all);
+    put_in_order(all);
+    steps_to(rt, alloc, plant, all, &standby)
+}
+
+// So it is with those of a trace.
+fn trace_is_followed(
+    rt: &impl Abort,
+    alloc: Global,
+    plant: &Plant,
+    trace: &[u8],
+) -> Result<(), AllocError> {
+    let mut all = told_by(alloc, plant, trace)?;
+    is_followed(rt, alloc, plant, &mut all)
+}
+
 #[test]
 fn blocks_may_come_backwards(rt: HostRuntime) -> Result<(), Fail> {
     let drilled = run_drill(&rt, rt.alloc(), &OpenGate, 7, 2, 2000)?;
-    let mut all = told_by(rt.alloc(), &drilled.plant, drilled.trace.as_slice())?;
-    let mut standby = Standby::start(rt.alloc(), &drilled.plant, 65_536)?;
-    for block in all.chunks(100) {
-        take_back(&rt, &mut standby, block);
-    }
-    assert!(rt; standby.applied() == all.len() as u64 && standby.kept() == 0);
-
-    all.sort_unstable_by_key(|told| told.0);
-    let state = stepped(&rt, rt.alloc(), &drilled.plant, &all)?;
-    carries_the_same(&rt, &drilled.plant, &state, &standby);
+    trace_is_followed(&rt, rt.alloc(), &drilled.plant, drilled.trace.as_slice())?;
     Ok(())
 }
