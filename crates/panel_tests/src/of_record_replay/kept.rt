@@ -6,6 +6,7 @@ ghost use Rattle.plant_snapshot.specs.StandsFor.{store_size};
 
 use ctl_io::{Disk, MemDisk, MemSink};
 use plant_config::{DestId, Plant};
+use plant_core::PlantState;
 use plant_names::Names;
 use plant_snapshot::{OpenFault, SaveFault, format_store, open_saved, store_size};
 use record_replay::{KeptFault, replay_kept};
@@ -58,32 +59,69 @@ fn keep<D: Disk>(alloc: Global, plant: &Plant, names: &Names, disk: D, out: &mut
     }
 }
 
-// The same on a new disk, whose call of this number fails.
-fn run(
+// The same, with the plant's names.
+fn keep_named<D: Disk + Drop>(
     alloc: Global,
     plant: &Plant,
-    failing: u64,
+    disk: D,
     out: &mut MemSink,
-) -> Result<MemDisk, AllocError> {
+) -> Result<D, AllocError>
+    requires { store_size plant.now ≤ D.size disk }
+{
     let names = Names::new(alloc, plant)?;
-    let disk = new_disk(alloc, plant, failing)?;
     Ok(keep(alloc, plant, &names, disk, out))
 }
 
-// A disk's store stands for the state behind so many works, or behind one more.
-fn stands(rt: &impl Abort, alloc: Global, plant: &Plant, disk: MemDisk, works: u64) {
-    match open_saved(alloc, plant, disk) {
-        Ok((store, state)) => {
-            let number = store.number();
-            assert!(rt;
-                number == works || number.checked_sub(1) == Some(works),
-                "{number}"
-            );
-            let source = state.source_at(DestId::of(5));
-            assert!(rt; source.map_or(0, |source| source.get()) as u64 == number);
-        }
-        Err(_) => panic!(rt; "not opened"),
+// How many lines are told, if they are the first of those that should be.
+fn lines_of(out: &MemSink) -> Option<u64> {
+    if TOLD.starts_with(out.written()) {
+        Some((out.written().len() / LINE) as u64)
+    } else {
+        None
     }
+}
+
+// How many lines are told if the call of this number fails of a new disk, and that disk.
+fn run(alloc: Global, plant: &Plant, failing: u64) -> Result<(Option<u64>, MemDisk), AllocError> {
+    let mut out = MemSink::new(alloc, 100, Vec::new(alloc))?;
+    let disk = new_disk(alloc, plant, failing)?;
+    let disk = keep_named(alloc, plant, disk, &mut out)?;
+    Ok((lines_of(&out), disk))
+}
+
+// The number of a store, if its state carries the source of that number to destination 5.
+fn number_of(number: u64, state: &PlantState) -> Option<u64> {
+    let source = match state.source_at(DestId::of(5)) {
+        Some(source) => u64::from(source.get()),
+        None => 0,
+    };
+    if source == number { Some(number) } else { None }
+}
+
+// The number of the store on a disk, if one is opened there and its state is the one of its number.
+fn number_on<D: Disk + Drop>(alloc: Global, plant: &Plant, disk: D) -> Option<u64> {
+    match open_saved(alloc, plant, disk) {
+        Ok((store, state)) => number_of(store.number(), &state),
+        Err(_) => None,
+    }
+}
+
+// After a crash that keeps so many writes a disk's store stands for the state behind so many works, or behind one more.
+fn stands(
+    rt: &impl Abort,
+    alloc: Global,
+    plant: &Plant,
+    disk: &MemDisk,
+    kept: u64,
+    works: u64,
+) -> Result<(), AllocError> {
+    let crashed = disk.crashed(alloc, kept)?;
+    let number = number_on(alloc, plant, crashed);
+    assert!(rt;
+        number == Some(works) || number == Some(works.saturating_add(1)),
+        "{works}"
+    );
+    Ok(())
 }
 
 // Whatever a crash leaves of a disk's last writes, it stands so.
@@ -95,21 +133,26 @@ fn outlasts_crashes(
     works: u64,
 ) -> Result<(), AllocError> {
     for kept in 0..4 {
-        stands(rt, alloc, plant, disk.crashed(alloc, kept)?, works);
+        stands(rt, alloc, plant, disk, kept, works)?;
     }
     Ok(())
+}
+
+// So it is behind the lines that are told where the call of this number fails of the disk, and all are where none does.
+fn is_kept(rt: &impl Abort, alloc: Global, plant: &Plant, failing: u64) -> Result<(), AllocError> {
+    let (lines, disk) = run(alloc, plant, failing)?;
+    let Some(lines) = lines else {
+        panic!(rt; "at {failing}")
+    };
+    assert!(rt; (lines == 3) == (failing == CALLS), "at {failing}");
+    outlasts_crashes(rt, alloc, plant, &disk, lines)
 }
 
 #[test]
 fn a_line_is_written_behind_its_save(rt: HostRuntime) -> Result<(), Fail> {
     let plant = Plant::bench(rt.alloc())?;
     for failing in 0..=CALLS {
-        let mut out = MemSink::new(rt.alloc(), 100, Vec::new(rt.alloc()))?;
-        let disk = run(rt.alloc(), &plant, failing, &mut out)?;
-        assert!(rt; TOLD.starts_with(out.written()), "at {failing}");
-        let lines = out.written().len() / LINE;
-        assert!(rt; (lines == 3) == (failing == CALLS), "at {failing}");
-        outlasts_crashes(&rt, rt.alloc(), &plant, &disk, lines as u64)?;
+        is_kept(&rt, rt.alloc(), &plant, failing)?;
     }
     Ok(())
 }
