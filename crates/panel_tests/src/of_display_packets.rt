@@ -128,7 +128,8 @@ fn are_told(alloc: Global, plant: &Plant, row: &Row) -> Result<bool, Fail> {
 // The lamps of each row are told so.
 fn all_are_told(rt: &impl Abort, alloc: Global, plant: &Plant) -> Result<(), Fail> {
     for (at, row) in ROWS.iter().enumerate() {
-        assert!(rt; are_told(alloc, plant, row)?, "row {at}");
+        let is_so = are_told(alloc, plant, row)?;
+        assert!(rt; is_so, "row {at}");
     }
     Ok(())
 }

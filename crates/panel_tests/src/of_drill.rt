@@ -43,8 +43,9 @@ fn is_done<R: Threads + Wait + Sync>(
 // Sessions that ran one after another would make the gate give up in one of the two, and those that pass it by show nothing.
 #[test]
 fn sessions_run_at_the_same_time(rt: HostRuntime) -> Result<(), Fail> {
-    assert!(rt; is_done(&rt, rt.alloc(), 0, 1)?);
-    assert!(rt; is_done(&rt, rt.alloc(), 1, 0)?);
+    let first = is_done(&rt, rt.alloc(), 0, 1)?;
+    let second = is_done(&rt, rt.alloc(), 1, 0)?;
+    assert!(rt; first && second);
     Ok(())
 }
 

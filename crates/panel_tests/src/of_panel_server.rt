@@ -68,7 +68,8 @@ fn drives_so<W: Wait>(
 // It does as each case says.
 fn all_drive_so<W: Wait + Abort>(rt: &W, alloc: Global, plant: &Plant) -> Result<(), AllocError> {
     for (at, case) in CASES.iter().enumerate() {
-        assert!(rt; drives_so(rt, alloc, plant, case)?, "case {at}");
+        let is_so = drives_so(rt, alloc, plant, case)?;
+        assert!(rt; is_so, "case {at}");
     }
     Ok(())
 }

@@ -113,11 +113,12 @@ const NOTICE: &[u8] = b"\x10\x02\x04\x00\x07\x05\x7F\x05\x6C\x10\x03";
 
 // A panel that always has a notice is told 32 in a turn.
 fn is_polled(rt: &impl Abort, alloc: Global, desk: &mut Desk<'_>) -> Result<(), AllocError> {
+    let told = streams::bytes_of(alloc, [(NOTICE, 32)].as_slice())?;
     let mut board = Board::new();
     board.always = true;
     let mut sent = Given::new(alloc);
     desk.turn(&mut board, &[], &mut sent);
-    assert!(rt; sent.is(&streams::bytes_of(alloc, [(NOTICE, 32)].as_slice())?));
+    assert!(rt; sent.is(&told));
     Ok(())
 }
 

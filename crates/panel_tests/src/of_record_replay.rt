@@ -119,7 +119,8 @@ fn give(
     rows: &[(&[u8], &[u8])],
 ) -> Result<(), AllocError> {
     for (script, output) in rows {
-        assert!(rt; goes_so(alloc, plant, script, &[], (Ok(()), *output))?);
+        let is_so = goes_so(alloc, plant, script, &[], (Ok(()), *output))?;
+        assert!(rt; is_so);
     }
     Ok(())
 }

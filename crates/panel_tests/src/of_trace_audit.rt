@@ -101,7 +101,8 @@ fn is_found(
 // The lines of each row are found as it says.
 fn are_all_found(rt: &impl Abort, alloc: Global, plant: &Plant) -> Result<(), AllocError> {
     for (lines, found) in ROWS {
-        assert!(rt; is_found(alloc, plant, lines, found)?, "of {lines:?}");
+        let is_so = is_found(alloc, plant, lines, found)?;
+        assert!(rt; is_so, "of {lines:?}");
     }
     Ok(())
 }

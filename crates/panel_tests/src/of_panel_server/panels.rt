@@ -144,7 +144,8 @@ fn figures(done: &PanelDone) -> Done {
 // It does as each case says.
 fn all_serve_so<W: Wait + Abort>(rt: &W, alloc: Global, plant: &Plant) -> Result<(), AllocError> {
     for (at, case) in CASES.iter().enumerate() {
-        assert!(rt; serves_so(rt, alloc, plant, case)?, "case {at}");
+        let is_so = serves_so(rt, alloc, plant, case)?;
+        assert!(rt; is_so, "case {at}");
     }
     Ok(())
 }

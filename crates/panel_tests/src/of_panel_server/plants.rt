@@ -206,7 +206,8 @@ fn all_serve_so<R: Threads + Wait + Sync + Abort>(
     plant: &Plant,
 ) -> Result<(), AllocError> {
     for (at, case) in CASES.iter().enumerate() {
-        assert!(rt; serves_so(rt, alloc, plant, case)?, "case {at}");
+        let is_so = serves_so(rt, alloc, plant, case)?;
+        assert!(rt; is_so, "case {at}");
     }
     Ok(())
 }
@@ -235,7 +236,8 @@ fn serves_both<R: Threads + Wait + Sync>(
 #[test]
 fn panels_are_served_at_the_same_time(rt: HostRuntime) -> Result<(), Fail> {
     let plant = plant_of(rt.alloc(), HASTY)?;
-    assert!(rt; serves_both(&rt, rt.alloc(), &plant, 0)?);
-    assert!(rt; serves_both(&rt, rt.alloc(), &plant, 1)?);
+    let first = serves_both(&rt, rt.alloc(), &plant, 0)?;
+    let second = serves_both(&rt, rt.alloc(), &plant, 1)?;
+    assert!(rt; first && second);
     Ok(())
 }

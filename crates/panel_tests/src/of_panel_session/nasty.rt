@@ -138,7 +138,8 @@ fn is_answered_so(
     kind: &Kind,
 ) -> Result<(), AllocError> {
     for (length, row) in LENGTHS.iter().zip(&kind.behind) {
-        assert!(rt; goes_so(alloc, desk, kind, *length, *row)?, "{length}");
+        let is_so = goes_so(alloc, desk, kind, *length, *row)?;
+        assert!(rt; is_so, "{length}");
     }
     Ok(())
 }

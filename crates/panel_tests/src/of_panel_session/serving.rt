@@ -174,7 +174,8 @@ fn faults_of(end: SessionEnd) -> (u64, u64, u64) {
 // A session goes as each case says.
 fn all_go_so<R: Wait + Abort>(rt: &R, alloc: Global, plant: &Plant) -> Result<(), AllocError> {
     for (at, case) in CASES.iter().enumerate() {
-        assert!(rt; goes_so(rt, alloc, plant, case)?, "case {at}");
+        let is_so = goes_so(rt, alloc, plant, case)?;
+        assert!(rt; is_so, "case {at}");
     }
     Ok(())
 }

@@ -195,7 +195,8 @@ pub(super) fn are_all_answered(
     desk: &mut Desk<'_>,
 ) -> Result<(), AllocError> {
     for (at, row) in STREAMS.iter().enumerate() {
-        assert!(rt; goes_so(alloc, desk, *row)?, "stream {at}");
+        let is_so = goes_so(alloc, desk, *row)?;
+        assert!(rt; is_so, "stream {at}");
     }
     Ok(())
 }

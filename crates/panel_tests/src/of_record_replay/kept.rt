@@ -1,14 +1,15 @@
 //! A replay that keeps its states, stopped at each call of its disk.
 
-ghost use Rattle.std.specs.Prelude.{◌≡◌, ◌≤◌, IfOk, length};
+ghost use Rattle.std.specs.Prelude.{◌≡◌, ◌≤◌, IfOk, IfSome, length};
 ghost use Rattle.ctl_io.specs.MemDisk.{stored_by};
-ghost use Rattle.plant_snapshot.specs.StandsFor.{store_size};
+ghost use Rattle.plant_snapshot.specs.StandsFor.{StandsFor, store_size};
+ghost use Rattle.plant_snapshot.specs.Store.{IsStoreOf, disk_of, saved_number};
 
 use ctl_io::{Disk, MemDisk, MemSink};
 use plant_config::{DestId, Plant};
 use plant_core::PlantState;
 use plant_names::Names;
-use plant_snapshot::{OpenFault, SaveFault, format_store, open_saved, store_size};
+use plant_snapshot::{OpenFault, SaveFault, Store, format_store, open_saved, store_size};
 use record_replay::{KeptFault, replay_kept};
 use std::alloc::{AllocError, Global};
 use std::process::Abort;
@@ -35,6 +36,29 @@ fn new_disk(alloc: Global, plant: &Plant, failing: u64) -> Result<MemDisk, Alloc
     MemDisk::new(alloc, bytes, CALLS, 1_000_000, vec![in alloc; failing]?)
 }
 
+// Keeps the script in a store, from the state for which it stands. Its disk, however far that came.
+fn keep_on<D: Disk>(
+    alloc: Global,
+    plant: &Plant,
+    names: &Names,
+    state: &mut PlantState,
+    store: Store<D>,
+    out: &mut MemSink,
+) -> D
+    requires names { names.now ≡ plant.now }
+    requires plant { state.old.plant ≡ plant.now }
+    requires store { IsStoreOf D.size D.contents D.may_leave plant.now store }
+    requires stands { IfSome (D.contents (disk_of store))
+        (StandsFor plant.now state.old (saved_number store)) }
+{
+    match replay_kept(alloc, plant, names, state, store, SCRIPT, out) {
+        Ok(store) | Err(KeptFault::OutputFault(store)) => store.into_disk(),
+        Err(KeptFault::NoMemory(store) | KeptFault::BadLine(_, store)) => store.into_disk(),
+        Err(KeptFault::Full(store)) => store.into_disk(),
+        Err(KeptFault::Failed(disk)) => disk,
+    }
+}
+
 // Keeps the script on a disk that is made a store first. The disk, however far that came.
 fn keep<D: Disk>(alloc: Global, plant: &Plant, names: &Names, disk: D, out: &mut MemSink) -> D
     requires names { names.now ≡ plant.now }
@@ -51,12 +75,7 @@ fn keep<D: Disk>(alloc: Global, plant: &Plant, names: &Names, disk: D, out: &mut
         Err(OpenFault::WrongSize { disk, .. } | OpenFault::Damaged { disk, .. }) => return disk,
     };
     let mut state = state;
-    match replay_kept(alloc, plant, names, &mut state, store, SCRIPT, out) {
-        Ok(store) | Err(KeptFault::OutputFault(store)) => store.into_disk(),
-        Err(KeptFault::NoMemory(store) | KeptFault::BadLine(_, store)) => store.into_disk(),
-        Err(KeptFault::Full(store)) => store.into_disk(),
-        Err(KeptFault::Failed(disk)) => disk,
-    }
+    keep_on(alloc, plant, names, &mut state, store, out)
 }
 
 // The same, with the plant's names.

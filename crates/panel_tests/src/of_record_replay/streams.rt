@@ -77,7 +77,8 @@ fn goes_so(
 fn packets_are_sent_to_a_port(rt: HostRuntime) -> Result<(), Fail> {
     let studio = plant_of(rt.alloc(), STUDIO)?;
     let told = (Ok(()), TOLD, PACKETS, [18, 16].as_slice());
-    assert!(rt; goes_so(rt.alloc(), &studio, &[], told)?);
+    let is_so = goes_so(rt.alloc(), &studio, &[], told)?;
+    assert!(rt; is_so);
     Ok(())
 }
 
@@ -91,7 +92,8 @@ fn a_failed_send_ends_a_replay(rt: HostRuntime) -> Result<(), Fail> {
         front(PACKETS, 18),
         [18].as_slice(),
     );
-    assert!(rt; goes_so(rt.alloc(), &studio, &[1], told)?);
+    let is_so = goes_so(rt.alloc(), &studio, &[1], told)?;
+    assert!(rt; is_so);
     Ok(())
 }
 
@@ -104,7 +106,8 @@ fn is_told(alloc: Global, stream: &[u8], text: &[u8]) -> Result<bool, AllocError
 // Each stream of the table tells its text.
 fn are_all_told(rt: &impl Abort, alloc: Global) -> Result<(), AllocError> {
     for (stream, text) in STREAMS {
-        assert!(rt; is_told(alloc, stream, text)?);
+        let is_so = is_told(alloc, stream, text)?;
+        assert!(rt; is_so);
     }
     Ok(())
 }
