@@ -63,7 +63,7 @@ const ASK: Day = Day {
 type Case = (&'static Day, Failing, Told, [usize; 2], usize);
 
 // Whatever fails of one panel, the other is answered.
-const CASES: [Case; 22] = [
+const CASES: &[Case] = &[
     (&CONNECT, NOTHING, Ok((2, 4, 0, 0, None)), [13, 0], 78),
     (&IDLE, NOTHING, Ok((2, 5, 1, 0, None)), [0, 0], 65),
     (&ASK, NOTHING, Ok((2, 6, 0, 0, None)), [13, 13], 76),
@@ -199,13 +199,18 @@ fn is_left_so(net: &MemNet, case: &Case) -> bool {
         && written_to(back, 1) == front(day.answer, second)
 }
 
+// The cases. Where all of them stand in a proof, each of its goals reads them.
+fn cases() -> &'static [Case] {
+    CASES
+}
+
 // A plant is served as each case says.
 fn all_serve_so<R: Threads + Wait + Sync + Abort>(
     rt: &R,
     alloc: Global,
     plant: &Plant,
 ) -> Result<(), AllocError> {
-    for (at, case) in CASES.iter().enumerate() {
+    for (at, case) in cases().iter().enumerate() {
         let is_so = serves_so(rt, alloc, plant, case)?;
         assert!(rt; is_so, "case {at}");
     }

@@ -188,13 +188,18 @@ fn goes_so(
     Ok(is_answered(alloc, desk, &stream, &wanted))
 }
 
+// The rows of the table.
+fn rows() -> &'static [(&'static [Run], &'static [Run])] {
+    STREAMS
+}
+
 // A session is sent what each stream of the table wants.
 pub(super) fn are_all_answered(
     rt: &impl Abort,
     alloc: Global,
     desk: &mut Desk<'_>,
 ) -> Result<(), AllocError> {
-    for (at, row) in STREAMS.iter().enumerate() {
+    for (at, row) in rows().iter().enumerate() {
         let is_so = goes_so(alloc, desk, *row)?;
         assert!(rt; is_so, "stream {at}");
     }
