@@ -221,10 +221,17 @@ const OPENINGS: [Row; 11] = [
 /// A disk that is too short.
 const SHORT: Row = (&[], CALLS, Opening::WrongSize(10, 525_622));
 
-// A store whose number is 2^63 or more takes no state.
+// A store takes no state.
+fn takes_none<D: Disk + Drop>(store: Store<D>, state: &PlantState) -> bool
+    requires { IsStoreOf D.size D.contents D.may_leave state.now.plant store }
+{
+    matches!(store.save(state), Err(SaveFault::Full(_)))
+}
+
+// So it is with one whose number is 2^63 or more.
 fn is_full<D: Disk + Drop>(alloc: Global, plant: &Plant, disk: D) -> bool {
     match open_saved(alloc, plant, disk) {
-        Ok((store, state)) => matches!(store.save(&state), Err(SaveFault::Full(_))),
+        Ok((store, state)) => takes_none(store, &state),
         Err(_) => false,
     }
 }

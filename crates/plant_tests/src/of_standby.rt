@@ -70,30 +70,6 @@ fn are_taken(rt: &impl Abort, standby: &mut Standby, row: &[(u32, Took)]) {
     }
 }
 
-// So does a new one with so many places.
-fn are_taken_first(
-    rt: &impl Abort,
-    alloc: Global,
-    plant: &Plant,
-    window: u32,
-    row: &[(u32, Took)],
-) -> Result<(), AllocError>
-    requires some { 1 ≤ window }
-    requires most { window ≤ 65536 }
-{
-    let mut standby = Standby::start(alloc, plant, window)?;
-    are_taken(rt, &mut standby, row);
-    Ok(())
-}
-
-#[test]
-fn windows_end_where_they_end(rt: HostRuntime) -> Result<(), Fail> {
-    let plant = Plant::bench(rt.alloc())?;
-    are_taken_first(&rt, rt.alloc(), &plant, 1, &OF_ONE)?;
-    are_taken_first(&rt, rt.alloc(), &plant, 2, &OF_TWO)?;
-    Ok(are_taken_first(&rt, rt.alloc(), &plant, 65_536, &OF_MOST)?)
-}
-
 // Another request at a position that is kept, and the same at one that was applied.
 fn is_another(rt: &impl Abort, standby: &mut Standby) {
     let other = request_at(2);
@@ -101,14 +77,6 @@ fn is_another(rt: &impl Abort, standby: &mut Standby) {
     assert!(rt; standby.state().fits(&other));
     assert!(rt; standby.take(1, &other) == Took::Differs);
     assert!(rt; standby.kept() == 1 && standby.applied() == 0);
-}
-
-#[test]
-fn another_request_differs(rt: HostRuntime) -> Result<(), Fail> {
-    let plant = Plant::bench(rt.alloc())?;
-    let mut standby = Standby::start(rt.alloc(), &plant, 4)?;
-    is_another(&rt, &mut standby);
-    Ok(())
 }
 
 // The next of a row of made numbers, below 2^31.
@@ -148,50 +116,95 @@ fn reached(standby: &Standby) -> (u32, Sources) {
     )
 }
 
-// What a new standby reaches to which the requests of one order come.
-fn follow(
-    rt: &impl Abort,
-    alloc: Global,
-    plant: &Plant,
-    number: u64,
-) -> Result<(u32, Sources), AllocError> {
-    let mut standby = Standby::start(alloc, plant, 10)?;
-    take_many(rt, &mut standby, number);
-    Ok(reached(&standby))
+/// What comes to a new standby.
+#[derive(Clone, Copy)]
+enum Trial {
+    /// Requests of these positions, which are answered so.
+    Row(&'static [(u32, Took)]),
+    /// Another request at a position that is kept.
+    Another,
+    /// 200 requests in an order made from a number.
+    Order(u64),
 }
 
-// A plant is stepped by the first so many requests.
-fn ask_all(rt: &impl Abort, rig: &mut Rig, count: u32) {
-    for position in 0..count {
-        rig.ask(rt, &request_at(position));
+// That comes to a standby.
+fn come(rt: &impl Abort, standby: &mut Standby, trial: Trial) {
+    match trial {
+        Trial::Row(row) => are_taken(rt, standby, row),
+        Trial::Another => is_another(rt, standby),
+        Trial::Order(number) => take_many(rt, standby, number),
     }
 }
 
-// What a plant carries after the first so many requests.
-fn step(rt: &impl Abort, alloc: Global, plant: &Plant, count: u32) -> Result<Sources, AllocError> {
-    let mut rig = Rig::of(alloc, plant)?;
-    ask_all(rt, &mut rig, count);
-    Ok(carried(&rig.state))
+// What a new one with so many places reaches by it.
+fn tried(
+    rt: &impl Abort,
+    alloc: Global,
+    plant: &Plant,
+    window: u32,
+    trial: Trial,
+) -> Result<(u32, Sources), AllocError>
+    requires some { 1 ≤ window }
+    requires most { window ≤ 65536 }
+{
+    let mut standby = Standby::start(alloc, plant, window)?;
+    come(rt, &mut standby, trial);
+    Ok(reached(&standby))
 }
 
-// One order.
+#[test]
+fn windows_end_where_they_end(rt: HostRuntime) -> Result<(), Fail> {
+    let plant = Plant::bench(rt.alloc())?;
+    tried(&rt, rt.alloc(), &plant, 1, Trial::Row(&OF_ONE))?;
+    tried(&rt, rt.alloc(), &plant, 2, Trial::Row(&OF_TWO))?;
+    tried(&rt, rt.alloc(), &plant, 65_536, Trial::Row(&OF_MOST))?;
+    Ok(())
+}
+
+#[test]
+fn another_request_differs(rt: HostRuntime) -> Result<(), Fail> {
+    let plant = Plant::bench(rt.alloc())?;
+    tried(&rt, rt.alloc(), &plant, 4, Trial::Another)?;
+    Ok(())
+}
+
+// What a plant carries before each of 200 requests, and behind them all.
+fn step_all(rt: &impl Abort, rig: &mut Rig, behind: &mut Vec<Sources>) -> Result<(), AllocError> {
+    for position in 0..200 {
+        behind.push(carried(&rig.state))?;
+        rig.ask(rt, &request_at(position));
+    }
+    behind.push(carried(&rig.state))?;
+    Ok(())
+}
+
+// So it is from the start of a plant.
+fn step(rt: &impl Abort, alloc: Global, plant: &Plant) -> Result<Vec<Sources>, AllocError> {
+    let mut behind = Vec::new(alloc);
+    let mut rig = Rig::of(alloc, plant)?;
+    step_all(rt, &mut rig, &mut behind)?;
+    Ok(behind)
+}
+
+// One order, which leads where a plant is behind as many requests as were applied.
 fn is_followed(
     rt: &impl Abort,
     alloc: Global,
     plant: &Plant,
     number: u64,
+    behind: &[Sources],
 ) -> Result<(), AllocError> {
-    let (applied, sources) = follow(rt, alloc, plant, number)?;
-    let stepped = step(rt, alloc, plant, applied)?;
-    assert!(rt; applied > 20 && stepped == sources);
+    let (applied, sources) = tried(rt, alloc, plant, 10, Trial::Order(number))?;
+    assert!(rt; applied > 20 && behind.get(applied as usize) == Some(&sources));
     Ok(())
 }
 
 #[test]
 fn a_thousand_orders_are_followed(rt: HostRuntime) -> Result<(), Fail> {
     let plant = Plant::bench(rt.alloc())?;
+    let behind = step(&rt, rt.alloc(), &plant)?;
     for number in 0..1_000 {
-        is_followed(&rt, rt.alloc(), &plant, number)?;
+        is_followed(&rt, rt.alloc(), &plant, number, &behind)?;
     }
     Ok(())
 }

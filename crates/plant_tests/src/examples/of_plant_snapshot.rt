@@ -3,10 +3,12 @@
 ghost use Rattle.std.specs.Prelude.{◌≡◌, IfOk, length};
 ghost use Rattle.ctl_io.specs.MemDisk.{stored_by};
 ghost use Rattle.plant_snapshot.specs.StandsFor.{store_size};
+ghost use Rattle.plant_snapshot.specs.Store.{IsStoreOf};
 
 use ctl_io::{Disk, MemDisk};
 use plant_config::Plant;
-use plant_snapshot::{format_store, open_saved, store_size};
+use plant_core::PlantState;
+use plant_snapshot::{Store, format_store, open_saved, store_size};
 use std::alloc::{AllocError, Global};
 use std::test::Fail;
 
@@ -16,6 +18,16 @@ fn new_disk(alloc: Global, plant: &Plant) -> Result<MemDisk, AllocError>
 {
     let bytes = vec![in alloc; 0; store_size(plant) as usize]?;
     MemDisk::new(alloc, bytes, 20, 1_000_000, Vec::new(alloc))
+}
+
+// Saves a state in a store. Its disk.
+fn save_in<D: Disk + Drop>(store: Store<D>, state: &PlantState) -> Option<D>
+    requires { IsStoreOf D.size D.contents D.may_leave state.now.plant store }
+{
+    match store.save(state) {
+        Ok(store) => Some(store.into_disk()),
+        Err(_) => None,
+    }
 }
 
 // Makes a disk a plant's store, and saves the state in it.
@@ -28,10 +40,7 @@ fn save_once<D: Disk + Drop>(alloc: Global, plant: &Plant, disk: D) -> Option<D>
     let Ok((store, state)) = open_saved(alloc, plant, disk) else {
         return None;
     };
-    match store.save(&state) {
-        Ok(store) => Some(store.into_disk()),
-        Err(_) => None,
-    }
+    save_in(store, &state)
 }
 
 // The number of the state that is kept on a disk.
